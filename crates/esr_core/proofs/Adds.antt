@@ -1,0 +1,73 @@
+-- A blob more, under a name that was absent.
+use Rattle.std.proofs.Common.{◌≡◌, ◌⊎◌, ℕ, ◌<◌, ◌≤◌, List, None, sym, ap, ◌∙◌, inl, inr}
+use Rattle.std.specs.Cmp.Lexicographic.{nat_list_cmp_total}
+use Rattle.std.specs.FinMap as fin
+use Rattle.esr_model.specs.Names.{BlobName, Root}
+use Rattle.esr_model.specs.Values.{Bytes, Ledger, ReadsBack, Formats}
+use Rattle.esr_model.specs.Shelf.{Shelved, shelf_after}
+use Rattle.esr_model.specs.Image.{Blobs, At, Whole, KeptBy}
+use Rattle.esr_core.specs.World.{Ticket, Swap, Safely}
+use Rattle.esr_core.specs.Swaps.{OrOwn, SwapLaw, TicketLaw}
+use Rattle.esr_core.proofs.Maps.{get_was, get_same, get_kept, texts_same}
+use Rattle.esr_core.proofs.Reading.{some_same}
+use Rattle.esr_core.proofs.Frames.{root_kept, picked_kept, stands_kept}
+
+module _ (f : Formats) (blobs : Blobs) (name : BlobName) (bytes : Bytes) (named : ReadsBack f.names name) (absent : fin.get blobs (f.names.text name) ≡ None) (doomed : List BlobName) where
+  abbrev pub added : Blobs
+  added = fin.insert blobs (f.names.text name) bytes
+
+  -- a text is that of one name
+  one_name : (a b : BlobName) → ReadsBack f.names a → ReadsBack f.names b → f.names.text a ≡ f.names.text b → a ≡ b
+  one_name a b p q same = some_same a b (sym p ∙ ap f.names.read same ∙ q)
+
+  pub at_kept : (m : BlobName) (b : Bytes) → At f blobs m b → At f added m b
+  at_kept m b h = (get_kept nat_list_cmp_total texts_same blobs (f.names.text name) bytes (f.names.text m) b absent h.0, h.1)
+
+  pub at_new : At f added name bytes
+  at_new = (get_same nat_list_cmp_total texts_same blobs (f.names.text name) bytes, named)
+
+  pub at_was : (m : BlobName) (b : Bytes) → At f added m b → ((m ≡ name) × (bytes ≡ b)) ⊎ At f blobs m b
+  at_was m b h = elim (get_was nat_list_cmp_total texts_same blobs (f.names.text name) bytes (f.names.text m) b h.0) [
+    | inl e ↦ inl (one_name m name h.1 named e.0, e.1)
+    | inr e ↦ inr (e.1, h.1)
+  ]
+
+  abbrev was : BlobName → Bytes → Type 0
+  was = Safely f blobs doomed
+
+  abbrev pub now : BlobName → Bytes → Type 0
+  now = Safely f added doomed
+
+  pub safe_kept : (m : BlobName) (b : Bytes) → was m b → now m b
+  safe_kept m b h = (at_kept m b h.0, h.1)
+
+  pub whole_kept : (n : ℕ) → Whole f was n → Whole f now n
+  whole_kept n h = (h.0, stands_kept f was now safe_kept n h.0 h.1)
+
+  -- a root among what is added has to be whole itself, where it is above the safe one
+  pub kept_added : (ledger : Ledger) (shelf : List Shelved) → KeptBy f was blobs ledger shelf
+      → ((n : ℕ) → name ≡ Root n → (n < ledger.pending) × (ledger.safe ≤ n → Whole f now n))
+      → KeptBy f now added ledger shelf
+  kept_added ledger shelf h root =
+      record {
+        ordered = h.ordered;
+        picked = picked_kept f was now safe_kept ledger.safe shelf h.picked;
+        begun = λ n p. elim (at_was (Root n) p.0 p.1) [ inl e ↦ (root n (sym e.0)).0 | inr e ↦ h.begun n (p.0, e) ];
+        whole = λ n p above. elim (at_was (Root n) p.0 p.1) [ inl e ↦ (root n (sym e.0)).1 above | inr e ↦ whole_kept n (h.whole n (p.0, e) above) ];
+        named = λ text b there. elim (get_was nat_list_cmp_total texts_same blobs (f.names.text name) bytes text b there) [ inl e ↦ (name, sym e.0, named) | inr e ↦ h.named text b e.1 ];
+      }
+
+  or_own_kept : (own : List (BlobName × Bytes)) (m : BlobName) (b : Bytes) → OrOwn was own m b → OrOwn now own m b
+  or_own_kept own m b (inl h) = inl (safe_kept m b h)
+  or_own_kept own m b (inr h) = inr h
+
+  pub swap_added : (shelf : List Shelved) (names : List BlobName) (s : Swap) → SwapLaw f was shelf names s → SwapLaw f now shelf names s
+  swap_added shelf names s l =
+      record {
+        staged = root_kept f (OrOwn was s.own) (OrOwn now s.own) (or_own_kept s.own) s.root (shelf_after shelf s.commands) l.staged;
+        noted = λ m b own h. safe_kept m b (l.noted m b own h);
+        root_noted = λ n h. safe_kept (Root n) _ (l.root_noted n h);
+      }
+
+  pub ticket_added : (ledger : Ledger) (shelf : List Shelved) (t : Ticket) → TicketLaw f was doomed ledger shelf t → TicketLaw f now doomed ledger shelf t
+  ticket_added ledger shelf t l = record { term = l.term; raised = l.raised; last = l.last; clean = l.clean; clean_root = l.clean_root; shape = l.shape; swaps = λ s i c. swap_added shelf t.noted s (l.swaps s i c) }

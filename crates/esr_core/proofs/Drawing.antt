@@ -1,0 +1,224 @@
+-- A draw keeps the law: of a shard unit, and of a delete, which makes its swap with it.
+use Rattle.std.proofs.Common.{◌≡◌, ◌≢◌, ◌⊎◌, ℕ, suc, ◌+◌, ◌<◌, ◌≤◌, List, [], ◌∷◌, Bool, true, false, true≢false, Option, Some, None, refl, sym, ap, ◌∙◌, subst, inl, inr, arith, nat_cmp}
+use Rattle.std.specs.FinMap.{FinMap}
+use Rattle.std.specs.FinMap as fin
+use Rattle.esr_model.specs.Names.{BlobName, Root}
+use Rattle.esr_model.specs.Values.{Bytes, RootSnap, RootIndex, RootData, SnapInfo, ShardResult, Formats}
+use Rattle.esr_model.specs.Shelf.{Shelved, Delete, left_shelf, names_uuid, shelf_after}
+use Rattle.esr_model.specs.Image.{Has, AllPairs, SnapStands, RootStands}
+use Rattle.esr_model.specs.Delete.{Deletes, left_snaps}
+use Rattle.esr_core.specs.World.{World, Op, Work, Shard, Finalize, Deleting, Drop, Ticket, Swap, swap, ledger_of, HeldIn}
+use Rattle.esr_core.specs.Ready.{IsMaster, IsShard, SwapIsOut}
+use Rattle.esr_core.specs.Turns.{DrawShard, DrawPlan}
+use Rattle.esr_core.specs.Swaps.{Rooted, TicketLaw, SwapLaw, SwapShape, IsUnsettled, IsSwapping, Counts, OrOwn}
+use Rattle.esr_core.specs.Generations.{Carried, ShardLaw, FinalLaw, BaseBelow}
+use Rattle.esr_core.specs.Sound.{Sound}
+use Rattle.esr_core.specs.Queue.{Queue, QueueIn, Lawful, DeleteLaw, Shrinks}
+use Rattle.esr_core.proofs.Reading.{some_same, none_some, held_one, safe_root_stands}
+use Rattle.esr_core.proofs.Results.{choose_true, choose_false}
+use Rattle.esr_core.proofs.Deleting.{stage_delete, bool_told}
+use Rattle.esr_core.proofs.Tickets.{each_ticket}
+use Rattle.esr_core.proofs.Same.{SameTicket}
+use Rattle.esr_core.proofs.Law.{quiet, fresh_same}
+use Rattle.esr_core.proofs.Settling.{swap_master}
+use Rattle.esr_core.proofs.Queues.{was_in, other_in, Like, queue_ticket}
+
+-- what is left is of what was
+pub left_has : (uuids : List ℕ) (ss : List RootSnap) (s : RootSnap) → Has (left_snaps uuids ss) s → Has ss s
+left_has uuids [] s h = h
+left_has uuids (x ∷ xs) s h = elim (bool_told (names_uuid uuids x.uuid)) [
+  | inl b ↦ inr (left_has uuids xs s (subst (λ l. Has l s) (choose_true _ _ _ b) h))
+  | inr b ↦ elim (subst (λ l. Has l s) (choose_false _ _ _ b) h) [ inl e ↦ inl e | inr m ↦ inr (left_has uuids xs s m) ]
+]
+
+-- what isn't named is left
+pub left_stays : (uuids : List ℕ) (ss : List RootSnap) (s : RootSnap) → Has ss s → names_uuid uuids s.uuid ≡ false → Has (left_snaps uuids ss) s
+left_stays uuids [] s h e = h
+left_stays uuids (x ∷ xs) s (inl same) e = subst (λ l. Has l s) (sym (choose_false _ _ _ (ap (λ (y : RootSnap). names_uuid uuids y.uuid) same ∙ e))) (inl same)
+left_stays uuids (x ∷ xs) s (inr m) e = elim (bool_told (names_uuid uuids x.uuid)) [
+  | inl b ↦ subst (λ l. Has l s) (sym (choose_true _ _ _ b)) (left_stays uuids xs s m e)
+  | inr b ↦ subst (λ l. Has l s) (sym (choose_false _ _ _ b)) (inr (left_stays uuids xs s m e))
+]
+
+pub draw_shard_lawful : (f : Formats) (w : World) (shelf : List Shelved) → Lawful f w shelf → (k n : ℕ) (new : World) (d : DrawShard w k n new) → ((id : ℕ) → w.next_id ≤ id → (d.t.uuid < id) × BaseBelow d.t.base id) → Lawful f new shelf
+draw_shard_lawful f w shelf l k n new d above = subst (λ x. Lawful f x shelf) (sym d.new_is) (record {
+  sound = record {
+    rooted = record { kept = it.rooted.kept; doomed_begun = it.rooted.doomed_begun; tickets = it.rooted.tickets; single = it.rooted.single };
+    carried = it.carried;
+    fresh = it.fresh;
+  };
+  queue = queue_ticket w.term w.tickets k d.t v d.out.there (record { op = refl; term = refl; out = λ e. e; settled = λ e. e; master = λ m. m; shard = λ s. s; drop = λ x. x }) w.root w.ops w.deletes w.completed w.next_op
+      (λ o u p uuids plan is. absurd (subst IsShard is d.shard)) l.queue;
+})
+  where
+    v : Ticket
+    v = record d.t { first = w.next_id; drawn = n }
+
+    same : SameTicket d.t (record d.t { first = w.next_id; drawn = n })
+    same =
+        record {
+          work = refl;
+          op = refl;
+          term = refl;
+          out = λ e. e;
+          holds = λ i n e o. o;
+          settled = λ e. e;
+          shard = λ f b r o k i n l. record { op = l.op; op_there = l.op_there; uuid_is = l.uuid_is; s = l.s; s_there = l.s_there; state = l.state; index_is = l.index_is; shard_is = l.shard_is; base = l.base; ids = λ id a b. above id a };
+          final = λ f r o i rs m l. record { op = l.op; op_there = l.op_there; done = l.done; info_is = l.info_is; made_is = l.made_is; root_is = l.root_is };
+        }
+
+    old : TicketLaw f (HeldIn f w) w.doomed (ledger_of w) shelf d.t
+    old = l.sound.rooted.tickets k d.t d.out.there
+
+    it : Sound f (record w { tickets = fin.insert w.tickets k (record d.t { first = w.next_id; drawn = n }) }) shelf
+    it = quiet f w shelf l.sound k d.t (record d.t { first = w.next_id; drawn = n }) d.out.there same
+        (record { term = old.term; raised = old.raised; shape = old.shape; clean_root = old.clean_root; clean = λ s i. old.clean s (record { is = i.is; out = i.out; unsettled = i.unsettled }); last = λ s i. old.last s (record { is = i.is; out = i.out; unsettled = i.unsettled }); swaps = λ s i. old.swaps s (record { is = i.is; out = i.out; unsettled = i.unsettled }) })
+        (λ s i e. (record { is = i.is; out = i.out; unsettled = i.unsettled }, e))
+
+module _ (f : Formats) (w : World) (shelf : List Shelved) (l : Lawful f w shelf) (k n : ℕ) (new : World) (d : DrawPlan f w k n new)
+    (clean : (name : BlobName) (b : Bytes) → Has d.own (name, b) → Has w.doomed name → ⊥) where
+  abbrev its : Swap
+  its = record { root = d.root; own = d.own; commands = d.commands }
+
+  abbrev v : Ticket
+  v = record d.t { first = w.next_id; drawn = n; work = Deleting d.named (Some its) }
+
+  law : d.t.settled ≡ false → d.t.term ≡ w.term → DeleteLaw w.root w.ops w.deletes d.t None
+  law uns pres = l.queue.deleting k d.t d.out.there d.out.out uns pres d.named None d.work
+
+  deletes : d.t.settled ≡ false → d.t.term ≡ w.term → Deletes f (HeldIn f w) w.root d.uuids d.fresh d.own d.root
+  deletes uns pres = subst (λ r. Deletes f (HeldIn f w) r d.uuids d.fresh d.own d.root) (law uns pres).root_is (d.deletes pres)
+
+  staged : d.t.settled ≡ false → d.t.term ≡ w.term → RootStands f (OrOwn (HeldIn f w) d.own) d.root (left_shelf d.uuids shelf)
+  staged uns pres = stage_delete f (HeldIn f w) (held_one f w) w.root d.root d.uuids d.fresh d.own (deletes uns pres) shelf
+      (safe_root_stands f (HeldIn f w) (held_one f w) w.safe w.root shelf l.sound.rooted.kept.picked l.sound.carried.root_is)
+
+  -- the shelf that the command makes of it
+  after : d.t.settled ≡ false → d.t.term ≡ w.term → left_shelf d.uuids shelf ≡ shelf_after shelf d.commands
+  after uns pres = elim d.prunes [
+    | inl h ↦ ap (shelf_after shelf) (sym h.1)
+    | inr h ↦ all_left d.uuids w.root.snapshots shelf (λ s m. h.1 s (subst (λ (r : RootData). Has r.snapshots s) (sym (law uns pres).root_is) m))
+        (safe_root_stands f (HeldIn f w) (held_one f w) w.safe w.root shelf l.sound.rooted.kept.picked l.sound.carried.root_is).snapshots ∙ ap (shelf_after shelf) (sym h.0)
+  ]
+    where
+      all_left : (uuids : List ℕ) (ss : List RootSnap) (xs : List Shelved) → ((s : RootSnap) → Has ss s → names_uuid uuids s.uuid ≡ false) → AllPairs (SnapStands f (HeldIn f w) w.root) ss xs → left_shelf uuids xs ≡ xs
+      all_left uuids [] [] none h = refl
+      all_left uuids [] (y ∷ ys) none h = absurd h
+      all_left uuids (s ∷ ss) [] none h = absurd h
+      all_left uuids (s ∷ ss) (y ∷ ys) none h = choose_false _ _ _ (ap (names_uuid uuids) h.0.uuid_is ∙ none s (inl refl)) ∙ ap (λ zs. y ∷ zs) (all_left uuids ss ys (λ z m. none z (inr m)) h.1)
+
+  counts : Counts (ledger_of w) v → d.t.term ≡ w.term
+  counts (inl p) = p
+  counts (inr (m, raised, above)) = absurd (none_some m (sym d.unraised ∙ raised))
+
+  old : TicketLaw f (HeldIn f w) w.doomed (ledger_of w) shelf d.t
+  old = l.sound.rooted.tickets k d.t d.out.there
+
+  ticket_law : TicketLaw f (HeldIn f w) w.doomed (ledger_of w) shelf v
+  ticket_law =
+      record {
+        term = old.term;
+        raised = old.raised;
+        last = λ s i p m e. absurd (none_some m (sym d.unraised ∙ e));
+        shape = λ s e. subst (SwapShape f) (some_same _ _ e) d.shape;
+        swaps = λ s i c. subst (SwapLaw f (HeldIn f w) shelf d.t.noted) (some_same _ _ i.is)
+            (record { staged = subst (RootStands f (OrOwn (HeldIn f w) d.own) d.root) (after i.unsettled (counts c)) (staged i.unsettled (counts c)); noted = λ name b m h. absurd (subst (λ ns. Has ns name) d.unnoted h); root_noted = λ m h. absurd (subst (λ ns. Has ns (Root m)) d.unnoted h) });
+        clean = λ s i c name b own. clean name b (subst (λ (x : Swap). Has x.own (name, b)) (sym (some_same _ _ i.is)) own);
+        clean_root = old.clean_root;
+      }
+
+  -- no other swaps
+  to_out : (j : ℕ) → IsSwapping f (fin.insert w.tickets k v) w.term j → SwapIsOut w.tickets w.term j
+  to_out j h = elim (was_in w.tickets k v j h.t h.there) [
+    | inl e ↦ record {
+      t = d.t;
+      there = ap (fin.get w.tickets) e.0 ∙ d.out.there;
+      out = d.out.out;
+      unsettled = ap (λ (x : Ticket). x.settled) e.1 ∙ h.is.unsettled;
+      present = ap (λ (x : Ticket). x.term) e.1 ∙ h.present;
+      swaps = subst IsMaster (sym d.work) tt;
+    }
+    | inr e ↦ record { t = h.t; there = e.1; out = h.is.out; unsettled = h.is.unsettled; present = h.present; swaps = swap_master f h.t.work h.t.root h.s h.is.is }
+  ]
+
+  differ : {i x : ℕ} → d.t.work ≡ Shard i x → ⊥
+  differ e = subst IsShard (sym e ∙ d.work) tt
+
+  shard_was : (j : ℕ) (u : Ticket) → fin.get (fin.insert w.tickets k v) j ≡ Some u → (i x : ℕ) → u.work ≡ Shard i x → fin.get w.tickets j ≡ Some u
+  shard_was j u e i x is = elim (was_in w.tickets k v j u e) [
+    | inl h ↦ absurd (apart (ap (λ (y : Ticket). y.work) h.1 ∙ is))
+    | inr h ↦ h.1
+  ]
+    where
+      apart : Deleting d.named (Some its) ≡ Shard i x → ⊥
+      apart e = cc
+
+  carried : Carried f (HeldIn f w) w.safe w.term w.root w.ops (fin.insert w.tickets k v)
+  carried =
+      let c = l.sound.carried in
+      record {
+        root_is = c.root_is;
+        ops = c.ops;
+        together = c.together;
+        carries = c.carries;
+        shards = λ j u e out i x is. c.shards j u (shard_was j u e i x is) out i x is;
+        one_shard = λ i j t u a b ao bo x y ai bi. c.one_shard i j t u (shard_was i t a x y ai) (shard_was j u b x y bi) ao bo x y ai bi;
+        held = λ p q s j e m state. let h = c.held p q s j e m state in
+            record { t = h.t; there = other_in w.tickets k v j (λ same. differ (ap (λ (y : Ticket). y.work) (some_same _ _ (sym d.out.there ∙ ap (fin.get w.tickets) (sym same) ∙ h.there)) ∙ h.work)) ∙ h.there; out = h.out; op_is = h.op_is; work = h.work };
+        finals = λ j u e out uns pres info rs made is. elim (was_in w.tickets k v j u e) [
+          | inl h ↦ absurd (not_final (ap (λ (y : Ticket). y.work) h.1 ∙ is))
+          | inr h ↦ c.finals j u h.1 out uns pres info rs made is
+        ];
+      }
+    where
+      not_final : {info : SnapInfo} {rs : List ShardResult} {made : Shelved} → Deleting d.named (Some its) ≡ Finalize info rs made → ⊥
+      not_final e = cc
+
+  plan_law : v.settled ≡ false → v.term ≡ w.term → (uuids : List ℕ) (plan : Option Swap) → v.work ≡ Deleting uuids plan → DeleteLaw w.root w.ops w.deletes v plan
+  plan_law uns pres uuids plan is =
+      let h = law uns pres in
+      let dels = deletes uns pres in
+      record {
+        deletion = h.deletion;
+        there = h.there;
+        unfailed = h.unfailed;
+        first = h.first;
+        root_is = h.root_is;
+        planned = λ s e. subst (λ (x : Swap). Shrinks w.root x.root) (some_same _ _ (plan_is is ∙ e))
+            (record {
+              snapshots = λ z m. left_has d.uuids w.root.snapshots z (subst (λ xs. Has xs z) dels.snapshots m);
+              indices = dels.from;
+            });
+        named = λ us p e. h.named us None (d.work ∙ ap (λ (x : List ℕ). Deleting x None) (uuids_of e));
+        keeps = λ s e z m stays. subst (λ (x : Swap). Has x.root.snapshots z) (some_same _ _ (plan_is is ∙ e))
+            (subst (λ xs. Has xs z) (sym dels.snapshots) (left_stays d.uuids w.root.snapshots z m (elim d.prunes [
+              | inl c ↦ ap (λ xs. names_uuid xs z.uuid) (c.0 ∙ h.named d.named None d.work) ∙ stays
+              | inr c ↦ c.1 z (subst (λ (r : RootData). Has r.snapshots z) (sym h.root_is) m)
+            ])));
+      }
+    where
+      uuids_of : {us : List ℕ} {p : Option Swap} → Deleting d.named (Some its) ≡ Deleting us p → d.named ≡ us
+      uuids_of e = cc
+
+      plan_is : Deleting d.named (Some its) ≡ Deleting uuids plan → Some its ≡ plan
+      plan_is e = cc
+
+  pub draw_plan_lawful : Lawful f new shelf
+  draw_plan_lawful = subst (λ x. Lawful f x shelf) (sym d.new_is) (record {
+    sound = record {
+      rooted = record {
+        kept = l.sound.rooted.kept;
+        doomed_begun = l.sound.rooted.doomed_begun;
+        tickets = each_ticket (TicketLaw f (HeldIn f w) w.doomed (ledger_of w) shelf) w.tickets k v ticket_law (λ j u apart e. l.sound.rooted.tickets j u e);
+        single = λ i j a b. l.queue.one_swap i j (to_out i a) (to_out j b);
+      };
+      carried = carried;
+      fresh = fresh_same w.tickets w.next_ticket k d.t v d.out.there l.sound.fresh;
+    };
+    queue = queue_ticket w.term w.tickets k d.t v d.out.there
+        (record { op = refl; term = refl; out = λ e. e; settled = λ e. e; master = λ m. subst IsMaster (sym d.work) tt; shard = λ s. absurd s; drop = λ x. absurd (not_drop x) })
+        w.root w.ops w.deletes w.completed w.next_op (λ o u p uuids plan is. plan_law u p uuids plan is) l.queue;
+  })
+    where
+      not_drop : Deleting d.named (Some its) ≡ Drop → ⊥
+      not_drop e = cc

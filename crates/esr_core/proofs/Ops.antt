@@ -1,0 +1,87 @@
+-- An op whose shards go on, none of them done by that.
+use Rattle.std.proofs.Common.{◌≡◌, ◌≢◌, ◌⊎◌, ℕ, List, [], ◌∷◌, Bool, Option, Some, None, map, refl, sym, ap, ◌∙◌, subst, inl, inr, nat_cmp}
+use Rattle.std.specs.Cmp.{nat_cmp_total}
+use Rattle.std.specs.FinMap.{FinMap, nat_cmp-IsAntisymmetric}
+use Rattle.std.specs.FinMap as fin
+use Rattle.esr_model.specs.Names.{BlobName}
+use Rattle.esr_model.specs.Values.{Bytes, IndexRef, RootData, ShardResult, Formats}
+use Rattle.esr_model.specs.Image.{Has}
+use Rattle.esr_core.specs.World.{Op, ShardWork, Done}
+use Rattle.esr_core.specs.Generations.{DoneAt, IsLive, Carries, DoneStands, OpLaw, Together, Base}
+use Rattle.esr_core.proofs.Maps.{get_was}
+use Rattle.esr_core.proofs.Reading.{Has-mapped}
+
+pub record GoesOn (g : ShardWork → ShardWork) : Type 0 where
+  pub ref : (s : ShardWork) → (g s).ref ≡ s.ref
+  pub number : (s : ShardWork) → (g s).number ≡ s.number
+  pub done : (s : ShardWork) (r : ShardResult) → (g s).state ≡ Done r → g s ≡ s
+
+module _ (f : Formats) (has : BlobName → Bytes → Type 0) (root : RootData) (ops : FinMap nat_cmp Op) (o : ℕ) (op : Op) (there : fin.get ops o ≡ Some op)
+    (g : ShardWork → ShardWork) (on : GoesOn g) (failed : Bool) where
+  abbrev pub op_now : Op
+  op_now = record op { shards = map g op.shards; failed = failed }
+
+  abbrev pub ops_now : FinMap nat_cmp Op
+  ops_now = fin.insert ops o op_now
+
+  pub op_was : (p : ℕ) (q : Op) → fin.get ops_now p ≡ Some q → ((p ≡ o) × (op_now ≡ q)) ⊎ ((p ≢ o) × (fin.get ops p ≡ Some q))
+  op_was p q e = get_was nat_cmp_total nat_cmp-IsAntisymmetric ops o op_now p q e
+
+  pub done_was : (uuid index shard n : ℕ) → DoneAt ops_now uuid index shard n → DoneAt ops uuid index shard n
+  done_was uuid index shard n a = elim (op_was a.number a.op a.there) [
+    | inr h ↦ record { number = a.number; op = a.op; there = h.1; uuid_is = a.uuid_is; s = a.s; s_there = a.s_there; r = a.r; state = a.state; index_is = a.index_is; shard_is = a.shard_is; generation_is = a.generation_is }
+    | inl h ↦
+        let (z, m, same) = Has-mapped g op.shards a.s (subst (λ (x : Op). Has x.shards a.s) (sym h.1) a.s_there) in
+        let is : z ≡ a.s = sym (on.done z a.r (ap (λ (x : ShardWork). x.state) same ∙ a.state)) ∙ same in
+        record { number = o; op = op; there = there; uuid_is = ap (λ (x : Op). x.uuid) h.1 ∙ a.uuid_is; s = z; s_there = m; r = a.r; state = ap (λ (x : ShardWork). x.state) is ∙ a.state; index_is = ap (λ (x : ShardWork). x.ref.id) is ∙ a.index_is; shard_is = ap (λ (x : ShardWork). x.number) is ∙ a.shard_is; generation_is = a.generation_is }
+  ]
+
+  pub live_was : (index shard n : ℕ) → IsLive root ops_now index shard n → IsLive root ops index shard n
+  live_was index shard n (inl h) = inl h
+  live_was index shard n (inr (u, a)) = inr (u, done_was u index shard n a)
+
+  pub carries_now : (index shard n : ℕ) → Carries f has root ops index shard n → Carries f has root ops_now index shard n
+  carries_now index shard n c = record { stands = c.stands; done = λ u h a below. c.done u h (done_was u index shard h a) below; listed = c.listed }
+
+  pub base_now : (index shard : ℕ) (base : Option ℕ) → Base f has root ops index shard base → Base f has root ops_now index shard base
+  base_now index shard None h = λ n live. h n (live_was index shard n live)
+  base_now index shard (Some base) h = (λ n live. h.0 n (live_was index shard n live), carries_now index shard base h.1)
+
+  places_now : (ss : List ShardWork) → map {B = IndexRef × ℕ} (λ (s : ShardWork). (s.ref, s.number)) (map g ss) ≡ map {B = IndexRef × ℕ} (λ (s : ShardWork). (s.ref, s.number)) ss
+  places_now [] = refl
+  places_now (s ∷ ss) = λ i. (on.ref s i, on.number s i) ∷ places_now ss i
+
+  pub op_law_now : OpLaw f has root op → OpLaw f has root op_now
+  op_law_now l =
+      record {
+        places = places_now op.shards ∙ l.places;
+        done = λ z r m state.
+            let (x, x_there, same) = Has-mapped g op.shards z m in
+            let is : x ≡ z = sym (on.done x r (ap (λ (y : ShardWork). y.state) same ∙ state)) ∙ same in
+            subst (λ (y : ShardWork). DoneStands f has op.uuid y r) is (l.done x r x_there (ap (λ (y : ShardWork). y.state) is ∙ state));
+        texts = l.texts;
+        unlisted = l.unlisted;
+        unused = l.unused;
+        one_id = l.one_id;
+        same_name = l.same_name;
+        distinct = λ a b am bm i n.
+            let (x, x_there, xs) = Has-mapped g op.shards a am in
+            let (y, y_there, ys) = Has-mapped g op.shards b bm in
+            let same : x ≡ y = l.distinct x y x_there y_there
+            (sym (ap (λ (v : IndexRef). v.id) (on.ref x)) ∙ ap (λ (v : ShardWork). v.ref.id) xs ∙ i ∙ sym (ap (λ (v : ShardWork). v.ref.id) ys) ∙ ap (λ (v : IndexRef). v.id) (on.ref y))
+            (sym (on.number x) ∙ ap (λ (v : ShardWork). v.number) xs ∙ n ∙ sym (ap (λ (v : ShardWork). v.number) ys) ∙ on.number y) in
+            sym xs ∙ ap g same ∙ ys;
+      }
+
+  pub together_now : ((p q : ℕ) (a b : Op) → p ≢ q → fin.get ops p ≡ Some a → fin.get ops q ≡ Some b → Together a b)
+      → (p q : ℕ) (a b : Op) → p ≢ q → fin.get ops_now p ≡ Some a → fin.get ops_now q ≡ Some b → Together a b
+  together_now all p q a b apart e h = elim (op_was p a e) [
+    | inl x ↦ elim (op_was q b h) [
+      | inl y ↦ absurd (apart (x.0 ∙ sym y.0))
+      | inr y ↦ let was = all o q op b (λ z. apart (x.0 ∙ z)) there y.1 in subst (λ z. Together z b) x.1 (record { uuids = was.uuids; same_name = was.same_name })
+    ]
+    | inr x ↦ elim (op_was q b h) [
+      | inl y ↦ let was = all p o a op x.0 x.1 there in subst (λ z. Together a z) y.1 (record { uuids = was.uuids; same_name = was.same_name })
+      | inr y ↦ all p q a b apart x.1 y.1
+    ]
+  ]

@@ -1,0 +1,203 @@
+-- What a finalization stages: with its metadata added, the new root stands for the shelf with its snapshot.
+use Rattle.std.proofs.Common.{◌≡◌, ◌≢◌, ◌⊎◌, ℕ, ◌<◌, max, List, [], ◌∷◌, ◌++◌, Option, Some, None, map, refl, sym, ap, ◌∙◌, subst, inl, inr, arith, nat_cmp}
+use Rattle.std.specs.FinMap.{FinMap}
+use Rattle.std.specs.FinMap as fin
+use Rattle.esr_model.specs.Places.{shelf_places}
+use Rattle.esr_model.specs.Names.{BlobName, Snap, Meta, IndexMeta, ShardSnap}
+use Rattle.esr_model.specs.Values.{Bytes, IndexRef, RootSnap, RootData, SnapInfo, ShardSnapshot, ShardResult, Kind, ReadsBack, Formats}
+use Rattle.esr_model.specs.Shelf.{Shelved, ShelfShard}
+use Rattle.esr_model.specs.Image.{Has, AllPairs, IsOne, Reads, index_at, at_shard_of, ListsAs, FileStands, ShardStands, SnapStands, RootStands, global_of}
+use Rattle.esr_model.specs.Finalize.{Finalizes, larger, done_at}
+use Rattle.std.specs.Prelude.{sum_by, min, ◌-◌, ◌^◌, ◌≤◌}
+use Rattle.esr_model.specs.Places.{comes_first, sorted_by}
+use Rattle.esr_core.specs.World.{Op, ShardWork, Done, AllDone, info_of, comes_first_of, shelved_shard, shelved_of, metadata}
+use Rattle.esr_core.specs.Generations.{DoneAt, IsLive, Carries, DoneStands, OpTexts, OpLaw}
+use Rattle.esr_core.specs.Swaps.{OrOwn}
+use Rattle.esr_core.proofs.Frames.{reads_kept, file_kept, index_kept, AllPairs-map}
+use Rattle.esr_core.proofs.Results.{done_of}
+use Rattle.esr_core.proofs.Ordered.{Has-sorted, map-sorted}
+use Rattle.esr_core.proofs.Reading.{some_same, reads_one, AllPairs-snoc, AllPairs-with, Has-map}
+
+-- the larger of two is one of them, and not below either
+pub larger_is : (a b : Option ℕ) (g : ℕ) → larger a b ≡ Some g → (a ≡ Some g) ⊎ (b ≡ Some g)
+larger_is None b g e = inr e
+larger_is (Some x) None g e = inl e
+larger_is (Some x) (Some y) g e = let h : max x y ≡ g = some_same _ _ e in let k : (x ≡ g) ⊎ (y ≡ g) = grind arith in elim k [ inl p ↦ inl (ap Some p) | inr p ↦ inr (ap Some p) ]
+
+pub larger_old : (a b : Option ℕ) (g : ℕ) → a ≡ Some g → (now : ℕ) × (larger a b ≡ Some now) × ((now ≡ g) ⊎ ((g < now) × (b ≡ Some now)))
+larger_old a None g e = (g, ap (λ x. larger x None) e, inl refl)
+larger_old a (Some y) g e = (max g y, ap (λ x. larger x (Some y)) e, cases)
+  where
+    cases : (max g y ≡ g) ⊎ ((g < max g y) × (Some y ≡ Some (max g y)))
+    cases = let k : (max g y ≡ g) ⊎ ((g < y) × (max g y ≡ y)) = grind arith in elim k [ inl p ↦ inl p | inr p ↦ inr (omega (arith, p.0, p.1), ap Some (sym p.1)) ]
+
+pub larger_new : (a b : Option ℕ) (g : ℕ) → b ≡ Some g → (now : ℕ) × (larger a b ≡ Some now) × ((now ≡ g) ⊎ ((g < now) × (a ≡ Some now)))
+larger_new None b g e = (g, e, inl refl)
+larger_new (Some x) b g e = (max x g, ap (larger (Some x)) e, cases)
+  where
+    cases : (max x g ≡ g) ⊎ ((g < max x g) × (Some x ≡ Some (max x g)))
+    cases = let k : (max x g ≡ g) ⊎ ((g < x) × (max x g ≡ x)) = grind arith in elim k [ inl p ↦ inl p | inr p ↦ inr (omega (arith, p.0, p.1), ap Some (sym p.1)) ]
+
+module _ (f : Formats) (has : BlobName → Bytes → Type 0) (func : IsOne has) (own : List (BlobName × Bytes)) where
+  abbrev Then : BlobName → Bytes → Type 0
+  Then = OrOwn has own
+
+  lift : (m : BlobName) (b : Bytes) → has m b → Then m b
+  lift m b h = inl h
+
+  own_reads : {V : Type 0} (name : BlobName) (kind : Kind V) (v : V) → ReadsBack kind v → Has own (name, kind.text v) → Reads Then name kind v
+  own_reads name kind v back h = record { bytes = kind.text v; there = inr h; reads = back }
+
+  -- a shard of a listed snapshot, in a root in which its generation is the same or a live one above
+  old_shard : (root new : RootData) (ops : FinMap nat_cmp Op) (info : SnapInfo) (results : List ShardResult) (fin : Finalizes root info results new)
+      → ((index shard g : ℕ) → done_at results index shard ≡ Some g → Carries f has root ops index shard g)
+      → (snap : RootSnap) → Has root.snapshots snap → (its : SnapInfo) → Reads has (Snap snap.uuid) f.info its
+      → (place : IndexRef × ℕ) (shard : ShelfShard) → Has (shelf_places its.indices) place
+      → ShardStands f has root snap.uuid place shard → ShardStands f Then new snap.uuid place shard
+  old_shard root new ops info results fin carries snap listed its its_reads place shard there s =
+      let now = larger_old _ (done_at results place.0.id place.1) s.generation s.in_root in
+      let serves : ListsAs f has place.0.id place.1 now.0 snap.uuid = elim now.2 [
+        | inl e ↦ subst (λ g. ListsAs f has place.0.id place.1 g snap.uuid) (sym e) (record { snap = s.snap; snap_reads = s.snap_reads; held = s.index; held_reads = s.index_reads; lists = s.lists })
+        | inr up ↦ (carries place.0.id place.1 now.0 up.1).listed
+            (λ g h. let e : s.generation ≡ g = some_same _ _ (sym s.in_root ∙ h) in omega (arith, up.0))
+            snap listed (record { info = its; info_reads = its_reads; place = place; there = there; index_is = refl; shard_is = refl })
+      ] in
+      let same : serves.snap ≡ s.snap = reads_one has func (ShardSnap place.0.id place.1 snap.uuid) f.shard_snap serves.snap s.snap serves.snap_reads s.snap_reads in
+      record {
+        name_is = s.name_is;
+        number_is = s.number_is;
+        generation = now.0;
+        in_root = fin.generations place.0.id place.1 ∙ now.1;
+        snap = serves.snap;
+        snap_reads = reads_kept f has Then lift _ _ _ serves.snap_reads;
+        index = serves.held;
+        index_reads = reads_kept f has Then lift _ _ _ serves.held_reads;
+        lists = serves.lists;
+        files = subst (λ (x : ShardSnapshot). AllPairs (λ e file. (e.physical ≡ file.0) × FileStands f Then place.0.id place.1 e file.1) x.files shard.files) (sym same)
+            (AllPairs-map (λ e file h. (h.0, file_kept f has Then lift place.0.id place.1 e file.1 h.1)) s.snap.files shard.files s.files);
+      }
+
+  -- a listed snapshot
+  old_snap : (root new : RootData) (ops : FinMap nat_cmp Op) (info : SnapInfo) (results : List ShardResult) (fin : Finalizes root info results new)
+      → ((index shard g : ℕ) → done_at results index shard ≡ Some g → Carries f has root ops index shard g)
+      → (snap : RootSnap) → Has root.snapshots snap → snap.uuid ≢ info.uuid
+      → (shelved : Shelved) → SnapStands f has root snap shelved → SnapStands f Then new snap shelved
+  old_snap root new ops info results fin carries snap there apart shelved s =
+      record {
+        name_is = s.name_is;
+        uuid_is = s.uuid_is;
+        info = s.info;
+        info_reads = reads_kept f has Then lift _ _ _ s.info_reads;
+        info_name = s.info_name;
+        info_uuid = s.info_uuid;
+        info_state = s.info_state;
+        global_reads = reads_kept f has Then lift _ _ _ s.global_reads;
+        metas = λ r h. reads_kept f has Then lift _ _ _ (s.metas r h);
+        listed = λ r h. let (x, x_there, name, id, has) = s.listed r h in let (y, y_there, y_name, y_id, more) = fin.kept x x_there in (y, y_there, y_name ∙ name, y_id ∙ id, more snap.uuid has);
+        exact = λ y h has. elim (fin.from y h snap.uuid has) [
+          | inl e ↦ absurd (apart e.0)
+          | inr e ↦ let (x, x_there, name, id, was) = e in let (r, r_there, r_name, r_id) = s.exact x x_there was in (r, r_there, r_name ∙ name, r_id ∙ id)
+        ];
+        shards = AllPairs-with (ShardStands f has root snap.uuid) (ShardStands f Then new snap.uuid) (shelf_places s.info.indices) shelved.shards
+            (λ place shard m h. old_shard root new ops info results fin carries snap there s.info s.info_reads place shard m h) s.shards;
+      }
+
+  -- a shard of the new one
+  new_shard : (root new : RootData) (ops : FinMap nat_cmp Op) (info : SnapInfo) (results : List ShardResult) (fin : Finalizes root info results new)
+      → (op : Op) → ((index shard g : ℕ) → IsLive root ops index shard g → Carries f has root ops index shard g)
+      → (s : ShardWork) (r : ShardResult) → DoneAt ops op.uuid s.ref.id s.number r.generation → done_at results s.ref.id s.number ≡ Some r.generation
+      → DoneStands f has op.uuid s r
+      → ShardStands f Then new op.uuid (s.ref, s.number) (record { index = s.ref.name; number = s.number; files = f.told s.place s.ref.name s.number })
+  new_shard root new ops info results fin op carries s r done at_results d =
+      let now = larger_new (at_shard_of (index_at root.indices s.ref.id) s.number) _ r.generation at_results in
+      let serves : ListsAs f has s.ref.id s.number now.0 op.uuid = elim now.2 [
+        | inl e ↦ (carries s.ref.id s.number now.0 (inr (op.uuid, subst (DoneAt ops op.uuid s.ref.id s.number) (sym e) done))).done op.uuid r.generation done (omega (arith, e))
+        | inr up ↦ (carries s.ref.id s.number now.0 (inl up.1)).done op.uuid r.generation done (omega (arith, up.0))
+      ] in
+      let same : serves.snap ≡ d.snap = reads_one has func (ShardSnap s.ref.id s.number op.uuid) f.shard_snap serves.snap d.snap serves.snap_reads d.snap_reads in
+      record {
+        name_is = refl;
+        number_is = refl;
+        generation = now.0;
+        in_root = fin.generations s.ref.id s.number ∙ now.1;
+        snap = serves.snap;
+        snap_reads = reads_kept f has Then lift _ _ _ serves.snap_reads;
+        index = serves.held;
+        index_reads = reads_kept f has Then lift _ _ _ serves.held_reads;
+        lists = serves.lists;
+        files = subst (λ (x : ShardSnapshot). AllPairs (λ e file. (e.physical ≡ file.0) × FileStands f Then s.ref.id s.number e file.1) x.files (f.told s.place s.ref.name s.number)) (sym same)
+            (AllPairs-map (λ e file h. (h.0, file_kept f has Then lift s.ref.id s.number e file.1 h.1)) d.snap.files (f.told s.place s.ref.name s.number) d.files);
+      }
+
+-- pair by pair over two maps of one list
+AllPairs-maps : {A B C : Type 0} (R : B → C → Type 0) (g : A → B) (h : A → C) (xs : List A) → ((x : A) → Has xs x → R (g x) (h x)) → AllPairs R (map g xs) (map h xs)
+AllPairs-maps R g h [] all = tt
+AllPairs-maps R g h (x ∷ xs) all = (all x (inl refl), AllPairs-maps R g h xs (λ y m. all y (inr m)))
+
+abbrev place_of : ShardWork → IndexRef × ℕ
+place_of s = (s.ref, s.number)
+
+-- its info can be written
+pub info_back : (f : Formats) (op : Op) (results : List ShardResult) → OpTexts f op → ReadsBack f.info (info_of op results)
+info_back f op results texts = texts.info _ _ (capped (sum_by (λ (r : ShardResult). r.files) results)) (capped (sum_by (λ (r : ShardResult). r.bytes) results))
+  where
+    capped : (n : ℕ) → min n (2 ^ 63 - 1) < 2 ^ 63
+    capped n = let h : min n (2 ^ 63 - 1) ≤ 2 ^ 63 - 1 = grind arith in omega (arith, h)
+
+-- the new snapshot
+new_snap : (f : Formats) (has : BlobName → Bytes → Type 0) (func : IsOne has) (root new : RootData) (ops : FinMap nat_cmp Op) (o : ℕ) (op : Op) (results : List ShardResult)
+    → fin.get ops o ≡ Some op → OpLaw f has root op → ((index shard g : ℕ) → IsLive root ops index shard g → Carries f has root ops index shard g)
+    → AllDone op.shards results
+    → ((s : ShardWork) (r : ShardResult) → Has op.shards s → s.state ≡ Done r → done_at results s.ref.id s.number ≡ Some r.generation)
+    → Finalizes root (info_of op results) results new
+    → SnapStands f (OrOwn has (metadata f (info_of op results))) new (record { name = op.name; uuid = op.uuid; state = 1 }) (shelved_of f op)
+new_snap f has func root new ops o op results there law carries done at_results fin =
+    let info : SnapInfo = info_of op results in
+    let own : List (BlobName × Bytes) = metadata f info in
+    record {
+      name_is = refl;
+      uuid_is = refl;
+      info = info;
+      info_reads = own_reads f has func own (Snap op.uuid) f.info info (info_back f op results law.texts) (inl refl);
+      info_name = refl;
+      info_uuid = refl;
+      info_state = refl;
+      global_reads = own_reads f has func own (Meta op.uuid) f.global (global_of info) law.texts.global (inr (inl refl));
+      metas = λ r h. own_reads f has func own (IndexMeta r.id op.uuid) f.index_meta (record { index = r; uuid = op.uuid }) (law.texts.index r h)
+          (inr (inr (Has-map (λ (q : IndexRef). (IndexMeta q.id info.uuid, f.index_meta.text (record { index = q; uuid = info.uuid }))) info.indices r h)));
+      listed = fin.made;
+      exact = λ y h has. elim (fin.from y h op.uuid has) [
+        | inl e ↦ e.1
+        | inr e ↦ let (x, x_there, name, id, was) = e in absurd (law.unused x x_there was)
+      ];
+      shards = subst (λ list. AllPairs (ShardStands f (OrOwn has own) new op.uuid) list (shelved_of f op).shards) (map-sorted place_of comes_first op.shards ∙ ap (sorted_by comes_first) law.places)
+          (AllPairs-maps (ShardStands f (OrOwn has own) new op.uuid) place_of (shelved_shard f) (sorted_by comes_first_of op.shards)
+          (λ s in_order. let m = Has-sorted comes_first_of op.shards s in_order in
+          let (r, state, r_there) = done_of op.shards results done s m in
+          new_shard f has func own root new ops info results fin op carries s r
+          (record { number = o; op = op; there = there; uuid_is = refl; s = s; s_there = m; r = r; state = state; index_is = refl; shard_is = refl; generation_is = refl })
+          (at_results s r m state) (law.done s r m state)));
+    }
+
+pub stage : (f : Formats) (has : BlobName → Bytes → Type 0) (func : IsOne has) (root new : RootData) (ops : FinMap nat_cmp Op) (shelf : List Shelved) (o : ℕ) (op : Op) (results : List ShardResult)
+    → fin.get ops o ≡ Some op → OpLaw f has root op → ((index shard g : ℕ) → IsLive root ops index shard g → Carries f has root ops index shard g)
+    → AllDone op.shards results
+    → ((s : ShardWork) (r : ShardResult) → Has op.shards s → s.state ≡ Done r → done_at results s.ref.id s.number ≡ Some r.generation)
+    → ((index shard g : ℕ) → done_at results index shard ≡ Some g → DoneAt ops op.uuid index shard g)
+    → RootStands f has root shelf → Finalizes root (info_of op results) results new
+    → RootStands f (OrOwn has (metadata f (info_of op results))) new (shelf ++ shelved_of f op ∷ [])
+stage f has func root new ops shelf o op results there law carries done at_results done_at_op stands fin =
+    let info : SnapInfo = info_of op results in
+    let own : List (BlobName × Bytes) = metadata f info in
+    record {
+      snapshots = subst (λ xs. AllPairs (SnapStands f (Then f has func own) new) xs (shelf ++ shelved_of f op ∷ [])) (sym fin.snapshots)
+          (AllPairs-snoc (SnapStands f (Then f has func own) new) root.snapshots shelf _ (shelved_of f op)
+          (AllPairs-with (SnapStands f has root) (SnapStands f (Then f has func own) new) root.snapshots shelf
+          (λ snap shelved m h. old_snap f has func own root new ops info results fin (λ i s g e. carries i s g (inr (op.uuid, done_at_op i s g e))) snap m (law.unlisted snap m) shelved h) stands.snapshots)
+          (new_snap f has func root new ops o op results there law carries done at_results fin));
+      indices = λ index shard g is. index_kept f has (Then f has func own) (lift f has func own) index shard g
+          (elim (larger_is _ (done_at results index shard) g (sym (fin.generations index shard) ∙ is)) [
+            | inl e ↦ stands.indices index shard g e
+            | inr e ↦ (carries index shard g (inr (op.uuid, done_at_op index shard g e))).stands
+          ]);
+    }

@@ -1,0 +1,148 @@
+-- A finalization that is taken keeps the law: what it stages stands.
+use Rattle.std.proofs.Common.{◌≡◌, ◌≢◌, ℕ, suc, ◌<◌, List, [], ◌∷◌, ◌++◌, Some, refl, sym, ap, ◌∙◌, subst, inl, inr, arith, le_refl}
+use Rattle.std.specs.Cmp.{nat_cmp_total}
+use Rattle.std.specs.FinMap.{nat_cmp-IsAntisymmetric}
+use Rattle.std.specs.FinMap as fin
+use Rattle.esr_model.specs.Names.{BlobName, Root, Snap, Meta, IndexMeta}
+use Rattle.esr_model.specs.Values.{Bytes, IndexRef, RootData, SnapInfo, ShardResult, ReadsBack, Formats}
+use Rattle.esr_model.specs.Shelf.{Shelved, Create}
+use Rattle.esr_model.specs.Image.{Has, RootStands, global_of}
+use Rattle.esr_model.specs.Finalize.{finalized_root}
+use Rattle.esr_core.specs.World.{World, Op, ShardWork, Shard, Finalize, Ticket, Swap, Done, AllDone, info_of, shelved_of, metadata, ledger_of, HeldIn}
+use Rattle.esr_core.specs.Steps.{TakeFinalize, final_ticket}
+use Rattle.esr_core.specs.Swaps.{Rooted, IsSwapping, SwapLaw, SwapShape, TicketLaw, OrOwn}
+use Rattle.esr_core.specs.Generations.{Carried}
+use Rattle.esr_core.proofs.Maps.{get_was, get_other}
+use Rattle.esr_core.proofs.Reading.{some_same, held_one, safe_root_stands, Has-mapped}
+use Rattle.esr_core.proofs.Results.{found_done, done_found}
+use Rattle.esr_core.proofs.Staging.{stage}
+use Rattle.esr_core.proofs.Finalizing.{finalizes, root_one_each}
+use Rattle.esr_core.proofs.Tickets.{each_ticket, swapping_new}
+
+-- which blob of the metadata it is
+pub data Kinds (f : Formats) (info : SnapInfo) (name : BlobName) (b : Bytes) : Type 0 where
+  IsSnap : name ≡ Snap info.uuid → b ≡ f.info.text info → Kinds f info name b
+  IsMeta : name ≡ Meta info.uuid → b ≡ f.global.text (global_of info) → Kinds f info name b
+  IsIndex : (r : IndexRef) → Has info.indices r → name ≡ IndexMeta r.id info.uuid → b ≡ f.index_meta.text (record { index = r; uuid = info.uuid }) → Kinds f info name b
+
+pub kinds : (f : Formats) (info : SnapInfo) (name : BlobName) (b : Bytes) → Has (metadata f info) (name, b) → Kinds f info name b
+kinds f info name b (inl e) = IsSnap (sym (ap (λ (p : BlobName × Bytes). p.0) e)) (sym (ap (λ (p : BlobName × Bytes). p.1) e))
+kinds f info name b (inr (inl e)) = IsMeta (sym (ap (λ (p : BlobName × Bytes). p.0) e)) (sym (ap (λ (p : BlobName × Bytes). p.1) e))
+kinds f info name b (inr (inr m)) =
+    let (r, there, e) = Has-mapped {B = BlobName × Bytes} (λ (r : IndexRef). (IndexMeta r.id info.uuid, f.index_meta.text (record { index = r; uuid = info.uuid }))) info.indices (name, b) m in
+    IsIndex r there (sym (ap (λ (p : BlobName × Bytes). p.0) e)) (sym (ap (λ (p : BlobName × Bytes). p.1) e))
+
+one_kind : (f : Formats) (info : SnapInfo) → ((r q : IndexRef) → Has info.indices r → Has info.indices q → r.id ≡ q.id → r ≡ q) → (name : BlobName) (a b : Bytes) → Kinds f info name a → Kinds f info name b → a ≡ b
+one_kind f info one name a b (IsSnap n t) (IsSnap m u) = t ∙ sym u
+one_kind f info one name a b (IsSnap n t) (IsMeta m u) = cc
+one_kind f info one name a b (IsSnap n t) (IsIndex q m e u) = cc
+one_kind f info one name a b (IsMeta n t) (IsSnap m u) = cc
+one_kind f info one name a b (IsMeta n t) (IsMeta m u) = t ∙ sym u
+one_kind f info one name a b (IsMeta n t) (IsIndex q m e u) = cc
+one_kind f info one name a b (IsIndex r l n t) (IsSnap m u) = cc
+one_kind f info one name a b (IsIndex r l n t) (IsMeta m u) = cc
+one_kind f info one name a b (IsIndex r l n t) (IsIndex q m e u) =
+    let same : r.id ≡ q.id = cc in
+    t ∙ ap (λ (x : IndexRef). f.index_meta.text (record { index = x; uuid = info.uuid })) (one r q l m same) ∙ sym u
+
+-- the metadata of a snapshot are no roots, and each has one text
+pub metadata_shape : (f : Formats) (info : SnapInfo) → ((r q : IndexRef) → Has info.indices r → Has info.indices q → r.id ≡ q.id → r ≡ q)
+    → (root : RootData) (made : Shelved) → ReadsBack f.root root → SwapShape f (record { root = root; own = metadata f info; commands = Create made ∷ [] })
+metadata_shape f info one root made back =
+    record {
+      root_back = back;
+      no_root = λ n b h. elim h [ inl e ↦ not_snap (ap (λ (p : BlobName × Bytes). p.0) e) | inr h' ↦ elim h' [ inl e ↦ not_meta (ap (λ (p : BlobName × Bytes). p.0) e) | inr m ↦ let (r, there, e) = Has-mapped index_text info.indices (Root n, b) m in not_index (ap (λ (p : BlobName × Bytes). p.0) e) ] ];
+      one_text = λ name a b ha hb. one_kind f info one name a b (kinds f info name a ha) (kinds f info name b hb);
+    }
+  where
+    index_text : IndexRef → BlobName × Bytes
+    index_text r = (IndexMeta r.id info.uuid, f.index_meta.text (record { index = r; uuid = info.uuid }))
+
+    not_snap : {u n : ℕ} → Snap u ≡ Root n → ⊥
+    not_snap e = cc
+
+    not_meta : {u n : ℕ} → Meta u ≡ Root n → ⊥
+    not_meta e = cc
+
+    not_index : {i u n : ℕ} → IndexMeta i u ≡ Root n → ⊥
+    not_index e = cc
+
+module _ (f : Formats) (w : World) (shelf : List Shelved) (o : ℕ) (op : Op) (results : List ShardResult) (new : World) (d : TakeFinalize f w o op results new)
+    (l : Rooted f w shelf) (c : Carried f (HeldIn f w) w.safe w.term w.root w.ops w.tickets) (fresh : (k : ℕ) (t : Ticket) → fin.get w.tickets k ≡ Some t → k < w.next_ticket) where
+  abbrev v : Ticket
+  v = final_ticket f w o op results
+
+  abbrev its : Swap
+  its = record { root = finalized_root w.root (info_of op results) results; own = metadata f (info_of op results); commands = Create (shelved_of f op) ∷ [] }
+
+  staged : RootStands f (OrOwn (HeldIn f w) (metadata f (info_of op results))) (finalized_root w.root (info_of op results) results) (shelf ++ shelved_of f op ∷ [])
+  staged =
+      let law = c.ops o op d.op_there in
+      let ids : (s : ShardWork) (r : ShardResult) → Has op.shards s → s.state ≡ Done r → (r.index ≡ s.ref.id) × (r.shard ≡ s.number) = λ s r m e. let x = law.done s r m e in (x.index_is, x.shard_is) in
+      stage f (HeldIn f w) (held_one f w) w.root (finalized_root w.root (info_of op results) results) w.ops shelf o op results d.op_there law c.carries d.done
+      (λ s r m e. done_found op.shards results d.done ids law.distinct s r m e)
+      (λ i n g e. let (s, m, (r, state, is, ns, gen)) = found_done op.shards results d.done ids i n g e in
+      record { number = o; op = op; there = d.op_there; uuid_is = refl; s = s; s_there = m; r = r; state = state; index_is = is; shard_is = ns; generation_is = gen })
+      (safe_root_stands f (HeldIn f w) (held_one f w) w.safe w.root shelf l.kept.picked c.root_is)
+      (finalizes f (HeldIn f w) w.root op results law (root_one_each f (HeldIn f w) w.safe w.root c.root_is) d.done)
+
+  idle : (j : ℕ) → IsSwapping f w.tickets w.term j → ⊥
+  idle j h = d.idle j h.t h.s h.there h.is.is h.is.out h.is.unsettled h.present
+
+  ticket_law : TicketLaw f (HeldIn f w) w.doomed (ledger_of w) shelf v
+  ticket_law =
+      record {
+        term = le_refl w.term;
+        raised = λ n e. absurd (cc);
+        last = λ s i p n e. absurd (cc);
+        clean = λ s i c name b own. d.clean name b (subst (λ (x : Swap). Has x.own (name, b)) (sym (some_same _ _ i.is)) own);
+        clean_root = λ n e le. absurd (cc);
+        shape = λ s e. subst (SwapShape f) (some_same _ _ e) (metadata_shape f (info_of op results) (c.ops o op d.op_there).one_id its.root (shelved_of f op) d.root_back);
+        swaps = λ s i counts. subst (SwapLaw f (HeldIn f w) shelf []) (some_same _ _ i.is) (record { staged = staged; noted = λ name b m h. absurd h; root_noted = λ n h. absurd h });
+      }
+
+  rooted_now : Rooted f (record w { tickets = fin.insert w.tickets w.next_ticket v; next_ticket = suc w.next_ticket }) shelf
+  rooted_now =
+      record {
+        kept = l.kept;
+        doomed_begun = l.doomed_begun;
+        tickets = each_ticket (TicketLaw f (HeldIn f w) w.doomed (ledger_of w) shelf) w.tickets w.next_ticket v ticket_law (λ j u apart e. l.tickets j u e);
+        single = λ i j a b. swapping_new f w.tickets w.term w.next_ticket v idle i a ∙ sym (swapping_new f w.tickets w.term w.next_ticket v idle j b);
+      }
+
+  pub taken : Rooted f new shelf
+  taken = subst (λ x. Rooted f x shelf) (sym d.new_is) rooted_now
+
+  apart_new : (j : ℕ) (u : Ticket) → fin.get w.tickets j ≡ Some u → j ≢ w.next_ticket
+  apart_new j u e same = let h : j < w.next_ticket = fresh j u e in omega arith
+
+  -- a shard ticket is an old one
+  shard_was : (j : ℕ) (u : Ticket) → fin.get (fin.insert w.tickets w.next_ticket v) j ≡ Some u → (index shard : ℕ) → u.work ≡ Shard index shard → fin.get w.tickets j ≡ Some u
+  shard_was j u e index shard is = elim (get_was nat_cmp_total nat_cmp-IsAntisymmetric w.tickets w.next_ticket v j u e) [
+    | inl h ↦ absurd (differ (ap (λ (x : Ticket). x.work) h.1 ∙ is))
+    | inr h ↦ h.1
+  ]
+    where
+      differ : {info : SnapInfo} {rs : List ShardResult} {made : Shelved} {i n : ℕ} → Finalize info rs made ≡ Shard i n → ⊥
+      differ e = cc
+
+  pub taken_carried : Carried f (HeldIn f w) w.safe w.term w.root w.ops (fin.insert w.tickets w.next_ticket v)
+  taken_carried =
+      record {
+        root_is = c.root_is;
+        ops = c.ops;
+        together = c.together;
+        carries = c.carries;
+        shards = λ j u e out index shard is. c.shards j u (shard_was j u e index shard is) out index shard is;
+        one_shard = λ i j t u a b ao bo index shard ai bi. c.one_shard i j t u (shard_was i t a index shard ai) (shard_was j u b index shard bi) ao bo index shard ai bi;
+        held = λ p q s k e m state. let h = c.held p q s k e m state in record { t = h.t; there = get_other nat_cmp_total nat_cmp-IsAntisymmetric w.tickets w.next_ticket v k (apart_new k h.t h.there) ∙ h.there; out = h.out; op_is = h.op_is; work = h.work };
+        finals = λ j u e out uns pres info rs made is. elim (get_was nat_cmp_total nat_cmp-IsAntisymmetric w.tickets w.next_ticket v j u e) [
+          | inl h ↦
+              let same = parts _ _ _ _ _ _ (ap (λ (x : Ticket). x.work) h.1 ∙ is) in
+              record { op = op; op_there = ap (λ (x : Ticket). fin.get w.ops x.op) (sym h.1) ∙ d.op_there; done = subst (AllDone op.shards) same.1 d.done; info_is = sym same.0 ∙ ap (info_of op) same.1; made_is = sym same.2; root_is = ap (λ (x : Ticket). x.root) (sym h.1) }
+          | inr h ↦ c.finals j u h.1 out uns pres info rs made is
+        ];
+      }
+    where
+      parts : (a b : SnapInfo) (rs qs : List ShardResult) (m n : Shelved) → Finalize a rs m ≡ Finalize b qs n → (a ≡ b) × (rs ≡ qs) × (m ≡ n)
+      parts a b rs qs m n e = (cc, cc, cc)

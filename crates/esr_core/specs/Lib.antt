@@ -1,0 +1,11 @@
+pub mod World
+pub mod Ready
+pub mod Generations
+pub mod Steps
+pub mod Swaps
+pub mod Sound
+pub mod Doomed
+pub mod Texts
+pub mod Queue
+pub mod Ids
+pub mod Turns

@@ -1,0 +1,224 @@
+-- The world: the container's image and what the process knows of its open operations.
+use Rattle.std.specs.Prelude.{length, ◌++◌, ◌≡◌, ℕ, suc, Bool, false, List, [], ◌∷◌, Option, Some, None, map, sum_by, min, ◌-◌, ◌^◌, ◌==◌, if◌then◌else◌}
+use Rattle.std.specs.Ordering.{nat_cmp}
+use Rattle.std.specs.FinMap.{FinMap}
+use Rattle.std.specs.FinMap as fin
+use Rattle.esr_model.specs.Names.{BlobName, Snap, Meta, IndexMeta}
+use Rattle.esr_model.specs.Values.{Bytes, IndexRef, RootData, SnapInfo, RecordWork, Creating, Cloning, DeletingOf, Cleaning, Ledger, ClusterRecord, ShardResult, Formats}
+use Rattle.esr_model.specs.Shelf.{ShelfShard, Shelved, Command, Create}
+use Rattle.esr_model.specs.Places.{comes_first, sorted_by}
+use Rattle.esr_model.specs.Kept.{first_id}
+use Rattle.esr_model.specs.Finalize.{finalized_root}
+use Rattle.esr_model.specs.Image.{Blobs, Image, Has, AllPairs, RootIs, At, global_of}
+
+pub data ShardState : Type 0 where
+  Pending : ShardState
+  Out : (ticket : ℕ) → ShardState
+  Done : (outcome : ShardResult) → ShardState
+  GivenUp : ShardState
+
+pub record ShardWork : Type 0 where
+  pub ref : IndexRef
+  pub number : ℕ
+  pub place : Bytes
+  pub state : ShardState
+
+-- an open snapshot. Clone, Delete, Cleanup and Restore become a `kind`
+pub record Op : Type 0 where
+  pub name : Bytes
+  pub uuid : ℕ
+  pub moment : ℕ
+  pub indices : List IndexRef
+  pub shards : List ShardWork
+  pub failed : Bool
+  -- the snapshot that a clone copies
+  pub source : Option ℕ
+  -- the delete that aborted it
+  pub aborted : Option ℕ
+
+-- an open delete, or a cleanup, which names none
+pub record Deletion : Type 0 where
+  pub uuids : List ℕ
+  pub clean : Bool
+  pub failed : Bool
+
+-- what the unit of a master ticket makes of the repository: its root, the blobs that it writes before it, and its command
+pub record Swap : Type 0 where
+  pub root : RootData
+  pub own : List (BlobName × Bytes)
+  pub commands : List Command
+
+-- what a ticket is for
+pub data Work : Type 0 where
+  Shard : (index number : ℕ) → Work
+  Finalize : (info : SnapInfo) (shards : List ShardResult) (made : Shelved) → Work
+  -- of a delete: its swap is made when its ids are drawn
+  Deleting : (uuids : List ℕ) (plan : Option Swap) → Work
+  Drop : Work
+
+pub record Ticket : Type 0 where
+  pub work : Work
+  pub op : ℕ
+  -- of its snapshot
+  pub uuid : ℕ
+  pub term : ℕ
+  -- copies made at `take`
+  pub safe : ℕ
+  pub root : RootData
+  pub base : Option ℕ
+  -- the ids that it drew: from first on
+  pub first : ℕ
+  pub drawn : ℕ
+  -- the names that it committed, or found as Exists
+  pub noted : List BlobName
+  pub raised : Option ℕ
+  pub tried_latest : Bool
+  pub settled : Bool
+  pub out : Bool
+
+-- `safe` and `pending` count roots: the safe root is the last of the first `safe` ones, and the next to be begun is `pending`
+pub record World : Type 0 where
+  pub blobs : Blobs
+  pub safe : ℕ
+  pub pending : ℕ
+  pub term : ℕ
+  -- the safe root, read
+  pub root : RootData
+  -- open snapshots and open deletes, under one numbering
+  pub ops : FinMap nat_cmp Op
+  pub deletes : FinMap nat_cmp Deletion
+  -- the numbers of snapshots in the order in which they completed
+  pub completed : List ℕ
+  pub tickets : FinMap nat_cmp Ticket
+  pub next_op : ℕ
+  pub next_ticket : ℕ
+  -- the next id that is drawn
+  pub next_id : ℕ
+  -- names that some settled ticket may remove
+  pub doomed : List BlobName
+  pub deposed : Bool
+
+-- the blob is there with these bytes, and nobody may remove it
+abbrev pub Safely : Formats → Blobs → List BlobName → BlobName → Bytes → Type 0
+Safely f blobs doomed name bytes = At f blobs name bytes × (Has doomed name → ⊥)
+
+abbrev pub HeldIn : Formats → World → BlobName → Bytes → Type 0
+HeldIn f w = Safely f w.blobs w.doomed
+
+-- the ops of the cluster record, by number
+abbrev pub work_by : Op → Option ℕ → RecordWork
+work_by op None = Creating op.name op.uuid op.moment op.indices
+work_by op (Some source) = Cloning op.name op.uuid op.moment op.indices source
+
+abbrev pub work_of : Op → RecordWork
+work_of op = work_by op op.source
+
+abbrev pub deletion_work : Deletion → RecordWork
+deletion_work x = if x.clean then Cleaning else DeletingOf x.uuids
+
+abbrev pub record_ops : FinMap nat_cmp Op → FinMap nat_cmp Deletion → List (ℕ × RecordWork)
+record_ops ops deletes =
+    fin.entries (fin.from_entries {R = nat_cmp} (map (λ (e : ℕ × Op). (e.0, work_of e.1)) (fin.entries ops) ++ map (λ (e : ℕ × Deletion). (e.0, deletion_work e.1)) (fin.entries deletes)))
+
+abbrev pub ledger_of : World → Ledger
+ledger_of w = record { safe = w.safe; pending = w.pending; term = w.term }
+
+abbrev pub record_of : World → ClusterRecord
+record_of w = record { ledger = ledger_of w; ops = record_ops w.ops w.deletes }
+
+abbrev pub image_of : Formats → World → Image
+image_of f w = record { blobs = w.blobs; text = Some (f.cluster.text (record_of w)) }
+
+-- a shard of an op where that which a ticket holds goes on to this state
+abbrev pub marked_by : ℕ → ShardState → ShardWork → ShardState → ShardWork
+marked_by k new s (Out j) = if j == k then record s { state = new } else s
+marked_by k new s Pending = s
+marked_by k new s (Done r) = s
+marked_by k new s GivenUp = s
+
+abbrev pub marked : ℕ → ShardState → ShardWork → ShardWork
+marked k new s = marked_by k new s s.state
+
+-- each shard of the op is done, with these results
+abbrev pub AllDone : List ShardWork → List ShardResult → Type 0
+AllDone shards results = AllPairs (λ (s : ShardWork) (r : ShardResult). s.state ≡ Done r) shards results
+
+-- the info of the op's snapshot with these sums
+abbrev pub info_with : Op → ℕ → ℕ → SnapInfo
+info_with op files bytes = record { name = op.name; uuid = op.uuid; state = 1; moment = op.moment; indices = op.indices; files = files; bytes = bytes }
+
+-- sums stop at 2^63 - 1
+abbrev pub info_of : Op → List ShardResult → SnapInfo
+info_of op results = info_with op (min (sum_by (λ (r : ShardResult). r.files) results) (2 ^ 63 - 1)) (min (sum_by (λ (r : ShardResult). r.bytes) results) (2 ^ 63 - 1))
+
+-- by the index's name, then by number
+abbrev pub comes_first_of : ShardWork → ShardWork → Bool
+comes_first_of s z = comes_first (s.ref, s.number) (z.ref, z.number)
+
+abbrev pub shelved_shard : Formats → ShardWork → ShelfShard
+shelved_shard f s = record { index = s.ref.name; number = s.number; files = f.told s.place s.ref.name s.number }
+
+-- what the op puts on the shelf: the files that the sources tell
+abbrev pub shelved_of : Formats → Op → Shelved
+shelved_of f op = record { name = op.name; uuid = op.uuid; shards = map (shelved_shard f) (sorted_by comes_first_of op.shards) }
+
+abbrev pub metadata : Formats → SnapInfo → List (BlobName × Bytes)
+metadata f info =
+    (Snap info.uuid, f.info.text info) ∷ (Meta info.uuid, f.global.text (global_of info))
+    ∷ map (λ (r : IndexRef). (IndexMeta r.id info.uuid, f.index_meta.text (record { index = r; uuid = info.uuid }))) info.indices
+
+abbrev pub swap_of : Formats → Work → RootData → Option Swap
+swap_of f (Finalize info shards made) root = Some (record { root = finalized_root root info shards; own = metadata f info; commands = Create made ∷ [] })
+swap_of f (Shard index number) root = None
+swap_of f (Deleting uuids plan) root = plan
+swap_of f Drop root = None
+
+abbrev pub swap : Formats → Ticket → Option Swap
+swap f t = swap_of f t.work t.root
+
+-- the deletes that opening keeps
+abbrev pub kept_deletes : List (ℕ × RecordWork) → List (List ℕ)
+kept_deletes [] = []
+kept_deletes ((o, DeletingOf uuids) ∷ ops) = uuids ∷ kept_deletes ops
+kept_deletes ((o, Creating name uuid moment indices) ∷ ops) = kept_deletes ops
+kept_deletes ((o, Cloning name uuid moment indices source) ∷ ops) = kept_deletes ops
+kept_deletes ((o, Cleaning) ∷ ops) = kept_deletes ops
+
+-- numbered from one on
+abbrev pub numbered_deletes : ℕ → List (List ℕ) → FinMap nat_cmp Deletion
+numbered_deletes number [] = fin.empty
+numbered_deletes number (uuids ∷ rest) = fin.insert (numbered_deletes (suc number) rest) number (record { uuids = uuids; clean = false; failed = false })
+
+-- the world that opening makes of an image with this record, whose safe root reads as root: the term is raised by one,
+-- snapshots, clones and a cleanup are dropped, deletes are kept and numbered 1, 2, ..
+abbrev pub opened : Blobs → ClusterRecord → RootData → World
+opened blobs cluster root =
+    record {
+      blobs = blobs;
+      safe = cluster.ledger.safe;
+      pending = cluster.ledger.pending;
+      term = suc cluster.ledger.term;
+      root = root;
+      ops = fin.empty;
+      deletes = numbered_deletes 1 (kept_deletes cluster.ops);
+      completed = [];
+      tickets = fin.empty;
+      next_op = suc (length (kept_deletes cluster.ops));
+      next_ticket = 1;
+      next_id = first_id (suc cluster.ledger.term);
+      doomed = [];
+      deposed = false;
+    }
+
+-- a container in which nothing was written has no root, and term 0
+abbrev pub no_record : ClusterRecord
+no_record = record { ledger = record { safe = 0; pending = 0; term = 0 }; ops = [] }
+
+abbrev pub no_root : RootData
+no_root = record { snapshots = []; indices = [] }
+
+-- opening the image leads to this world
+pub data Opened (f : Formats) (image : Image) : World → Type 0 where
+  OpenedEmpty : image.text ≡ None → Opened f image (opened image.blobs no_record no_root)
+  OpenedRecord : (cluster : ClusterRecord) (text : Bytes) (root : RootData) → image.text ≡ Some text → f.cluster.read text ≡ Some cluster
+      → RootIs f (At f image.blobs) cluster.ledger.safe root → Opened f image (opened image.blobs cluster root)

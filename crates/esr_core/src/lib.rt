@@ -1,0 +1,83 @@
+// The core's law, over definitions alone.
+#![tactic(auto)]
+
+ghost use Rattle.std.specs.Prelude.{◌≡◌, Bool, true, false, Option, Some, ℕ, ◌<◌, ◌≤◌, List, ◌⊎◌};
+ghost use Rattle.esr_model.specs.Values.{ReadsBack, Formats};
+ghost use Rattle.esr_model.specs.Names.{BlobName, Root};
+ghost use Rattle.esr_model.specs.Image.{Has, Image, Blobs, At, KeptAt, Present};
+ghost use Rattle.esr_model.specs.Kept.{Kept};
+ghost use Rattle.esr_model.specs.Shelf.{Shelved, Command, shelf_after};
+ghost use Rattle.esr_core.specs.World.{World, Op, ShardWork, Shard, Ticket, image_of, record_of, Opened};
+ghost use Rattle.esr_core.specs.Steps.{Raise, SettleStale, Remove};
+ghost use Rattle.esr_core.specs.Sound.{Sound};
+ghost use Rattle.esr_core.specs.Queue.{Lists, Sole};
+ghost use Rattle.esr_core.specs.Ids.{Law};
+ghost use Rattle.esr_model.specs.Kept.{IdsBelow, RootIds};
+ghost use Rattle.esr_core.specs.Ready.{IsOpen, AnyReady, Barrier, Idle};
+ghost use Rattle.std.specs.FinMap as fin;
+ghost use Rattle.std.specs.FinMap.{FinMap};
+ghost use Rattle.std.specs.Ordering.{nat_cmp};
+ghost use Rattle.esr_core.specs.Turns.{Turn, Turns, commands_of};
+ghost use Rattle.esr_core.specs.Doomed.{Dooms};
+ghost use Rattle.esr_model.specs.Image.{RootIs};
+
+/// A raise keeps the law, and the generation that it begins is that of no root that is there.
+pub fn raise_is_sound()
+    ensures law { (f : Formats) (w new : World) (shelf : List Shelved) (k : ℕ) → Sound f w shelf → Raise f w k new → Sound f new shelf }
+    ensures fresh { (f : Formats) (w new : World) (shelf : List Shelved) (k : ℕ) → Sound f w shelf → Raise f w k new → Present f w.blobs (Root w.pending) → ⊥ }
+{}
+
+/// A settle of an older term changes nothing.
+pub fn stale_settle_changes_nothing()
+    ensures { (f : Formats) (w new : World) (k n own now : ℕ) → SettleStale f w k n own now new → new ≡ w }
+{}
+
+/// A removal of doomed names keeps the law, also one that is cut short.
+pub fn remove_is_sound()
+    ensures { (f : Formats) (w new : World) (shelf : List Shelved) (k : ℕ) (names : List BlobName) → Sound f w shelf → Remove f w k names new → Sound f new shelf }
+{}
+
+/// The opened world of a kept image is lawful.
+pub fn opening_is_lawful()
+    ensures { (f : Formats) (image : Image) (shelf : List Shelved) (w : World) → Kept f image shelf → Opened f image w → Law f w shelf }
+{}
+
+/// What a delete or cleanup dooms after its settle nothing that stands needs.
+pub fn dooming_is_sound()
+    ensures { (f : Formats) (w new : World) (shelf : List Shelved) (names : List BlobName) → Sound f w shelf → Dooms f w names new → Sound f new shelf }
+{}
+
+/// A kept image determines its shelf.
+pub fn shelf_is_determined()
+    ensures { (f : Formats) (image : Image) (a b : List Shelved) → Kept f image a → Kept f image b → a ≡ b }
+{}
+
+/// Each turn from a lawful world leads to a lawful one, for the shelf with the commands of the settles that stand.
+pub fn each_turn_is_lawful()
+    ensures { (f : Formats) (w new : World) (shelf : List Shelved) → Law f w shelf → w.deposed ≡ false → (turn : Turn f w new) → Law f new (shelf_after shelf (commands_of f w new turn)) }
+{}
+
+/// Where an op is open and no ticket is out, some unit is ready.
+pub fn some_unit_is_ready()
+    ensures { (f : Formats) (w : World) (shelf : List Shelved) (o : ℕ) → Law f w shelf → IsOpen w o → ((k : ℕ) (t : Ticket) → fin.get w.tickets k ≡ Some t → t.out ≡ true → ⊥) → AnyReady w }
+{}
+
+/// The image of a lawful world is kept, where its record can be written.
+pub fn lawful_image_is_kept()
+    ensures { (f : Formats) (w : World) (shelf : List Shelved) → Law f w shelf → ReadsBack f.cluster (record_of w) → Kept f (image_of f w) shelf }
+{}
+
+/// Over each list of turns the law holds, for the shelf with the commands of the settles that stand.
+pub fn each_list_is_lawful()
+    ensures { (f : Formats) (w last : World) (shelf : List Shelved) (cs : List Command) → Law f w shelf → Turns f w last cs → Law f last (shelf_after shelf cs) }
+{}
+
+/// At most one ticket is out for a shard; each shard of a snapshot behind an open delete or cleanup is pending or given up;
+/// the source of an open clone is listed; while a ticket of a cleanup is out no other is.
+pub fn the_queue_is_apart()
+    ensures one { (f : Formats) (w : World) (shelf : List Shelved) (j k : ℕ) (t u : Ticket) (index shard : ℕ) → Law f w shelf → fin.get w.tickets j ≡ Some t → fin.get w.tickets k ≡ Some u → t.out ≡ true → u.out ≡ true
+        → t.work ≡ Shard index shard → u.work ≡ Shard index shard → j ≡ k }
+    ensures behind { (f : Formats) (w : World) (shelf : List Shelved) (o : ℕ) (op : Op) (s : ShardWork) → Law f w shelf → fin.get w.ops o ≡ Some op → Barrier w.deletes o → Has op.shards s → Idle s.state }
+    ensures source { (f : Formats) (w : World) (shelf : List Shelved) (o u : ℕ) (op : Op) → Law f w shelf → fin.get w.ops o ≡ Some op → op.source ≡ Some u → Lists w.root u }
+    ensures sole { (f : Formats) (w : World) (shelf : List Shelved) → Law f w shelf → Sole w.term w.deletes w.tickets }
+{}

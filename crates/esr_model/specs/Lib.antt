@@ -1,0 +1,10 @@
+pub mod Names
+pub mod Values
+pub mod Shelf
+pub mod Parts
+pub mod Places
+pub mod Image
+pub mod Kept
+pub mod Reach
+pub mod Finalize
+pub mod Delete

@@ -1,0 +1,2 @@
+//! What a repository holds: the definitions that the other crates speak of.
+#![tactic(auto)]
