@@ -6,7 +6,7 @@ use Rattle.esr_model.specs.Values.{Bytes, Ledger, ReadsBack, Formats}
 use Rattle.esr_model.specs.Shelf.{Shelved, shelf_after}
 use Rattle.esr_model.specs.Image.{Blobs, Has, At, Whole, RootStands}
 use Rattle.esr_core.specs.World.{World, Ticket, Swap, swap, ledger_of, HeldIn, Safely}
-use Rattle.esr_core.specs.Steps.{CommitDone, CommitFault, MayCommit, ShardCommits, with_ticket, with_blob, noting}
+use Rattle.esr_core.specs.Steps.{CommitDone, CommitFault, MayCommit, ShardCommits, with_ticket, with_blob, writing}
 use Rattle.esr_core.specs.Swaps.{Rooted, SwapLaw, TicketLaw, IsUnsettled, Counts, OrOwn}
 use Rattle.esr_core.proofs.Frames.{root_kept}
 use Rattle.esr_core.proofs.Adds.{added, now, safe_kept, at_new, kept_added, swap_added, ticket_added}
@@ -55,7 +55,7 @@ root_whole f blobs ledger shelf t name bytes valid absent doomed l out (inl (s, 
 -- the ticket that committed, with the name noted
 mine : (f : Formats) (blobs : Blobs) (ledger : Ledger) (shelf : List Shelved) (t : Ticket) (name : BlobName) (bytes : Bytes)
     (valid : ReadsBack f.names name) (absent : fin.get blobs (f.names.text name) ≡ None) (doomed : List BlobName) → TicketLaw f (Safely f blobs doomed) doomed ledger shelf t → MayCommit f t name bytes
-    → TicketLaw f (now f blobs name bytes valid absent doomed) doomed ledger shelf (noting t name)
+    → TicketLaw f (now f blobs name bytes valid absent doomed) doomed ledger shelf (writing t name bytes)
 mine f blobs ledger shelf t name bytes valid absent doomed l may =
     record {
       term = l.term;
@@ -124,17 +124,17 @@ commit_done f w new shelf k name l c = subst (λ v. Rooted f v shelf) (sym c.new
     was : TicketLaw f (HeldIn f w) w.doomed (ledger_of w) shelf c.t
     was = l.tickets k c.t c.out.there
 
-    same : (s : Swap) → IsUnsettled f (noting c.t name) s → (noting c.t name).term ≡ w.term → IsUnsettled f c.t s × (c.t.term ≡ w.term)
+    same : (s : Swap) → IsUnsettled f (writing c.t name c.bytes) s → (writing c.t name c.bytes).term ≡ w.term → IsUnsettled f c.t s × (c.t.term ≡ w.term)
     same s h e = (record { is = h.is; out = h.out; unsettled = h.unsettled }, e)
 
-    here : Rooted f (with_ticket (with_blob f w name c.bytes) k (noting c.t name)) shelf
+    here : Rooted f (with_ticket (with_blob f w name c.bytes) k (writing c.t name c.bytes)) shelf
     here = record {
       doomed_begun = l.doomed_begun;
       kept = kept_added f w.blobs name c.bytes c.named c.absent w.doomed (ledger_of w) shelf l.kept (root_whole f w.blobs (ledger_of w) shelf c.t name c.bytes c.named c.absent w.doomed was c.out.out c.may);
-      tickets = each_ticket _ w.tickets k (noting c.t name)
+      tickets = each_ticket _ w.tickets k (writing c.t name c.bytes)
           (mine f w.blobs (ledger_of w) shelf c.t name c.bytes c.named c.absent w.doomed was c.may)
           (λ j u apart e. ticket_added f w.blobs name c.bytes c.named c.absent w.doomed (ledger_of w) shelf u (l.tickets j u e));
-      single = λ i j a b. l.single i j (swapping_was f w.tickets w.term k c.t (noting c.t name) c.out.there same i a) (swapping_was f w.tickets w.term k c.t (noting c.t name) c.out.there same j b);
+      single = λ i j a b. l.single i j (swapping_was f w.tickets w.term k c.t (writing c.t name c.bytes) c.out.there same i a) (swapping_was f w.tickets w.term k c.t (writing c.t name c.bytes) c.out.there same j b);
     }
 
 -- a commit that failed leaves the image as it was, or with the blob

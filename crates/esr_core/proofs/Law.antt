@@ -6,11 +6,11 @@ use Rattle.std.specs.Cmp.{nat_cmp_total}
 use Rattle.std.specs.FinMap.{FinMap, nat_cmp-IsAntisymmetric}
 use Rattle.std.specs.FinMap as fin
 use Rattle.esr_model.specs.Names.{BlobName}
-use Rattle.esr_model.specs.Values.{Formats, ShardResult, SnapInfo}
+use Rattle.esr_model.specs.Values.{Bytes, Formats, ShardResult, SnapInfo}
 use Rattle.esr_core.specs.Ready.{IsShard}
 use Rattle.esr_model.specs.Shelf.{Shelved, Command, apply, shelf_after}
 use Rattle.esr_core.specs.World.{World, Op, Ticket, Finalize, Swap, swap, swap_of, ledger_of, HeldIn, Safely}
-use Rattle.esr_core.specs.Steps.{CommitDone, CommitFault, Raise, Elect, DoneShard, TryLatest, Ends, TakeFinalize, settled, with_ticket, noting, MaySettle}
+use Rattle.esr_core.specs.Steps.{CommitDone, CommitFault, Raise, Elect, DoneShard, TryLatest, FetchFound, reading, Ends, TakeFinalize, settled, with_ticket, noting, writing, MaySettle}
 use Rattle.esr_core.specs.Swaps.{TicketLaw, IsUnsettled}
 use Rattle.esr_core.specs.Sound.{Sound}
 use Rattle.esr_core.proofs.Maps.{get_was}
@@ -46,6 +46,19 @@ noting_same t name =
       final = λ f r o i rs m l. record { op = l.op; op_there = l.op_there; done = l.done; info_is = l.info_is; made_is = l.made_is; root_is = l.root_is };
     }
 
+pub writing_same : (t : Ticket) (name : BlobName) (bytes : Bytes) → SameTicket t (writing t name bytes)
+writing_same t name bytes =
+    record {
+      work = refl;
+      op = refl;
+      term = refl;
+      out = λ e. e;
+      holds = λ i n e o. o;
+      settled = λ e. e;
+      shard = λ f b r o k i n l. record { op = l.op; op_there = l.op_there; uuid_is = l.uuid_is; s = l.s; s_there = l.s_there; state = l.state; index_is = l.index_is; shard_is = l.shard_is; base = l.base; ids = l.ids };
+      final = λ f r o i rs m l. record { op = l.op; op_there = l.op_there; done = l.done; info_is = l.info_is; made_is = l.made_is; root_is = l.root_is };
+    }
+
 pub raised_same : (t : Ticket) (r : Option ℕ) → SameTicket t (record t { raised = r })
 raised_same t r =
     record {
@@ -61,6 +74,19 @@ raised_same t r =
 
 pub tried_same : (t : Ticket) → SameTicket t (record t { tried_latest = true })
 tried_same t =
+    record {
+      work = refl;
+      op = refl;
+      term = refl;
+      out = λ e. e;
+      holds = λ i n e o. o;
+      settled = λ e. e;
+      shard = λ f b r o k i n l. record { op = l.op; op_there = l.op_there; uuid_is = l.uuid_is; s = l.s; s_there = l.s_there; state = l.state; index_is = l.index_is; shard_is = l.shard_is; base = l.base; ids = l.ids };
+      final = λ f r o i rs m l. record { op = l.op; op_there = l.op_there; done = l.done; info_is = l.info_is; made_is = l.made_is; root_is = l.root_is };
+    }
+
+pub reading_same : (t : Ticket) (name : BlobName) (bytes : Bytes) → SameTicket t (reading t name bytes)
+reading_same t name bytes =
     record {
       work = refl;
       op = refl;
@@ -109,6 +135,13 @@ module _ (f : Formats) (w : World) (shelf : List Shelved) (l : Sound f w shelf) 
       (record { term = old.term; raised = old.raised; shape = old.shape; clean_root = old.clean_root; clean = λ s i. old.clean s (record { is = i.is; out = i.out; unsettled = i.unsettled }); last = λ s i. old.last s (record { is = i.is; out = i.out; unsettled = i.unsettled }); swaps = λ s i. old.swaps s (record { is = i.is; out = i.out; unsettled = i.unsettled }) })
       (λ s i e. (record { is = i.is; out = i.out; unsettled = i.unsettled }, e)))
 
+  pub fetch_sound : (k : ℕ) (name : BlobName) (new : World) → FetchFound f w k name new → Sound f new shelf
+  fetch_sound k name new h = subst (λ x. Sound f x shelf) (sym h.new_is)
+      (let old = l.rooted.tickets k h.t h.out.there in
+      quiet k h.t (reading h.t name h.bytes) h.out.there (reading_same h.t name h.bytes)
+      (record { term = old.term; raised = old.raised; shape = old.shape; clean_root = old.clean_root; clean = λ s i. old.clean s (record { is = i.is; out = i.out; unsettled = i.unsettled }); last = λ s i. old.last s (record { is = i.is; out = i.out; unsettled = i.unsettled }); swaps = λ s i. old.swaps s (record { is = i.is; out = i.out; unsettled = i.unsettled }) })
+      (λ s i e. (record { is = i.is; out = i.out; unsettled = i.unsettled }, e)))
+
   pub finish_sound : (k : ℕ) (new : World) → Ends w k new → Sound f new shelf
   finish_sound k new h = subst (λ x. Sound f x shelf) (sym h.new_is)
       (let old = l.rooted.tickets k h.t h.out.there in
@@ -146,9 +179,9 @@ module _ (f : Formats) (w : World) (shelf : List Shelved) (l : Sound f w shelf) 
   commit_law k name new c = record {
     rooted = commit_done f w new shelf k name l.rooted c;
     carried = subst (λ x. CarriedIn f x) (sym c.new_is)
-        (carried_same f (Safely f (fin.insert w.blobs (f.names.text name) c.bytes) w.doomed) w.safe w.term w.root w.ops w.tickets k c.t (noting c.t name) c.out.there (noting_same c.t name)
+        (carried_same f (Safely f (fin.insert w.blobs (f.names.text name) c.bytes) w.doomed) w.safe w.term w.root w.ops w.tickets k c.t (writing c.t name c.bytes) c.out.there (writing_same c.t name c.bytes)
         (carried_kept f (HeldIn f w) (Safely f (fin.insert w.blobs (f.names.text name) c.bytes) w.doomed) (safely_one f (fin.insert w.blobs (f.names.text name) c.bytes) w.doomed) (held_one f w) (safe_kept f w.blobs name c.bytes c.named c.absent w.doomed) w.safe w.term w.root shelf l.rooted.kept.picked w.ops w.tickets l.carried));
-    fresh = subst (λ (x : World). (j : ℕ) (u : Ticket) → fin.get x.tickets j ≡ Some u → j < x.next_ticket) (sym c.new_is) (fresh_same w.tickets w.next_ticket k c.t (noting c.t name) c.out.there l.fresh);
+    fresh = subst (λ (x : World). (j : ℕ) (u : Ticket) → fin.get x.tickets j ≡ Some u → j < x.next_ticket) (sym c.new_is) (fresh_same w.tickets w.next_ticket k c.t (writing c.t name c.bytes) c.out.there l.fresh);
   }
 
   pub commit_fault_law : (k : ℕ) (name : BlobName) (new : World) → CommitFault f w k name new → Sound f new shelf

@@ -34,6 +34,7 @@ pub mod Numbers
 pub mod Turning
 pub mod Completing
 pub mod Lists
+pub mod Writing
 pub mod Recorded
 pub mod Laws
 pub mod Removes

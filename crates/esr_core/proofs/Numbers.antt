@@ -7,7 +7,7 @@ use Rattle.esr_model.specs.Values.{Has, Formats}
 use Rattle.esr_model.specs.Shelf.{Shelved}
 use Rattle.esr_model.specs.Kept.{first_id}
 use Rattle.esr_core.specs.World.{World, Deletion}
-use Rattle.esr_core.specs.Turns.{IsKnown, Turn, Stays, Commits, CommitFails, Raises, Latests, SettlesFinal, SettlesDelete, Elects, TakesShard, TakesFinal, TakesDrop, TakesDelete, TakesCleanup, AsksCleanup, CleanDrops, DrawsShard, DrawsPlan, Dones, Ending, Fails, FailsDelete, Drops, AsksCreate, AsksDelete, Merges, Removing, Deposes}
+use Rattle.esr_core.specs.Turns.{IsKnown, Turn, Stays, Commits, CommitFails, Finds, Raises, Latests, Fetches, SettlesFinal, SettlesDelete, Elects, TakesShard, TakesFinal, TakesDrop, TakesDelete, TakesCleanup, AsksCleanup, CleanDrops, DrawsShard, DrawsPlan, Dones, Ending, Fails, FailsDelete, Drops, AsksCreate, AsksDelete, Merges, Removing, Deposes}
 use Rattle.esr_core.specs.Ids.{DeletionIds, InTerm, Law}
 use Rattle.esr_core.proofs.Reading.{Has-either}
 use Rattle.esr_core.proofs.Queues.{was_in, left_in}
@@ -44,8 +44,10 @@ pub turn_in_term : (f : Formats) (w new : World) → InTerm w → Turn f w new �
 turn_in_term f w new l (Stays m e) = same_term w m (ap term_of e) (ap next_of e) l
 turn_in_term f w new l (Commits m k name h) = same_term w m (ap term_of h.new_is) (ap next_of h.new_is) l
 turn_in_term f w new l (CommitFails m k name h) = elim h.leaves [ inl e ↦ same_term w m (ap term_of e) (ap next_of e) l | inr e ↦ same_term w m (ap term_of e.1) (ap next_of e.1) l ]
+turn_in_term f w new l (Finds m k name h) = same_term w m (ap term_of h.new_is) (ap next_of h.new_is) l
 turn_in_term f w new l (Raises m k h) = same_term w m (ap term_of h.new_is) (ap next_of h.new_is) l
 turn_in_term f w new l (Latests m k h) = same_term w m (ap term_of h.new_is) (ap next_of h.new_is) l
+turn_in_term f w new l (Fetches m k name h) = same_term w m (ap term_of h.new_is) (ap next_of h.new_is) l
 turn_in_term f w new l (SettlesFinal m k n t s h) = same_term w m (ap term_of h.new_is) (ap next_of h.new_is) l
 turn_in_term f w new l (SettlesDelete m k n t s h) = same_term w m (ap term_of h.new_is) (ap next_of h.new_is) l
 turn_in_term f w new l (Elects m h) = subst InTerm (sym h.new_is) (record { from = omega arith; below = omega arith })
@@ -104,8 +106,10 @@ pub turn_deletions : (f : Formats) (w new : World) (shelf : List Shelved) → La
 turn_deletions f w new shelf l (Stays m e) = same_below w m (ap next_of e) (ap deletes_of e) l.deletions
 turn_deletions f w new shelf l (Commits m k name h) = same_below w m (ap next_of h.new_is) (ap deletes_of h.new_is) l.deletions
 turn_deletions f w new shelf l (CommitFails m k name h) = elim h.leaves [ inl e ↦ same_below w m (ap next_of e) (ap deletes_of e) l.deletions | inr e ↦ same_below w m (ap next_of e.1) (ap deletes_of e.1) l.deletions ]
+turn_deletions f w new shelf l (Finds m k name h) = same_below w m (ap next_of h.new_is) (ap deletes_of h.new_is) l.deletions
 turn_deletions f w new shelf l (Raises m k h) = same_below w m (ap next_of h.new_is) (ap deletes_of h.new_is) l.deletions
 turn_deletions f w new shelf l (Latests m k h) = same_below w m (ap next_of h.new_is) (ap deletes_of h.new_is) l.deletions
+turn_deletions f w new shelf l (Fetches m k name h) = same_below w m (ap next_of h.new_is) (ap deletes_of h.new_is) l.deletions
 turn_deletions f w new shelf l (SettlesFinal m k n t s h) = less_below w m t.op (ap next_of h.new_is) (ap deletes_of h.new_is) l.deletions
 turn_deletions f w new shelf l (SettlesDelete m k n t s h) = elim (chosen f w shelf l h.cleans w.deletes (fin.remove w.deletes t.op)) [
   | inl e ↦ same_below w m (ap next_of h.new_is) (ap deletes_of h.new_is ∙ e) l.deletions

@@ -8,11 +8,11 @@ use Rattle.esr_model.specs.Shelf.{Shelved, shelf_after}
 use Rattle.esr_model.specs.Image.{Has}
 use Rattle.esr_core.specs.World.{World, Op, ShardWork, Done, Work, Deleting, Shard, Ticket, Swap, AllDone, marked}
 use Rattle.esr_core.specs.Ready.{IsMaster, IsShard}
-use Rattle.esr_core.specs.Steps.{IsOut, CommitDone, CommitFault, Raise, TryLatest, DoneShard, Ends, Elect, Remove, noting, completing}
+use Rattle.esr_core.specs.Steps.{IsOut, CommitDone, CommitFault, Raise, TryLatest, FetchFound, reading, noting, CommitExists, DoneShard, Ends, Elect, Remove, writing, completing}
 use Rattle.esr_core.specs.Sound.{Sound}
 use Rattle.esr_core.specs.Queue.{Queue, QueueIn, Lawful, DeleteLaw}
-use Rattle.esr_core.specs.Turns.{Turn, Stays, Commits, CommitFails, Raises, Latests, SettlesFinal, SettlesDelete, Elects, TakesShard, TakesFinal, TakesDrop, TakesDelete, TakesCleanup, AsksCleanup, CleanDrops, DrawsShard, DrawsPlan, Dones, Ending, Fails, FailsDelete, Drops, AsksCreate, AsksDelete, Merges, Removing, Deposes, commands_of}
-use Rattle.esr_core.proofs.Law.{raise_law, commit_law, commit_fault_law, latest_sound, finish_sound, done_sound, elect_law, deposed_same}
+use Rattle.esr_core.specs.Turns.{Turn, Stays, Commits, CommitFails, Finds, Raises, Latests, Fetches, SettlesFinal, SettlesDelete, Elects, TakesShard, TakesFinal, TakesDrop, TakesDelete, TakesCleanup, AsksCleanup, CleanDrops, DrawsShard, DrawsPlan, Dones, Ending, Fails, FailsDelete, Drops, AsksCreate, AsksDelete, Merges, Removing, Deposes, commands_of}
+use Rattle.esr_core.proofs.Law.{raise_law, commit_law, commit_fault_law, latest_sound, fetch_sound, finish_sound, done_sound, elect_law, deposed_same}
 use Rattle.esr_core.proofs.Removes.{remove_sound}
 use Rattle.esr_core.proofs.Ops.{GoesOn}
 use Rattle.esr_core.proofs.Queues.{Like, Evolves, was_in, queue_ticket, queue_ops, queued_back, queue_elect}
@@ -25,6 +25,8 @@ use Rattle.esr_core.proofs.Asking.{create_lawful, cleanup_asked_lawful, delete_a
 use Rattle.esr_core.specs.Ids.{Law}
 use Rattle.esr_core.proofs.TurningIds.{turn_ids}
 use Rattle.esr_core.proofs.Numbers.{turn_deletions, turn_in_term}
+use Rattle.esr_core.proofs.Writing.{turn_written}
+use Rattle.esr_core.proofs.Exists.{exists_sound, turn_texted}
 use Rattle.esr_core.proofs.Founding.{found}
 use Rattle.esr_core.proofs.Below.{final_clean, draw_above, plan_clean, is_apart, one_id}
 use Rattle.esr_core.proofs.Drawing.{draw_shard_lawful, draw_plan_lawful}
@@ -60,7 +62,7 @@ module _ (f : Formats) (w : World) (shelf : List Shelved) (l : Lawful f w shelf)
       }
 
   commit_lawful : (k : ℕ) (name : BlobName) (new : World) → CommitDone f w k name new → Lawful f new shelf
-  commit_lawful k name new c = record { sound = commit_law f w shelf l.sound k name new c; queue = subst QueueIn (sym c.new_is) (seen_same k c.t (noting c.t name) c.out.there (like_of c.t (noting c.t name) refl refl refl refl refl) refl refl) }
+  commit_lawful k name new c = record { sound = commit_law f w shelf l.sound k name new c; queue = subst QueueIn (sym c.new_is) (seen_same k c.t (writing c.t name c.bytes) c.out.there (like_of c.t (writing c.t name c.bytes) refl refl refl refl refl) refl refl) }
 
   commit_fault_lawful : (k : ℕ) (name : BlobName) (new : World) → CommitFault f w k name new → Lawful f new shelf
   commit_fault_lawful k name new c = record {
@@ -73,6 +75,12 @@ module _ (f : Formats) (w : World) (shelf : List Shelved) (l : Lawful f w shelf)
 
   latest_lawful : (k : ℕ) (new : World) → TryLatest f w k new → Lawful f new shelf
   latest_lawful k new h = record { sound = latest_sound f w shelf l.sound k new h; queue = subst QueueIn (sym h.new_is) (seen_same k h.t (record h.t { tried_latest = true }) h.out.there (like_of h.t (record h.t { tried_latest = true }) refl refl refl refl refl) refl refl) }
+
+  fetch_lawful : (k : ℕ) (name : BlobName) (new : World) → FetchFound f w k name new → Lawful f new shelf
+  fetch_lawful k name new h = record { sound = fetch_sound f w shelf l.sound k name new h; queue = subst QueueIn (sym h.new_is) (seen_same k h.t (reading h.t name h.bytes) h.out.there (like_of h.t (reading h.t name h.bytes) refl refl refl refl refl) refl refl) }
+
+  exists_lawful : (x : Law f w shelf) (k : ℕ) (name : BlobName) (new : World) → CommitExists f w k name new → Lawful f new shelf
+  exists_lawful x k name new h = record { sound = exists_sound f w shelf x x.texts k name new h; queue = subst QueueIn (sym h.new_is) (seen_same k h.t (noting h.t name) h.out.there (like_of h.t (noting h.t name) refl refl refl refl refl) refl refl) }
 
   ends_lawful : (k : ℕ) (new : World) → Ends w k new → Lawful f new shelf
   ends_lawful k new h = record { sound = finish_sound f w shelf l.sound k new h; queue = subst QueueIn (sym h.new_is) (seen_same k h.t (record h.t { out = false }) h.out.there (like_ended h.t) refl refl) }
@@ -133,8 +141,10 @@ pub turn_lawful : (f : Formats) (w new : World) (shelf : List Shelved) → Law f
 turn_lawful f w new shelf law d (Stays m e) = subst (λ v. Lawful f v shelf) (sym e) law.lawful
 turn_lawful f w new shelf law d (Commits m k name h) = commit_lawful f w shelf law.lawful k name m h
 turn_lawful f w new shelf law d (CommitFails m k name h) = commit_fault_lawful f w shelf law.lawful k name m h
+turn_lawful f w new shelf law d (Finds m k name h) = exists_lawful f w shelf law.lawful law k name m h
 turn_lawful f w new shelf law d (Raises m k h) = raise_lawful f w shelf law.lawful k m h
 turn_lawful f w new shelf law d (Latests m k h) = latest_lawful f w shelf law.lawful k m h
+turn_lawful f w new shelf law d (Fetches m k name h) = fetch_lawful f w shelf law.lawful k name m h
 turn_lawful f w new shelf law d (SettlesFinal m k n t s h) = settle_final_lawful f w shelf law.lawful k n t s m h
 turn_lawful f w new shelf law d (SettlesDelete m k n t s h) = settle_delete_lawful f w shelf law.lawful k n t s m h
 turn_lawful f w new shelf law d (Elects m h) = elect_lawful f w shelf law.lawful m h
@@ -160,4 +170,4 @@ turn_lawful f w new shelf law d (Deposes m up h e) =
     subst (λ v. Lawful f v (shelf_after shelf (commands_of f w up h))) (sym e) (deposed_lawful f up (shelf_after shelf (commands_of f w up h)) (turn_lawful f w up shelf law d h))
 
 pub turn_law : (f : Formats) (w new : World) (shelf : List Shelved) → Law f w shelf → w.deposed ≡ false → (turn : Turn f w new) → Law f new (shelf_after shelf (commands_of f w new turn))
-turn_law f w new shelf law d turn = record { lawful = turn_lawful f w new shelf law d turn; ids = turn_ids f w new shelf law d turn; deletions = turn_deletions f w new shelf law turn; in_term = turn_in_term f w new law.in_term turn }
+turn_law f w new shelf law d turn = record { lawful = turn_lawful f w new shelf law d turn; ids = turn_ids f w new shelf law d turn; deletions = turn_deletions f w new shelf law turn; in_term = turn_in_term f w new law.in_term turn; written = turn_written f w new shelf law turn; texts = turn_texted f w new shelf law turn }

@@ -11,8 +11,8 @@ use Rattle.esr_model.specs.Finalize.{Finalizes, finalized_root, done_at}
 use Rattle.esr_model.specs.Reach.{Reached, ReachSnap, ReachMeta, ReachIndexMeta, ReachIndex, ReachShardSnap, ReachPart}
 use Rattle.esr_core.specs.World.{World, Op, ShardWork, Pending, Out, Done, Work, Shard, Finalize, Deleting, Drop, Ticket, Swap, AllDone, swap, swap_of, HeldIn, metadata, info_of, marked}
 use Rattle.esr_core.specs.Ready.{IsShard, Barrier, Idle}
-use Rattle.esr_core.specs.Steps.{Drew, MayCommit, IsOut, CommitDone, CommitFault, Raise, TryLatest, DoneShard, Ends, Elect, Remove, Largest, given, shard_ticket, final_ticket, noting}
-use Rattle.esr_core.specs.Turns.{Turn, Stays, Commits, CommitFails, Raises, Latests, SettlesFinal, SettlesDelete, Elects, TakesShard, TakesFinal, TakesDrop, TakesDelete, TakesCleanup, AsksCleanup, CleanDrops, DrawsShard, DrawsPlan, Dones, Ending, Fails, FailsDelete, Drops, AsksCreate, AsksDelete, Merges, Removing, Deposes, SettleDelete, TakeReadyShard, TakeReadyFinal, DrawPlan, AskCreate, Failed, Aborts, IndexId, fails, plain_ticket}
+use Rattle.esr_core.specs.Steps.{Drew, MayCommit, IsOut, CommitDone, CommitFault, Raise, TryLatest, reading, DoneShard, Ends, Elect, Remove, Largest, given, shard_ticket, final_ticket, noting, writing}
+use Rattle.esr_core.specs.Turns.{Turn, Stays, Commits, CommitFails, Finds, Raises, Latests, Fetches, SettlesFinal, SettlesDelete, Elects, TakesShard, TakesFinal, TakesDrop, TakesDelete, TakesCleanup, AsksCleanup, CleanDrops, DrawsShard, DrawsPlan, Dones, Ending, Fails, FailsDelete, Drops, AsksCreate, AsksDelete, Merges, Removing, Deposes, SettleDelete, TakeReadyShard, TakeReadyFinal, DrawPlan, AskCreate, Failed, Aborts, IndexId, fails, plain_ticket}
 use Rattle.esr_core.specs.Generations.{DoneAt, OpLaw, Carried}
 use Rattle.esr_core.specs.Ids.{OfUuid, OfId, TicketIds, OpIds, DoomedIds, Ids, IdsIn, Law}
 use Rattle.esr_model.specs.Kept.{first_id, IdsBelow, RootIds}
@@ -208,12 +208,12 @@ module _ (f : Formats) (w : World) (shelf : List Shelved) (l : Law f w shelf) wh
       }
 
   -- a ticket given anew in what isn't an id
-  quiet_ids : (k : ℕ) (t : Ticket) → fin.get w.tickets k ≡ Some t → (noted : List BlobName) (raised : Option ℕ) (tried settled out : Bool) → TicketIds f w.next_id (record t { noted = noted; raised = raised; tried_latest = tried; settled = settled; out = out })
-  quiet_ids k t there noted raised tried settled out = let h = l.ids.tickets k t there in record { drawn = h.drawn; uuid = h.uuid; index = h.index; base = h.base; copy = h.copy; own = h.own; root = h.root }
+  quiet_ids : (k : ℕ) (t : Ticket) → fin.get w.tickets k ≡ Some t → (noted : List BlobName) (wrote read : List (BlobName × Bytes)) (raised : Option ℕ) (tried settled out : Bool) → TicketIds f w.next_id (record t { noted = noted; wrote = wrote; read = read; raised = raised; tried_latest = tried; settled = settled; out = out })
+  quiet_ids k t there noted wrote read raised tried settled out = let h = l.ids.tickets k t there in record { drawn = h.drawn; uuid = h.uuid; index = h.index; base = h.base; copy = h.copy; own = h.own; root = h.root }
 
   -- a ticket that ends draws nothing more
   ended_ids : (ops : Ops) (tickets_ids : Ids f w.next_id w.blobs w.doomed w.root ops w.tickets) (k : ℕ) (t : Ticket) → fin.get w.tickets k ≡ Some t → Ids f w.next_id w.blobs w.doomed w.root ops (fin.insert w.tickets k (record t { out = false }))
-  ended_ids ops h k t there = ids_again f w.next_id w.blobs w.doomed w.root ops w.tickets h k t (record t { out = false }) there (quiet_ids k t there t.noted t.raised t.tried_latest t.settled false) refl refl (λ e. absurd (true≢false (sym e))) (λ i. i)
+  ended_ids ops h k t there = ids_again f w.next_id w.blobs w.doomed w.root ops w.tickets h k t (record t { out = false }) there (quiet_ids k t there t.noted t.wrote t.read t.raised t.tried_latest t.settled false) refl refl (λ e. absurd (true≢false (sym e))) (λ i. i)
 
   removed_ids : (o : ℕ) → Ids f w.next_id w.blobs w.doomed w.root (fin.remove w.ops o) w.tickets
   removed_ids o = ids_ops f w.next_id w.blobs w.doomed w.root w.ops w.tickets l.ids (fin.remove w.ops o) (λ p q e. let was = (left_in w.ops o p q e).1 in (l.ids.ops p q was, (p, q, was, refl)))
@@ -308,13 +308,13 @@ module _ (f : Formats) (w : World) (shelf : List Shelved) (l : Law f w shelf) wh
           doomed = settled_doomed;
           root = (l.ids.tickets k t d.may.out.there).root s d.may.is;
           ops = λ o op e. l.ids.ops o op (left_in w.ops t.op o op e).1;
-          tickets = λ j u e. elim (was_in w.tickets k (record t { settled = true }) j u e) [ inl h ↦ subst (TicketIds f w.next_id) h.1 (quiet_ids k t d.may.out.there t.noted t.raised t.tried_latest true t.out) | inr h ↦ l.ids.tickets j u h.1 ];
+          tickets = λ j u e. elim (was_in w.tickets k (record t { settled = true }) j u e) [ inl h ↦ subst (TicketIds f w.next_id) h.1 (quiet_ids k t d.may.out.there t.noted t.wrote t.read t.raised t.tried_latest true t.out) | inr h ↦ l.ids.tickets j u h.1 ];
         }
 
   settled_ids : (k n : ℕ) (t : Ticket) (s : Swap) → IsOut w k t → swap f t ≡ Some s → Ids f w.next_id w.blobs w.doomed s.root (fin.remove w.ops t.op) (fin.insert w.tickets k (record t { settled = true }))
   settled_ids k n t s out is =
       ids_root f w.next_id w.blobs w.doomed w.root (fin.remove w.ops t.op) (fin.insert w.tickets k (record t { settled = true }))
-      (ids_again f w.next_id w.blobs w.doomed w.root (fin.remove w.ops t.op) w.tickets (removed_ids t.op) k t (record t { settled = true }) out.there (quiet_ids k t out.there t.noted t.raised t.tried_latest true t.out) refl refl (λ e. e) (λ i. i))
+      (ids_again f w.next_id w.blobs w.doomed w.root (fin.remove w.ops t.op) w.tickets (removed_ids t.op) k t (record t { settled = true }) out.there (quiet_ids k t out.there t.noted t.wrote t.read t.raised t.tried_latest true t.out) refl refl (λ e. e) (λ i. i))
       s.root ((l.ids.tickets k t out.there).root s is)
 
 pub turn_ids : (f : Formats) (w new : World) (shelf : List Shelved) → Law f w shelf → w.deposed ≡ false → Turn f w new → IdsIn f new
@@ -322,13 +322,15 @@ turn_ids f w new shelf l d (Stays m e) = subst (IdsIn f) (sym e) l.ids
 turn_ids f w new shelf l d (Commits m k name h) = subst (IdsIn f) (sym h.new_is)
     (ids_again f w.next_id (fin.insert w.blobs (f.names.text name) h.bytes) w.doomed w.root w.ops w.tickets
     (ids_blobs f w.next_id w.blobs w.doomed w.root w.ops w.tickets l.ids (fin.insert w.blobs (f.names.text name) h.bytes) (blob_was f w shelf l name h.bytes h.named h.absent (commits_below f w.next_id h.t (l.ids.tickets k h.t h.out.there) name h.bytes h.may)))
-    k h.t (noting h.t name) h.out.there (quiet_ids f w shelf l k h.t h.out.there (name ∷ h.t.noted) h.t.raised h.t.tried_latest h.t.settled h.t.out) refl refl (λ e. e) (λ i. i))
+    k h.t (writing h.t name h.bytes) h.out.there (quiet_ids f w shelf l k h.t h.out.there (name ∷ h.t.noted) ((name, h.bytes) ∷ h.t.wrote) h.t.read h.t.raised h.t.tried_latest h.t.settled h.t.out) refl refl (λ e. e) (λ i. i))
 turn_ids f w new shelf l d (CommitFails m k name h) = elim h.leaves [
   | inl e ↦ subst (IdsIn f) (sym e) l.ids
   | inr e ↦ subst (IdsIn f) (sym e.1) (ids_blobs f w.next_id w.blobs w.doomed w.root w.ops w.tickets l.ids (fin.insert w.blobs (f.names.text name) h.bytes) (blob_was f w shelf l name h.bytes h.named e.0 (commits_below f w.next_id h.t (l.ids.tickets k h.t h.out.there) name h.bytes h.may)))
 ]
-turn_ids f w new shelf l d (Raises m k h) = subst (IdsIn f) (sym h.new_is) (again f w shelf l k h.t (record h.t { raised = Some w.pending }) h.out.there (quiet_ids f w shelf l k h.t h.out.there h.t.noted (Some w.pending) h.t.tried_latest h.t.settled h.t.out) refl refl (λ e. e) (λ i. i))
-turn_ids f w new shelf l d (Latests m k h) = subst (IdsIn f) (sym h.new_is) (again f w shelf l k h.t (record h.t { tried_latest = true }) h.out.there (quiet_ids f w shelf l k h.t h.out.there h.t.noted h.t.raised true h.t.settled h.t.out) refl refl (λ e. e) (λ i. i))
+turn_ids f w new shelf l d (Raises m k h) = subst (IdsIn f) (sym h.new_is) (again f w shelf l k h.t (record h.t { raised = Some w.pending }) h.out.there (quiet_ids f w shelf l k h.t h.out.there h.t.noted h.t.wrote h.t.read (Some w.pending) h.t.tried_latest h.t.settled h.t.out) refl refl (λ e. e) (λ i. i))
+turn_ids f w new shelf l d (Latests m k h) = subst (IdsIn f) (sym h.new_is) (again f w shelf l k h.t (record h.t { tried_latest = true }) h.out.there (quiet_ids f w shelf l k h.t h.out.there h.t.noted h.t.wrote h.t.read h.t.raised true h.t.settled h.t.out) refl refl (λ e. e) (λ i. i))
+turn_ids f w new shelf l d (Finds m k name h) = subst (IdsIn f) (sym h.new_is) (again f w shelf l k h.t (noting h.t name) h.out.there (quiet_ids f w shelf l k h.t h.out.there (name ∷ h.t.noted) h.t.wrote h.t.read h.t.raised h.t.tried_latest h.t.settled h.t.out) refl refl (λ e. e) (λ i. i))
+turn_ids f w new shelf l d (Fetches m k name h) = subst (IdsIn f) (sym h.new_is) (again f w shelf l k h.t (reading h.t name h.bytes) h.out.there (quiet_ids f w shelf l k h.t h.out.there h.t.noted h.t.wrote ((name, h.bytes) ∷ h.t.read) h.t.raised h.t.tried_latest h.t.settled h.t.out) refl refl (λ e. e) (λ i. i))
 turn_ids f w new shelf l d (SettlesFinal m k n t s h) = subst (IdsIn f) (sym h.new_is) (settled_ids f w shelf l k n t s h.may.out h.may.is)
 turn_ids f w new shelf l d (SettlesDelete m k n t s h) = subst (IdsIn f) (sym h.new_is) (settled_delete_ids f w shelf l k n t s m h)
 turn_ids f w new shelf l d (Elects m h) = subst (IdsIn f) (sym h.new_is) (ids_up f w.next_id (first_id (suc w.term)) (let b : w.next_id < first_id (suc w.term) = l.in_term.below in omega (arith, b)) w.blobs w.doomed w.root w.ops w.tickets l.ids)

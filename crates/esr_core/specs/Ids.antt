@@ -11,6 +11,8 @@ use Rattle.esr_model.specs.Image.{Blobs, Has, Present, Generation}
 use Rattle.esr_core.specs.World.{World, Op, Deletion, ShardWork, Done, Shard, Ticket, Swap, swap}
 use Rattle.esr_core.specs.Ready.{IsShard}
 use Rattle.esr_core.specs.Steps.{Drew}
+use Rattle.esr_core.specs.Written.{Written}
+use Rattle.esr_core.specs.Texts.{Texted}
 use Rattle.esr_core.specs.Queue.{Lawful}
 
 -- the name has this uuid of a snapshot
@@ -85,3 +87,5 @@ pub record Law (f : Formats) (w : World) (shelf : List Shelved) : Type 0 where
   pub ids : IdsIn f w
   pub deletions : DeletionIds w.next_id w.deletes
   pub in_term : InTerm w
+  pub written : Written f w.blobs w.tickets
+  pub texts : Texted f w.blobs w.ops w.tickets

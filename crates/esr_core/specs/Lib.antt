@@ -7,5 +7,6 @@ pub mod Sound
 pub mod Doomed
 pub mod Texts
 pub mod Queue
+pub mod Written
 pub mod Ids
 pub mod Turns

@@ -2,8 +2,8 @@
 use Rattle.std.specs.Prelude.{◌≡◌, ◌≢◌, Bool, ℕ, suc, ◌+◌, ◌<◌, ◌≤◌, ◌⊎◌, true, false, List, [], ◌∷◌, ◌++◌, Option, Some, None, map, nat_lt, if◌then◌else◌, ◌==◌, ◌&&◌}
 use Rattle.std.specs.FinMap as fin
 use Rattle.esr_model.specs.Names.{BlobName, Root, Latest, Snap, Meta, IndexMeta, ShardSnap, ShardIndex, File, Part, TestMaster, TestNode}
-use Rattle.esr_model.specs.Values.{Bytes, RootData, FileEntry, SnapList, ShardFiles, ShardSnapshot, ShardResult, ReadsBack, Formats}
-use Rattle.esr_model.specs.Shelf.{Command}
+use Rattle.esr_model.specs.Values.{Bytes, RootData, SnapInfo, FileEntry, SnapList, ShardFiles, ShardSnapshot, ShardResult, ReadsBack, Formats}
+use Rattle.esr_model.specs.Shelf.{Shelved, Command}
 use Rattle.esr_model.specs.Image.{Blobs, Has, AllPairs, At, Present, Reads, Lists, FileStands}
 use Rattle.esr_model.specs.Kept.{first_id}
 use Rattle.esr_model.specs.Finalize.{finalized_root}
@@ -59,14 +59,19 @@ with_blob f w name bytes = record w { blobs = fin.insert w.blobs (f.names.text n
 abbrev pub noting : Ticket → BlobName → Ticket
 noting t name = record t { noted = name ∷ t.noted }
 
+abbrev pub writing : Ticket → BlobName → Bytes → Ticket
+writing t name bytes = record t { noted = name ∷ t.noted; wrote = (name, bytes) ∷ t.wrote }
+
 -- a finalization's blob that is there counts as written
 pub record CommitExists (f : Formats) (w : World) (k : ℕ) (name : BlobName) (new : World) : Type 0 where
   pub t : Ticket
   pub out : IsOut w k t
-  pub s : Swap
-  pub is : swap f t ≡ Some s
+  pub info : SnapInfo
+  pub results : List ShardResult
+  pub made : Shelved
+  pub work : t.work ≡ Finalize info results made
   pub bytes : Bytes
-  pub own : Has s.own (name, bytes)
+  pub own : Has (metadata f info) (name, bytes)
   pub there : Present f w.blobs name
   pub new_is : new ≡ with_ticket w k (noting t name)
 
@@ -83,6 +88,8 @@ final_ticket f w o op results =
       first = 0;
       drawn = 0;
       noted = [];
+      wrote = [];
+      read = [];
       raised = None;
       tried_latest = false;
       settled = false;
@@ -97,7 +104,7 @@ pub record CommitDone (f : Formats) (w : World) (k : ℕ) (name : BlobName) (new
   pub named : ReadsBack f.names name
   pub may : MayCommit f t name bytes
   pub absent : fin.get w.blobs (f.names.text name) ≡ None
-  pub new_is : new ≡ with_ticket (with_blob f w name bytes) k (noting t name)
+  pub new_is : new ≡ with_ticket (with_blob f w name bytes) k (writing t name bytes)
 
 pub record CommitFault (f : Formats) (w : World) (k : ℕ) (name : BlobName) (new : World) : Type 0 where
   pub t : Ticket
@@ -208,6 +215,17 @@ pub record TryLatest (f : Formats) (w : World) (k : ℕ) (new : World) : Type 0 
   pub unsettled : t.settled ≡ false
   pub new_is : new ≡ with_ticket w k (record t { tried_latest = true })
 
+-- a blob that is there is fetched
+abbrev pub reading : Ticket → BlobName → Bytes → Ticket
+reading t name bytes = record t { read = (name, bytes) ∷ t.read }
+
+pub record FetchFound (f : Formats) (w : World) (k : ℕ) (name : BlobName) (new : World) : Type 0 where
+  pub t : Ticket
+  pub out : IsOut w k t
+  pub bytes : Bytes
+  pub there : At f w.blobs name bytes
+  pub new_is : new ≡ with_ticket w k (reading t name bytes)
+
 -- a settled swap ends, or a unit of an older term
 pub record Ends (w : World) (k : ℕ) (new : World) : Type 0 where
   pub t : Ticket
@@ -238,6 +256,8 @@ shard_ticket w o op s base =
       first = 0;
       drawn = 0;
       noted = [];
+      wrote = [];
+      read = [];
       raised = None;
       tried_latest = false;
       settled = false;

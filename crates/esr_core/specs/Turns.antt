@@ -18,7 +18,7 @@ use Rattle.esr_core.specs.Swaps.{SwapShape}
 use Rattle.esr_core.specs.World.{World, Ticket, Op, Deletion, ShardWork, ShardState, Pending, Out, Done, GivenUp, Work, Shard, Finalize, Deleting, Drop, Swap, swap, marked, info_of, metadata, HeldIn}
 use Rattle.esr_core.specs.Ready.{IsShard, IsMaster, ReadyShard, ReadyFinalize, ReadyDrop, ReadyDelete, ReadyCleanup, UnitIsOut}
 use Rattle.esr_core.specs.Queue.{Lists}
-use Rattle.esr_core.specs.Steps.{IsOut, Largest, given, shard_ticket, final_ticket, with_ticket, completing, settled, MaySettle, CommitDone, CommitFault, Raise, Elect, TryLatest, Drew, ExtendsBase, Ends, Remove}
+use Rattle.esr_core.specs.Steps.{IsOut, Largest, given, shard_ticket, final_ticket, with_ticket, completing, settled, MaySettle, CommitDone, CommitFault, CommitExists, Raise, Elect, TryLatest, FetchFound, Drew, ExtendsBase, Ends, Remove}
 
 -- take: the four kinds of unit
 pub record TakeReadyShard (w : World) (o : ℕ) (op : Op) (s : ShardWork) (base : Option ℕ) (new : World) : Type 0 where
@@ -45,6 +45,8 @@ plain_ticket w o work =
       first = 0;
       drawn = 0;
       noted = [];
+      wrote = [];
+      read = [];
       raised = None;
       tried_latest = false;
       settled = false;
@@ -295,8 +297,10 @@ pub data Turn (f : Formats) (w : World) : World → Type 0 where
   Stays : (new : World) → new ≡ w → Turn f w new
   Commits : (new : World) → (k : ℕ) (name : BlobName) → CommitDone f w k name new → Turn f w new
   CommitFails : (new : World) → (k : ℕ) (name : BlobName) → CommitFault f w k name new → Turn f w new
+  Finds : (new : World) → (k : ℕ) (name : BlobName) → CommitExists f w k name new → Turn f w new
   Raises : (new : World) → (k : ℕ) → Raise f w k new → Turn f w new
   Latests : (new : World) → (k : ℕ) → TryLatest f w k new → Turn f w new
+  Fetches : (new : World) → (k : ℕ) (name : BlobName) → FetchFound f w k name new → Turn f w new
   SettlesFinal : (new : World) → (k n : ℕ) (t : Ticket) (s : Swap) → SettleFinal f w k n t s new → Turn f w new
   SettlesDelete : (new : World) → (k n : ℕ) (t : Ticket) (s : Swap) → SettleDelete f w k n t s new → Turn f w new
   Elects : (new : World) → Elect w new → Turn f w new
@@ -329,8 +333,10 @@ commands_of f w new (Deposes m up h e) = commands_of f w up h
 commands_of f w new (Stays m e) = []
 commands_of f w new (Commits m k name h) = []
 commands_of f w new (CommitFails m k name h) = []
+commands_of f w new (Finds m k name h) = []
 commands_of f w new (Raises m k h) = []
 commands_of f w new (Latests m k h) = []
+commands_of f w new (Fetches m k name h) = []
 commands_of f w new (Elects m h) = []
 commands_of f w new (TakesShard m o op s base h) = []
 commands_of f w new (TakesFinal m o op results h) = []

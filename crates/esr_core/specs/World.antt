@@ -71,6 +71,10 @@ pub record Ticket : Type 0 where
   pub drawn : ℕ
   -- the names that it committed, or found as Exists
   pub noted : List BlobName
+  -- the blobs that it committed
+  pub wrote : List (BlobName × Bytes)
+  -- the blobs that it fetched, as they were then
+  pub read : List (BlobName × Bytes)
   pub raised : Option ℕ
   pub tried_latest : Bool
   pub settled : Bool

@@ -1,0 +1,208 @@
+-- Each turn keeps what the tickets of shards have committed.
+use Rattle.std.proofs.Common.{◌≡◌, ◌≢◌, ◌⊎◌, ℕ, suc, ◌+◌, ◌<◌, ◌≤◌, List, [], ◌∷◌, Bool, true, false, true≢false, Option, Some, None, refl, sym, ap, ◌∙◌, subst, inl, inr, arith, nat_cmp}
+use Rattle.std.specs.FinMap.{FinMap}
+use Rattle.std.specs.FinMap as fin
+use Rattle.esr_model.specs.Names.{BlobName, Root, Latest, Snap, Meta, IndexMeta, ShardSnap, ShardIndex, File, Part, TestMaster, TestNode}
+use Rattle.esr_model.specs.Values.{Bytes, Has, RootData, ReadsBack, Formats}
+use Rattle.esr_model.specs.Shelf.{Shelved}
+use Rattle.esr_model.specs.Image.{Blobs, At}
+use Rattle.esr_core.specs.World.{World, Work, Shard, Finalize, Deleting, Drop, Ticket, Swap, swap, swap_of, HeldIn}
+use Rattle.esr_core.specs.Ready.{IsShard}
+use Rattle.esr_core.specs.Steps.{Drew, ShardCommits, MayCommit, CommitDone, CommitFault, Remove, FetchFound, reading, writing, noting, shard_ticket, final_ticket}
+use Rattle.esr_core.specs.Generations.{Base, ShardLaw}
+use Rattle.esr_core.specs.Ids.{OfUuid, OfId, Law}
+use Rattle.esr_core.specs.Written.{WroteLaw, Written}
+use Rattle.esr_core.specs.Turns.{DrawShard, plain_ticket, Turn, Stays, Commits, CommitFails, Finds, Raises, Latests, Fetches, SettlesFinal, SettlesDelete, Elects, TakesShard, TakesFinal, TakesDrop, TakesDelete, TakesCleanup, AsksCleanup, CleanDrops, DrawsShard, DrawsPlan, Dones, Ending, Fails, FailsDelete, Drops, AsksCreate, AsksDelete, Merges, Removing, Deposes}
+use Rattle.esr_core.proofs.Adds.{at_kept, at_new}
+use Rattle.esr_core.proofs.Reading.{none_some}
+use Rattle.esr_core.proofs.Queues.{Tickets, was_in}
+
+-- another ticket of the same unit that drew as much
+again : (t v : Ticket) → v.work ≡ t.work → v.uuid ≡ t.uuid → v.first ≡ t.first → v.drawn ≡ t.drawn → (name : BlobName) → ShardCommits t name → ShardCommits v name
+again t v w u f d (Root n) h = h
+again t v w u f d Latest h = h
+again t v w u f d (Snap x) h = h
+again t v w u f d (Meta x) h = h
+again t v w u f d (IndexMeta i x) h = h
+again t v w u f d (ShardSnap i k x) h = (w ∙ h.0, h.1 ∙ sym u)
+again t v w u f d (ShardIndex i k g) h = (w ∙ h.0, record { from = subst (λ n. n ≤ g) (sym f) h.1.from; below = subst (λ n. g < n) (sym (λ j. f j + d j)) h.1.below })
+again t v w u f d (File i k x) h = (w ∙ h.0, record { from = subst (λ n. n ≤ x) (sym f) h.1.from; below = subst (λ n. x < n) (sym (λ j. f j + d j)) h.1.below })
+again t v w u f d (Part i k x p) h = (w ∙ h.0, record { from = subst (λ n. n ≤ x) (sym f) h.1.from; below = subst (λ n. x < n) (sym (λ j. f j + d j)) h.1.below })
+again t v w u f d (TestMaster x) h = h
+again t v w u f d (TestNode x n) h = h
+
+-- before its draw a ticket commits its snapshot alone
+early : (t v : Ticket) → v.work ≡ t.work → v.uuid ≡ t.uuid → t.drawn ≡ 0 → (name : BlobName) → ShardCommits t name → ShardCommits v name
+early t v w u none (Root n) h = h
+early t v w u none Latest h = h
+early t v w u none (Snap x) h = h
+early t v w u none (Meta x) h = h
+early t v w u none (IndexMeta i x) h = h
+early t v w u none (ShardSnap i k x) h = (w ∙ h.0, h.1 ∙ sym u)
+early t v w u none (ShardIndex i k g) h = absurd (let a : t.first ≤ g = h.1.from in let b : g < t.first + t.drawn = h.1.below in omega (arith, none))
+early t v w u none (File i k x) h = absurd (let a : t.first ≤ x = h.1.from in let b : x < t.first + t.drawn = h.1.below in omega (arith, none))
+early t v w u none (Part i k x p) h = absurd (let a : t.first ≤ x = h.1.from in let b : x < t.first + t.drawn = h.1.below in omega (arith, none))
+early t v w u none (TestMaster x) h = h
+early t v w u none (TestNode x n) h = h
+
+module _ (f : Formats) (blobs : Blobs) (tickets : Tickets) (h : Written f blobs tickets) where
+  -- a ticket
+  put : (k : ℕ) (v : Ticket) → (v.out ≡ true → IsShard v.work → WroteLaw f blobs v) → Written f blobs (fin.insert tickets k v)
+  put k v mine j u e out shard = elim (was_in tickets k v j u e) [
+    | inl z ↦ subst (WroteLaw f blobs) z.1 (mine (ap (λ (x : Ticket). x.out) z.1 ∙ out) (subst (λ (x : Ticket). IsShard x.work) (sym z.1) shard))
+    | inr z ↦ h j u z.1 out shard
+  ]
+
+  -- one given anew in what its blobs don't read
+  same : (k : ℕ) (t v : Ticket) → fin.get tickets k ≡ Some t → (v.out ≡ true → t.out ≡ true) → v.wrote ≡ t.wrote → v.read ≡ t.read → v.base ≡ t.base → v.work ≡ t.work → v.uuid ≡ t.uuid → v.first ≡ t.first → v.drawn ≡ t.drawn → Written f blobs (fin.insert tickets k v)
+  same k t v there out wrote read base work uuid first drawn = put k v (λ o s.
+      let old = h k t there (out o) (subst IsShard work s) in
+      record { there = λ name b m. old.there name b (subst (λ xs. Has xs (name, b)) wrote m); own = λ name b m. again t v work uuid first drawn name (old.own name b (subst (λ xs. Has xs (name, b)) wrote m)); base = λ i s g b is at m. old.base i s g b (sym work ∙ is) (sym base ∙ at) (subst (λ xs. Has xs (ShardIndex i s g, b)) read m) })
+
+  -- one that has ended
+  ended : (k : ℕ) (v : Ticket) → v.out ≡ false → Written f blobs (fin.insert tickets k v)
+  ended k v e = put k v (λ o s. absurd (true≢false (sym o ∙ e)))
+
+  -- a new one
+  new_one : (k : ℕ) (v : Ticket) → v.wrote ≡ [] → v.read ≡ [] → Written f blobs (fin.insert tickets k v)
+  new_one k v none unread =
+      put k v (λ o s. record { there = λ name b m. absurd (subst (λ xs. Has xs (name, b)) none m); own = λ name b m. absurd (subst (λ xs. Has xs (name, b)) none m); base = λ i x g b is at m. absurd (subst (λ xs. Has xs (ShardIndex i x g, b)) unread m) })
+
+-- of a ticket that is no shard's
+no_shard : (f : Formats) (blobs : Blobs) (v : Ticket) → (IsShard v.work → ⊥) → v.out ≡ true → IsShard v.work → WroteLaw f blobs v
+no_shard f blobs v not o s = absurd (not s)
+
+no_swap : (f : Formats) (work : Work) (root : RootData) (s : Swap) → swap_of f work root ≡ Some s → IsShard work → ⊥
+no_swap f (Shard i k) root s e h = none_some s e
+no_swap f (Finalize info results made) root s e h = h
+no_swap f (Deleting uuids plan) root s e h = h
+no_swap f Drop root s e h = h
+
+module _ (f : Formats) (w : World) (shelf : List Shelved) (l : Law f w shelf) (h : Written f w.blobs w.tickets) where
+  -- with a blob more
+  grown : (name : BlobName) (bytes : Bytes) → ReadsBack f.names name → fin.get w.blobs (f.names.text name) ≡ None → Written f (fin.insert w.blobs (f.names.text name) bytes) w.tickets
+  grown name bytes named absent j u e out shard =
+      let old = h j u e out shard in
+      record { there = λ m b has. at_kept f w.blobs name bytes named absent [] m b (old.there m b has); own = old.own; base = λ i s g b is at has. at_kept f w.blobs name bytes named absent [] (ShardIndex i s g) b (old.base i s g b is at has) }
+
+  committed : (k : ℕ) (name : BlobName) (new : World) → CommitDone f w k name new → Written f new.blobs new.tickets
+  committed k name new c = subst (λ (x : World). Written f x.blobs x.tickets) (sym c.new_is)
+      (put f (fin.insert w.blobs (f.names.text name) c.bytes) w.tickets (grown name c.bytes c.named c.absent) k (writing c.t name c.bytes) mine)
+    where
+      mine : c.t.out ≡ true → IsShard c.t.work → WroteLaw f (fin.insert w.blobs (f.names.text name) c.bytes) (writing c.t name c.bytes)
+      mine out shard =
+          let old = grown name c.bytes c.named c.absent k c.t c.out.there out shard in
+          record {
+            there = λ m b has. elim has [
+              | inl e ↦
+                  let names : name ≡ m = ap (λ (p : BlobName × Bytes). p.0) e in
+                  let texts : c.bytes ≡ b = ap (λ (p : BlobName × Bytes). p.1) e in
+                  subst (λ n. At f (fin.insert w.blobs (f.names.text name) c.bytes) n b) names (subst (At f (fin.insert w.blobs (f.names.text name) c.bytes) name) texts (at_new f w.blobs name c.bytes c.named c.absent []))
+              | inr was ↦ old.there m b was
+            ];
+            own = λ m b has. again c.t (writing c.t name c.bytes) refl refl refl refl m (elim has [
+              | inl e ↦ subst (ShardCommits c.t) (ap (λ (p : BlobName × Bytes). p.0) e) (allowed c.may)
+              | inr was ↦ old.own m b was
+            ]);
+            base = old.base;
+          }
+        where
+          allowed : MayCommit f c.t name c.bytes → ShardCommits c.t name
+          allowed (inl s) = absurd (no_swap f c.t.work c.t.root s.0 s.1 shard)
+          allowed (inr m) = m.1
+
+  -- what a shard's ticket commits is not doomed
+  pub not_doomed : (k : ℕ) (t : Ticket) → fin.get w.tickets k ≡ Some t → t.out ≡ true → (name : BlobName) → ShardCommits t name → Has w.doomed name → ⊥
+  not_doomed k t there out name may doomed = go name may doomed
+    where
+      drawn : (n : BlobName) (id : ℕ) → IsShard t.work → Drew t id → OfId n id → Has w.doomed n → ⊥
+      drawn n id shard drew of m = (l.ids.doomed n m).ids k t there out shard id drew of
+
+      is_shard : (i s : ℕ) → t.work ≡ Shard i s → IsShard t.work
+      is_shard i s e = subst IsShard (sym e) tt
+
+      go : (n : BlobName) → ShardCommits t n → Has w.doomed n → ⊥
+      go (Root n) m d = m
+      go Latest m d = m
+      go (Snap u) m d = m
+      go (Meta u) m d = m
+      go (IndexMeta i u) m d = m
+      go (ShardSnap i s u) m d =
+          let law = l.lawful.sound.carried.shards k t there out i s m.0 in
+          (l.ids.doomed (ShardSnap i s u) d).uuids t.op law.op law.op_there (m.1 ∙ sym law.uuid_is)
+      go (ShardIndex i s g) m d = drawn (ShardIndex i s g) g (is_shard i s m.0) m.1 refl d
+      go (File i s x) m d = drawn (File i s x) x (is_shard i s m.0) m.1 refl d
+      go (Part i s x p) m d = drawn (Part i s x p) x (is_shard i s m.0) m.1 refl d
+      go (TestMaster v) m d = m
+      go (TestNode v n) m d = m
+
+  -- nor its base
+  base_held : (k : ℕ) (t : Ticket) → fin.get w.tickets k ≡ Some t → t.out ≡ true → (i s g : ℕ) → t.work ≡ Shard i s → t.base ≡ Some g → Has w.doomed (ShardIndex i s g) → ⊥
+  base_held k t there out i s g is at =
+      let law = l.lawful.sound.carried.shards k t there out i s is in
+      let base : Base f (HeldIn f w) w.root w.ops i s (Some g) = subst (Base f (HeldIn f w) w.root w.ops i s) at law.base in
+      base.1.stands.held_reads.there.1
+
+  fetched : (k : ℕ) (name : BlobName) (new : World) → FetchFound f w k name new → Written f new.blobs new.tickets
+  fetched k name new c = subst (λ (x : World). Written f x.blobs x.tickets) (sym c.new_is) (put f w.blobs w.tickets h k (reading c.t name c.bytes) mine)
+    where
+      mine : c.t.out ≡ true → IsShard c.t.work → WroteLaw f w.blobs (reading c.t name c.bytes)
+      mine out shard =
+          let old = h k c.t c.out.there out shard in
+          record {
+            there = old.there;
+            own = λ m b has. again c.t (reading c.t name c.bytes) refl refl refl refl m (old.own m b has);
+            base = λ i s g b is at has. elim has [
+              | inl e ↦ subst (λ (p : BlobName × Bytes). At f w.blobs p.0 p.1) e c.there
+              | inr was ↦ old.base i s g b is at was
+            ];
+          }
+
+  removed : (k : ℕ) (names : List BlobName) (new : World) → Remove f w k names new → Written f new.blobs new.tickets
+  removed k names new r = subst (λ (x : World). Written f x.blobs x.tickets) (sym r.new_is) (λ j u e out shard.
+      let old = h j u e out shard in
+      record { there = λ m b has. r.removes.stays m b (old.there m b has) (λ named. not_doomed j u e out m (old.own m b has) (r.doomed m named)); own = old.own; base = λ i s g b is at has. r.removes.stays (ShardIndex i s g) b (old.base i s g b is at has) (λ named. base_held j u e out i s g is at (r.doomed (ShardIndex i s g) named)) })
+
+  drawn_shard : (k n : ℕ) (new : World) → DrawShard w k n new → Written f new.blobs new.tickets
+  drawn_shard k n new d = subst (λ (x : World). Written f x.blobs x.tickets) (sym d.new_is)
+      (put f w.blobs w.tickets h k (record d.t { first = w.next_id; drawn = n }) (λ o s.
+      let old = h k d.t d.out.there d.out.out s in
+      record { there = old.there; own = λ m b has. early d.t (record d.t { first = w.next_id; drawn = n }) refl refl d.once m (old.own m b has); base = old.base }))
+
+turned : (f : Formats) (w new : World) (shelf : List Shelved) → Law f w shelf → Written f w.blobs w.tickets → Turn f w new → Written f new.blobs new.tickets
+turned f w new shelf l h (Stays m e) = subst (λ (x : World). Written f x.blobs x.tickets) (sym e) h
+turned f w new shelf l h (Commits m k name c) = committed f w shelf l h k name m c
+turned f w new shelf l h (CommitFails m k name c) = elim c.leaves [
+  | inl e ↦ subst (λ (x : World). Written f x.blobs x.tickets) (sym e) h
+  | inr e ↦ subst (λ (x : World). Written f x.blobs x.tickets) (sym e.1) (grown f w shelf l h name c.bytes c.named e.0)
+]
+turned f w new shelf l h (Finds m k name d) = subst (λ (x : World). Written f x.blobs x.tickets) (sym d.new_is) (same f w.blobs w.tickets h k d.t (noting d.t name) d.out.there (λ o. o) refl refl refl refl refl refl refl)
+turned f w new shelf l h (Raises m k d) = subst (λ (x : World). Written f x.blobs x.tickets) (sym d.new_is) (same f w.blobs w.tickets h k d.t (record d.t { raised = Some w.pending }) d.out.there (λ o. o) refl refl refl refl refl refl refl)
+turned f w new shelf l h (Latests m k d) = subst (λ (x : World). Written f x.blobs x.tickets) (sym d.new_is) (same f w.blobs w.tickets h k d.t (record d.t { tried_latest = true }) d.out.there (λ o. o) refl refl refl refl refl refl refl)
+turned f w new shelf l h (Fetches m k name c) = fetched f w shelf l h k name m c
+turned f w new shelf l h (SettlesFinal m k n t s d) = subst (λ (x : World). Written f x.blobs x.tickets) (sym d.new_is) (same f w.blobs w.tickets h k t (record t { settled = true }) d.may.out.there (λ o. o) refl refl refl refl refl refl refl)
+turned f w new shelf l h (SettlesDelete m k n t s d) = subst (λ (x : World). Written f x.blobs x.tickets) (sym d.new_is) (same f w.blobs w.tickets h k t (record t { settled = true }) d.may.out.there (λ o. o) refl refl refl refl refl refl refl)
+turned f w new shelf l h (Elects m d) = subst (λ (x : World). Written f x.blobs x.tickets) (sym d.new_is) h
+turned f w new shelf l h (TakesShard m o op s base d) = subst (λ (x : World). Written f x.blobs x.tickets) (sym d.new_is) (new_one f w.blobs w.tickets h w.next_ticket (shard_ticket w o op s base) refl refl)
+turned f w new shelf l h (TakesFinal m o op results d) = subst (λ (x : World). Written f x.blobs x.tickets) (sym d.new_is) (new_one f w.blobs w.tickets h w.next_ticket (final_ticket f w o op results) refl refl)
+turned f w new shelf l h (TakesDrop m o d) = subst (λ (x : World). Written f x.blobs x.tickets) (sym d.new_is) (new_one f w.blobs w.tickets h w.next_ticket (plain_ticket w o Drop) refl refl)
+turned f w new shelf l h (TakesDelete m n x d) = subst (λ (x : World). Written f x.blobs x.tickets) (sym d.new_is) (new_one f w.blobs w.tickets h w.next_ticket (plain_ticket w n (Deleting x.uuids None)) refl refl)
+turned f w new shelf l h (TakesCleanup m n x d) = subst (λ (x : World). Written f x.blobs x.tickets) (sym d.new_is) (new_one f w.blobs w.tickets h w.next_ticket (plain_ticket w n (Deleting x.uuids None)) refl refl)
+turned f w new shelf l h (DrawsShard m k n d) = drawn_shard f w shelf l h k n m d
+turned f w new shelf l h (DrawsPlan m k n d) = subst (λ (x : World). Written f x.blobs x.tickets) (sym d.new_is)
+    (put f w.blobs w.tickets h k (record d.t { first = w.next_id; drawn = n; work = Deleting d.named (Some (record { root = d.root; own = d.own; commands = d.commands })) }) (λ o s. absurd s))
+turned f w new shelf l h (Dones m k r d) = subst (λ (x : World). Written f x.blobs x.tickets) (sym d.new_is) (ended f w.blobs w.tickets h k (record d.t { out = false }) refl)
+turned f w new shelf l h (Ending m k d) = subst (λ (x : World). Written f x.blobs x.tickets) (sym d.new_is) (ended f w.blobs w.tickets h k (record d.t { out = false }) refl)
+turned f w new shelf l h (Fails m k d) = subst (λ (x : World). Written f x.blobs x.tickets) (sym d.new_is) (ended f w.blobs w.tickets h k (record d.t { out = false }) refl)
+turned f w new shelf l h (FailsDelete m k d) = subst (λ (x : World). Written f x.blobs x.tickets) (sym d.new_is) (ended f w.blobs w.tickets h k (record d.t { out = false }) refl)
+turned f w new shelf l h (Drops m k d) = subst (λ (x : World). Written f x.blobs x.tickets) (sym d.new_is) (ended f w.blobs w.tickets h k (record d.t { out = false }) refl)
+turned f w new shelf l h (AsksCleanup m d) = subst (λ (x : World). Written f x.blobs x.tickets) (sym d.new_is) h
+turned f w new shelf l h (CleanDrops m k d) = subst (λ (x : World). Written f x.blobs x.tickets) (sym d.new_is) (ended f w.blobs w.tickets h k (record d.t { out = false }) refl)
+turned f w new shelf l h (AsksCreate m op d) = subst (λ (x : World). Written f x.blobs x.tickets) (sym d.new_is) h
+turned f w new shelf l h (AsksDelete m uuids d) = subst (λ (x : World). Written f x.blobs x.tickets) (sym d.new_is) h
+turned f w new shelf l h (Merges m uuids n d) = subst (λ (x : World). Written f x.blobs x.tickets) (sym d.new_is) h
+turned f w new shelf l h (Removing m k names d) = removed f w shelf l h k names m d
+turned f w new shelf l h (Deposes m up d e) = subst (λ (x : World). Written f x.blobs x.tickets) (sym e) (turned f w up shelf l h d)
+
+pub turn_written : (f : Formats) (w new : World) (shelf : List Shelved) → Law f w shelf → Turn f w new → Written f new.blobs new.tickets
+turn_written f w new shelf l turn = turned f w new shelf l l.written turn
