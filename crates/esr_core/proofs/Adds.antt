@@ -5,20 +5,20 @@ use Rattle.std.specs.FinMap as fin
 use Rattle.esr_model.specs.Names.{BlobName, Root}
 use Rattle.esr_model.specs.Values.{Bytes, Ledger, ReadsBack, Formats}
 use Rattle.esr_model.specs.Shelf.{Shelved, shelf_after}
-use Rattle.esr_model.specs.Image.{Blobs, At, Whole, KeptBy}
+use Rattle.esr_model.specs.Image.{IsStored, Blobs, At, Whole, KeptBy}
 use Rattle.esr_core.specs.World.{Ticket, Swap, Safely}
 use Rattle.esr_core.specs.Swaps.{OrOwn, SwapLaw, TicketLaw}
 use Rattle.esr_core.proofs.Maps.{get_was, get_same, get_kept, texts_same}
 use Rattle.esr_core.proofs.Reading.{some_same}
 use Rattle.esr_core.proofs.Frames.{root_kept, picked_kept, stands_kept}
 
-module _ (f : Formats) (blobs : Blobs) (name : BlobName) (bytes : Bytes) (named : ReadsBack f.names name) (absent : fin.get blobs (f.names.text name) ≡ None) (doomed : List BlobName) where
+-- a text is that of one name
+pub text_one : (f : Formats) (a b : BlobName) → ReadsBack f.names a → ReadsBack f.names b → f.names.text a ≡ f.names.text b → a ≡ b
+text_one f a b p q same = some_same a b (sym p ∙ ap f.names.read same ∙ q)
+
+module _ (f : Formats) (blobs : Blobs) (name : BlobName) (bytes : Bytes) (named : IsStored f name) (absent : fin.get blobs (f.names.text name) ≡ None) (doomed : List BlobName) where
   abbrev pub added : Blobs
   added = fin.insert blobs (f.names.text name) bytes
-
-  -- a text is that of one name
-  one_name : (a b : BlobName) → ReadsBack f.names a → ReadsBack f.names b → f.names.text a ≡ f.names.text b → a ≡ b
-  one_name a b p q same = some_same a b (sym p ∙ ap f.names.read same ∙ q)
 
   pub at_kept : (m : BlobName) (b : Bytes) → At f blobs m b → At f added m b
   at_kept m b h = (get_kept nat_list_cmp_total texts_same blobs (f.names.text name) bytes (f.names.text m) b absent h.0, h.1)
@@ -28,7 +28,7 @@ module _ (f : Formats) (blobs : Blobs) (name : BlobName) (bytes : Bytes) (named 
 
   pub at_was : (m : BlobName) (b : Bytes) → At f added m b → ((m ≡ name) × (bytes ≡ b)) ⊎ At f blobs m b
   at_was m b h = elim (get_was nat_list_cmp_total texts_same blobs (f.names.text name) bytes (f.names.text m) b h.0) [
-    | inl e ↦ inl (one_name m name h.1 named e.0, e.1)
+    | inl e ↦ inl (text_one f m name h.1.0 named.0 e.0, e.1)
     | inr e ↦ inr (e.1, h.1)
   ]
 
@@ -54,7 +54,7 @@ module _ (f : Formats) (blobs : Blobs) (name : BlobName) (bytes : Bytes) (named 
         picked = picked_kept f was now safe_kept ledger.safe shelf h.picked;
         begun = λ n p. elim (at_was (Root n) p.0 p.1) [ inl e ↦ (root n (sym e.0)).0 | inr e ↦ h.begun n (p.0, e) ];
         whole = λ n p above. elim (at_was (Root n) p.0 p.1) [ inl e ↦ (root n (sym e.0)).1 above | inr e ↦ whole_kept n (h.whole n (p.0, e) above) ];
-        named = λ text b there. elim (get_was nat_list_cmp_total texts_same blobs (f.names.text name) bytes text b there) [ inl e ↦ (name, sym e.0, named) | inr e ↦ h.named text b e.1 ];
+        named = λ text b there. elim (get_was nat_list_cmp_total texts_same blobs (f.names.text name) bytes text b there) [ inl e ↦ (name, sym e.0, named.0) | inr e ↦ h.named text b e.1 ];
       }
 
   or_own_kept : (own : List (BlobName × Bytes)) (m : BlobName) (b : Bytes) → OrOwn was own m b → OrOwn now own m b

@@ -14,6 +14,7 @@ use Rattle.esr_core.specs.Generations.{DoneAt, IsLive, Carries, Base, OpLaw, Sha
 use Rattle.esr_core.specs.Sound.{Sound}
 use Rattle.esr_core.specs.Queue.{Queue, QueueIn, Lawful}
 use Rattle.esr_core.proofs.Reading.{some_same}
+use Rattle.esr_core.proofs.Ordered.{shard_ref}
 use Rattle.esr_core.proofs.Queues.{Ops, Deletes, was_in, same_in, other_in, split_at, Evolves, queue_ops, queued_back, queue_add, queue_add_delete, queue_delete}
 use Rattle.esr_core.proofs.Evolving.{pending_out, pending_done, completing_has, completing_more, completing_was, results_of}
 
@@ -56,7 +57,7 @@ module _ (f : Formats) (w : World) (shelf : List Shelved) (l : Lawful f w shelf)
         unlisted = apart_from.unlisted;
         unused = apart_from.unused;
         one_id = one_id;
-        distinct = d.distinct;
+        distinct = λ s z sm zm i n. d.distinct s z sm zm (one_id s.ref z.ref (shard_ref op s sm d.places) (shard_ref op z zm d.places) i) n;
         same_name = apart_from.same_name;
       }
 

@@ -4,7 +4,7 @@ use Rattle.std.specs.FinMap as fin
 use Rattle.esr_model.specs.Names.{BlobName, Root}
 use Rattle.esr_model.specs.Values.{Bytes, Ledger, ReadsBack, Formats}
 use Rattle.esr_model.specs.Shelf.{Shelved, shelf_after}
-use Rattle.esr_model.specs.Image.{Blobs, Has, At, Whole, RootStands}
+use Rattle.esr_model.specs.Image.{IsStored, Blobs, Has, At, Whole, RootStands}
 use Rattle.esr_core.specs.World.{World, Ticket, Swap, swap, ledger_of, HeldIn, Safely}
 use Rattle.esr_core.specs.Steps.{CommitDone, CommitFault, MayCommit, ShardCommits, with_ticket, with_blob, writing}
 use Rattle.esr_core.specs.Swaps.{Rooted, SwapLaw, TicketLaw, IsUnsettled, Counts, OrOwn}
@@ -29,7 +29,7 @@ written f has shelf names s l ready = root_kept f (OrOwn has s.own) has there s.
 
 -- a new root by a ticket that is out is whole, where it is above the safe one
 root_whole : (f : Formats) (blobs : Blobs) (ledger : Ledger) (shelf : List Shelved) (t : Ticket) (name : BlobName) (bytes : Bytes)
-    (valid : ReadsBack f.names name) (absent : fin.get blobs (f.names.text name) ≡ None) (doomed : List BlobName) → TicketLaw f (Safely f blobs doomed) doomed ledger shelf t → t.out ≡ true → MayCommit f t name bytes
+    (valid : IsStored f name) (absent : fin.get blobs (f.names.text name) ≡ None) (doomed : List BlobName) → TicketLaw f (Safely f blobs doomed) doomed ledger shelf t → t.out ≡ true → MayCommit f t name bytes
     → (n : ℕ) → name ≡ Root n → (n < ledger.pending) × (ledger.safe ≤ n → Whole f (now f blobs name bytes valid absent doomed) n)
 root_whole f blobs ledger shelf t name bytes valid absent doomed l out (inr other) n e = absurd (subst (ShardCommits t) e other.1)
 root_whole f blobs ledger shelf t name bytes valid absent doomed l out (inl (s, is, inr (m, named, new))) n e =
@@ -54,7 +54,7 @@ root_whole f blobs ledger shelf t name bytes valid absent doomed l out (inl (s, 
 
 -- the ticket that committed, with the name noted
 mine : (f : Formats) (blobs : Blobs) (ledger : Ledger) (shelf : List Shelved) (t : Ticket) (name : BlobName) (bytes : Bytes)
-    (valid : ReadsBack f.names name) (absent : fin.get blobs (f.names.text name) ≡ None) (doomed : List BlobName) → TicketLaw f (Safely f blobs doomed) doomed ledger shelf t → MayCommit f t name bytes
+    (valid : IsStored f name) (absent : fin.get blobs (f.names.text name) ≡ None) (doomed : List BlobName) → TicketLaw f (Safely f blobs doomed) doomed ledger shelf t → MayCommit f t name bytes
     → TicketLaw f (now f blobs name bytes valid absent doomed) doomed ledger shelf (writing t name bytes)
 mine f blobs ledger shelf t name bytes valid absent doomed l may =
     record {

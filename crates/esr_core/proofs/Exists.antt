@@ -5,7 +5,7 @@ use Rattle.std.specs.FinMap as fin
 use Rattle.esr_model.specs.Names.{BlobName, Root, Latest, Snap, Meta, IndexMeta, ShardSnap, ShardIndex, File, Part, TestMaster, TestNode}
 use Rattle.esr_model.specs.Values.{Bytes, Has, IndexRef, RootData, SnapInfo, ShardResult, ReadsBack, Formats}
 use Rattle.esr_model.specs.Shelf.{Shelved}
-use Rattle.esr_model.specs.Image.{Blobs, At}
+use Rattle.esr_model.specs.Image.{IsStored, Blobs, At}
 use Rattle.esr_model.specs.Kept.{IdsBelow}
 use Rattle.esr_core.specs.World.{World, Op, ShardWork, ShardState, Pending, Out, Done, GivenUp, Work, Shard, Finalize, Deleting, Drop, Ticket, Swap, swap, swap_of, AllDone, info_of, metadata, marked, HeldIn, ledger_of}
 use Rattle.esr_core.specs.Ready.{IsShard, IsMaster}
@@ -24,6 +24,7 @@ use Rattle.esr_core.proofs.Law.{noting_same, fresh_same}
 use Rattle.esr_core.proofs.Take.{Kinds, IsSnap, IsMeta, IsIndex, kinds}
 use Rattle.esr_core.proofs.Results.{done_of, done_same}
 use Rattle.esr_core.proofs.Reading.{some_same, none_some}
+use Rattle.esr_core.proofs.LatestPut.{put_law}
 use Rattle.esr_core.proofs.Queues.{Ops, Tickets, was_in, left_in, split_at}
 
 -- the metadata of a snapshot have names of its uuid
@@ -146,7 +147,7 @@ module _ (f : Formats) (blobs : Blobs) (ops : Ops) (tickets : Tickets) (x : Text
 
 module _ (f : Formats) (w : World) (shelf : List Shelved) (l : Law f w shelf) (x : Texted f w.blobs w.ops w.tickets) where
   -- a blob that a finalization writes is what its op gives
-  final_committed : (name : BlobName) (bytes : Bytes) (valid : ReadsBack f.names name) (absent : fin.get w.blobs (f.names.text name) ≡ None) (k : ℕ) (t : Ticket) → fin.get w.tickets k ≡ Some t
+  final_committed : (name : BlobName) (bytes : Bytes) (valid : IsStored f name) (absent : fin.get w.blobs (f.names.text name) ≡ None) (k : ℕ) (t : Ticket) → fin.get w.tickets k ≡ Some t
       → (info : SnapInfo) (results : List ShardResult) (made : Shelved) → t.work ≡ Finalize info results made → Has (metadata f info) (name, bytes) → Texted f (fin.insert w.blobs (f.names.text name) bytes) w.ops w.tickets
   final_committed name bytes valid absent k t there info results made work own =
       record {
@@ -174,14 +175,14 @@ module _ (f : Formats) (w : World) (shelf : List Shelved) (l : Law f w shelf) (x
       given_as n b e same = subst (λ q. Has (metadata f info) (q, b)) (sym e) (subst (λ c. Has (metadata f info) (name, c)) same own)
 
   -- a blob that is no metadata
-  plain_committed : (name : BlobName) (bytes : Bytes) (valid : ReadsBack f.names name) (absent : fin.get w.blobs (f.names.text name) ≡ None) → ((u : ℕ) → IsMetaOf u name → ⊥) → Texted f (fin.insert w.blobs (f.names.text name) bytes) w.ops w.tickets
+  plain_committed : (name : BlobName) (bytes : Bytes) (valid : IsStored f name) (absent : fin.get w.blobs (f.names.text name) ≡ None) → ((u : ℕ) → IsMetaOf u name → ⊥) → Texted f (fin.insert w.blobs (f.names.text name) bytes) w.ops w.tickets
   plain_committed name bytes valid absent none =
       texted_blobs f w.blobs w.ops w.tickets x (fin.insert w.blobs (f.names.text name) bytes) (λ n b at. elim (at_was f w.blobs name bytes valid absent [] n b at) [
         | inr was ↦ inl was
         | inl it ↦ inr (λ u m. none u (subst (IsMetaOf u) it.0 m))
       ])
 
-  pub may_commit : (name : BlobName) (bytes : Bytes) (valid : ReadsBack f.names name) (absent : fin.get w.blobs (f.names.text name) ≡ None) (k : ℕ) (t : Ticket) → fin.get w.tickets k ≡ Some t → MayCommit f t name bytes
+  pub may_commit : (name : BlobName) (bytes : Bytes) (valid : IsStored f name) (absent : fin.get w.blobs (f.names.text name) ≡ None) (k : ℕ) (t : Ticket) → fin.get w.tickets k ≡ Some t → MayCommit f t name bytes
       → Texted f (fin.insert w.blobs (f.names.text name) bytes) w.ops w.tickets
   may_commit name bytes valid absent k t there (inr c) = plain_committed name bytes valid absent (λ u. shard_meta t u name c.1)
   may_commit name bytes valid absent k t there (inl (s, is, inr (n, e, root))) = plain_committed name bytes valid absent (λ u m. root_meta u n (subst (IsMetaOf u) e m))
@@ -366,7 +367,7 @@ turned f w new shelf l x (Commits m k name c) = subst (In f) (sym c.new_is)
 turned f w new shelf l x (CommitFails m k name c) = elim c.leaves [ inl e ↦ subst (In f) (sym e) x | inr e ↦ subst (In f) (sym e.1) (may_commit f w shelf l x name c.bytes c.named e.0 k c.t c.out.there c.may) ]
 turned f w new shelf l x (Finds m k name c) = subst (In f) (sym c.new_is) (texted_again f w.blobs w.ops w.tickets x k c.t (noting c.t name) c.out.there refl)
 turned f w new shelf l x (Raises m k d) = subst (In f) (sym d.new_is) (texted_again f w.blobs w.ops w.tickets x k d.t (record d.t { raised = Some w.pending }) d.out.there refl)
-turned f w new shelf l x (Latests m k d) = subst (In f) (sym d.new_is) (texted_again f w.blobs w.ops w.tickets x k d.t (record d.t { tried_latest = true }) d.out.there refl)
+turned f w new shelf l x (Latests m k d) = subst (In f) (sym d.tries.new_is) (texted_again f d.now w.ops w.tickets (put_law f w shelf l d.now d.puts).texts k d.tries.t (record d.tries.t { tried_latest = true }) d.tries.out.there refl)
 turned f w new shelf l x (Fetches m k name d) = subst (In f) (sym d.new_is) (texted_again f w.blobs w.ops w.tickets x k d.t (reading d.t name d.bytes) d.out.there refl)
 turned f w new shelf l x (SettlesFinal m k n t s d) = subst (In f) (sym d.new_is) (texted_again f w.blobs (fin.remove w.ops t.op) w.tickets (fewer_ops f w shelf l x t.op) k t (record t { settled = true }) d.may.out.there refl)
 turned f w new shelf l x (SettlesDelete m k n t s d) = subst (In f) (sym d.new_is) (texted_again f w.blobs (fin.remove w.ops t.op) w.tickets (fewer_ops f w shelf l x t.op) k t (record t { settled = true }) d.may.out.there refl)

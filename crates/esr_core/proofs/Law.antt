@@ -10,7 +10,7 @@ use Rattle.esr_model.specs.Values.{Bytes, Formats, ShardResult, SnapInfo}
 use Rattle.esr_core.specs.Ready.{IsShard}
 use Rattle.esr_model.specs.Shelf.{Shelved, Command, apply, shelf_after}
 use Rattle.esr_core.specs.World.{World, Op, Ticket, Finalize, Swap, swap, swap_of, ledger_of, HeldIn, Safely}
-use Rattle.esr_core.specs.Steps.{CommitDone, CommitFault, Raise, Elect, DoneShard, TryLatest, FetchFound, reading, Ends, TakeFinalize, settled, with_ticket, noting, writing, MaySettle}
+use Rattle.esr_core.specs.Steps.{CommitDone, CommitFault, Raise, Elect, DoneShard, TriesLatest, FetchFound, reading, Ends, TakeFinalize, settled, with_ticket, noting, writing, MaySettle}
 use Rattle.esr_core.specs.Swaps.{TicketLaw, IsUnsettled}
 use Rattle.esr_core.specs.Sound.{Sound}
 use Rattle.esr_core.proofs.Maps.{get_was}
@@ -128,7 +128,7 @@ module _ (f : Formats) (w : World) (shelf : List Shelved) (l : Sound f w shelf) 
         fresh = fresh_same w.tickets w.next_ticket k t v there l.fresh;
       }
 
-  pub latest_sound : (k : ℕ) (new : World) → TryLatest f w k new → Sound f new shelf
+  pub latest_sound : (k : ℕ) (new : World) → TriesLatest f w k new → Sound f new shelf
   latest_sound k new h = subst (λ x. Sound f x shelf) (sym h.new_is)
       (let old = l.rooted.tickets k h.t h.out.there in
       quiet k h.t (record h.t { tried_latest = true }) h.out.there (tried_same h.t)

@@ -34,6 +34,7 @@ pub mod Numbers
 pub mod Turning
 pub mod Completing
 pub mod Lists
+pub mod LatestPut
 pub mod Writing
 pub mod Recorded
 pub mod Laws
@@ -46,3 +47,7 @@ pub mod Ops
 pub mod TakeShard
 pub mod Exists
 pub mod Determined
+pub mod Storing
+pub mod Accepting
+pub mod Moments
+pub mod Histories

@@ -23,7 +23,7 @@ use Rattle.esr_core.specs.Ids.{Law}
 use Rattle.esr_model.specs.Kept.{IdsBelow, RootIds}
 use Rattle.esr_core.proofs.Laws.{kept_of}
 
-shelf_after-append : (shelf : List Shelved) (xs ys : List Command) → shelf_after shelf (xs ++ ys) ≡ shelf_after (shelf_after shelf xs) ys
+pub shelf_after-append : (shelf : List Shelved) (xs ys : List Command) → shelf_after shelf (xs ++ ys) ≡ shelf_after (shelf_after shelf xs) ys
 shelf_after-append shelf [] ys = refl
 shelf_after-append shelf (x ∷ xs) ys = shelf_after-append (apply shelf x) xs ys
 

@@ -8,7 +8,7 @@ use Rattle.esr_model.specs.Shelf.{Shelved, shelf_after}
 use Rattle.esr_model.specs.Image.{Has}
 use Rattle.esr_core.specs.World.{World, Op, ShardWork, Done, Work, Deleting, Shard, Ticket, Swap, AllDone, marked}
 use Rattle.esr_core.specs.Ready.{IsMaster, IsShard}
-use Rattle.esr_core.specs.Steps.{IsOut, CommitDone, CommitFault, Raise, TryLatest, FetchFound, reading, noting, CommitExists, DoneShard, Ends, Elect, Remove, writing, completing}
+use Rattle.esr_core.specs.Steps.{IsOut, CommitDone, CommitFault, Raise, TriesLatest, FetchFound, reading, noting, CommitExists, DoneShard, Ends, Elect, Remove, writing, completing}
 use Rattle.esr_core.specs.Sound.{Sound}
 use Rattle.esr_core.specs.Queue.{Queue, QueueIn, Lawful, DeleteLaw}
 use Rattle.esr_core.specs.Turns.{Turn, Stays, Commits, CommitFails, Finds, Raises, Latests, Fetches, SettlesFinal, SettlesDelete, Elects, TakesShard, TakesFinal, TakesDrop, TakesDelete, TakesCleanup, AsksCleanup, CleanDrops, DrawsShard, DrawsPlan, Dones, Ending, Fails, FailsDelete, Drops, AsksCreate, AsksDelete, Merges, Removing, Deposes, commands_of}
@@ -25,6 +25,7 @@ use Rattle.esr_core.proofs.Asking.{create_lawful, cleanup_asked_lawful, delete_a
 use Rattle.esr_core.specs.Ids.{Law}
 use Rattle.esr_core.proofs.TurningIds.{turn_ids}
 use Rattle.esr_core.proofs.Numbers.{turn_deletions, turn_in_term}
+use Rattle.esr_core.proofs.LatestPut.{put_law}
 use Rattle.esr_core.proofs.Writing.{turn_written}
 use Rattle.esr_core.proofs.Exists.{exists_sound, turn_texted}
 use Rattle.esr_core.proofs.Founding.{found}
@@ -73,7 +74,7 @@ module _ (f : Formats) (w : World) (shelf : List Shelved) (l : Lawful f w shelf)
   raise_lawful : (k : ℕ) (new : World) → Raise f w k new → Lawful f new shelf
   raise_lawful k new r = record { sound = raise_law f w shelf l.sound k new r; queue = subst QueueIn (sym r.new_is) (seen_same k r.t (record r.t { raised = Some w.pending }) r.out.there (like_of r.t (record r.t { raised = Some w.pending }) refl refl refl refl refl) refl refl) }
 
-  latest_lawful : (k : ℕ) (new : World) → TryLatest f w k new → Lawful f new shelf
+  latest_lawful : (k : ℕ) (new : World) → TriesLatest f w k new → Lawful f new shelf
   latest_lawful k new h = record { sound = latest_sound f w shelf l.sound k new h; queue = subst QueueIn (sym h.new_is) (seen_same k h.t (record h.t { tried_latest = true }) h.out.there (like_of h.t (record h.t { tried_latest = true }) refl refl refl refl refl) refl refl) }
 
   fetch_lawful : (k : ℕ) (name : BlobName) (new : World) → FetchFound f w k name new → Lawful f new shelf
@@ -143,7 +144,7 @@ turn_lawful f w new shelf law d (Commits m k name h) = commit_lawful f w shelf l
 turn_lawful f w new shelf law d (CommitFails m k name h) = commit_fault_lawful f w shelf law.lawful k name m h
 turn_lawful f w new shelf law d (Finds m k name h) = exists_lawful f w shelf law.lawful law k name m h
 turn_lawful f w new shelf law d (Raises m k h) = raise_lawful f w shelf law.lawful k m h
-turn_lawful f w new shelf law d (Latests m k h) = latest_lawful f w shelf law.lawful k m h
+turn_lawful f w new shelf law d (Latests m k h) = latest_lawful f (record w { blobs = h.now }) shelf (put_law f w shelf law h.now h.puts).lawful k m h.tries
 turn_lawful f w new shelf law d (Fetches m k name h) = fetch_lawful f w shelf law.lawful k name m h
 turn_lawful f w new shelf law d (SettlesFinal m k n t s h) = settle_final_lawful f w shelf law.lawful k n t s m h
 turn_lawful f w new shelf law d (SettlesDelete m k n t s h) = settle_delete_lawful f w shelf law.lawful k n t s m h

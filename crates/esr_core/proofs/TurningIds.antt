@@ -6,7 +6,7 @@ use Rattle.esr_model.specs.Parts.{part_names}
 use Rattle.esr_model.specs.Names.{BlobName, Root, Latest, Snap, Meta, IndexMeta, ShardSnap, ShardIndex, File, Part, TestMaster, TestNode}
 use Rattle.esr_model.specs.Values.{Bytes, IndexRef, RootSnap, RootIndex, RootData, FileEntry, SnapInfo, ShardResult, ReadsBack, Formats}
 use Rattle.esr_model.specs.Shelf.{Shelved, Delete}
-use Rattle.esr_model.specs.Image.{Blobs, Has, AllPairs, At, Present, Generation, RootStands, index_at, at_shard_of}
+use Rattle.esr_model.specs.Image.{IsStored, Blobs, Has, AllPairs, At, Present, Generation, RootStands, index_at, at_shard_of}
 use Rattle.esr_model.specs.Finalize.{Finalizes, finalized_root, done_at}
 use Rattle.esr_model.specs.Reach.{Reached, ReachSnap, ReachMeta, ReachIndexMeta, ReachIndex, ReachShardSnap, ReachPart}
 use Rattle.esr_core.specs.World.{World, Op, ShardWork, Pending, Out, Done, Work, Shard, Finalize, Deleting, Drop, Ticket, Swap, AllDone, swap, swap_of, HeldIn, metadata, info_of, marked}
@@ -17,6 +17,7 @@ use Rattle.esr_core.specs.Generations.{DoneAt, OpLaw, Carried}
 use Rattle.esr_core.specs.Ids.{OfUuid, OfId, TicketIds, OpIds, DoomedIds, Ids, IdsIn, Law}
 use Rattle.esr_model.specs.Kept.{first_id, IdsBelow, RootIds}
 use Rattle.esr_core.specs.Queue.{Lawful}
+use Rattle.esr_core.proofs.LatestPut.{put_law}
 use Rattle.esr_core.proofs.Pieces.{in_parts}
 use Rattle.esr_core.proofs.Reading.{generation_index, some_same, none_some, reads_one, held_one, safe_root_stands, Has-append, Has-mapped, Has-either}
 use Rattle.esr_core.proofs.Adds.{at_was, added}
@@ -105,7 +106,7 @@ module _ (f : Formats) (w : World) (shelf : List Shelved) (l : Law f w shelf) wh
       done_same : {a b : ShardResult} → Done a ≡ Done b → a ≡ b
       done_same e = cc
 
-  blob_was : (name : BlobName) (bytes : Bytes) (valid : ReadsBack f.names name) (absent : fin.get w.blobs (f.names.text name) ≡ None) → IdsBelow name w.next_id → (m : BlobName) → Present f (fin.insert w.blobs (f.names.text name) bytes) m → Present f w.blobs m ⊎ IdsBelow m w.next_id
+  blob_was : (name : BlobName) (bytes : Bytes) (valid : IsStored f name) (absent : fin.get w.blobs (f.names.text name) ≡ None) → IdsBelow name w.next_id → (m : BlobName) → Present f (fin.insert w.blobs (f.names.text name) bytes) m → Present f w.blobs m ⊎ IdsBelow m w.next_id
   blob_was name bytes valid absent below m p = elim (at_was f w.blobs name bytes valid absent w.doomed m p.0 p.1) [
     | inr was ↦ inl (p.0, was)
     | inl is ↦ inr (subst (λ n. IdsBelow n w.next_id) (sym is.0) below)
@@ -328,7 +329,7 @@ turn_ids f w new shelf l d (CommitFails m k name h) = elim h.leaves [
   | inr e ↦ subst (IdsIn f) (sym e.1) (ids_blobs f w.next_id w.blobs w.doomed w.root w.ops w.tickets l.ids (fin.insert w.blobs (f.names.text name) h.bytes) (blob_was f w shelf l name h.bytes h.named e.0 (commits_below f w.next_id h.t (l.ids.tickets k h.t h.out.there) name h.bytes h.may)))
 ]
 turn_ids f w new shelf l d (Raises m k h) = subst (IdsIn f) (sym h.new_is) (again f w shelf l k h.t (record h.t { raised = Some w.pending }) h.out.there (quiet_ids f w shelf l k h.t h.out.there h.t.noted h.t.wrote h.t.read (Some w.pending) h.t.tried_latest h.t.settled h.t.out) refl refl (λ e. e) (λ i. i))
-turn_ids f w new shelf l d (Latests m k h) = subst (IdsIn f) (sym h.new_is) (again f w shelf l k h.t (record h.t { tried_latest = true }) h.out.there (quiet_ids f w shelf l k h.t h.out.there h.t.noted h.t.wrote h.t.read h.t.raised true h.t.settled h.t.out) refl refl (λ e. e) (λ i. i))
+turn_ids f w new shelf l d (Latests m k h) = subst (IdsIn f) (sym h.tries.new_is) (again f (record w { blobs = h.now }) shelf (put_law f w shelf l h.now h.puts) k h.tries.t (record h.tries.t { tried_latest = true }) h.tries.out.there (quiet_ids f (record w { blobs = h.now }) shelf (put_law f w shelf l h.now h.puts) k h.tries.t h.tries.out.there h.tries.t.noted h.tries.t.wrote h.tries.t.read h.tries.t.raised true h.tries.t.settled h.tries.t.out) refl refl (λ e. e) (λ i. i))
 turn_ids f w new shelf l d (Finds m k name h) = subst (IdsIn f) (sym h.new_is) (again f w shelf l k h.t (noting h.t name) h.out.there (quiet_ids f w shelf l k h.t h.out.there (name ∷ h.t.noted) h.t.wrote h.t.read h.t.raised h.t.tried_latest h.t.settled h.t.out) refl refl (λ e. e) (λ i. i))
 turn_ids f w new shelf l d (Fetches m k name h) = subst (IdsIn f) (sym h.new_is) (again f w shelf l k h.t (reading h.t name h.bytes) h.out.there (quiet_ids f w shelf l k h.t h.out.there h.t.noted h.t.wrote ((name, h.bytes) ∷ h.t.read) h.t.raised h.t.tried_latest h.t.settled h.t.out) refl refl (λ e. e) (λ i. i))
 turn_ids f w new shelf l d (SettlesFinal m k n t s h) = subst (IdsIn f) (sym h.new_is) (settled_ids f w shelf l k n t s h.may.out h.may.is)

@@ -3,9 +3,9 @@ use Rattle.std.proofs.Common.{◌≡◌, ◌≢◌, ◌⊎◌, ℕ, suc, ◌+◌
 use Rattle.std.specs.FinMap.{FinMap}
 use Rattle.std.specs.FinMap as fin
 use Rattle.esr_model.specs.Names.{BlobName, Root, Latest, Snap, Meta, IndexMeta, ShardSnap, ShardIndex, File, Part, TestMaster, TestNode}
-use Rattle.esr_model.specs.Values.{Bytes, Has, RootData, ReadsBack, Formats}
+use Rattle.esr_model.specs.Values.{Bytes, Has, FileEntry, ShardFiles, RootData, ReadsBack, Formats}
 use Rattle.esr_model.specs.Shelf.{Shelved}
-use Rattle.esr_model.specs.Image.{Blobs, At}
+use Rattle.esr_model.specs.Image.{IsStored, Blobs, Reads, IndexStands, At}
 use Rattle.esr_core.specs.World.{World, Work, Shard, Finalize, Deleting, Drop, Ticket, Swap, swap, swap_of, HeldIn}
 use Rattle.esr_core.specs.Ready.{IsShard}
 use Rattle.esr_core.specs.Steps.{Drew, ShardCommits, MayCommit, CommitDone, CommitFault, Remove, FetchFound, reading, writing, noting, shard_ticket, final_ticket}
@@ -14,7 +14,9 @@ use Rattle.esr_core.specs.Ids.{OfUuid, OfId, Law}
 use Rattle.esr_core.specs.Written.{WroteLaw, Written}
 use Rattle.esr_core.specs.Turns.{DrawShard, plain_ticket, Turn, Stays, Commits, CommitFails, Finds, Raises, Latests, Fetches, SettlesFinal, SettlesDelete, Elects, TakesShard, TakesFinal, TakesDrop, TakesDelete, TakesCleanup, AsksCleanup, CleanDrops, DrawsShard, DrawsPlan, Dones, Ending, Fails, FailsDelete, Drops, AsksCreate, AsksDelete, Merges, Removing, Deposes}
 use Rattle.esr_core.proofs.Adds.{at_kept, at_new}
-use Rattle.esr_core.proofs.Reading.{none_some}
+use Rattle.esr_core.proofs.Reading.{none_some, some_same}
+use Rattle.esr_core.proofs.Pieces.{file_below}
+use Rattle.esr_core.proofs.LatestPut.{put_law}
 use Rattle.esr_core.proofs.Queues.{Tickets, was_in}
 
 -- another ticket of the same unit that drew as much
@@ -57,16 +59,16 @@ module _ (f : Formats) (blobs : Blobs) (tickets : Tickets) (h : Written f blobs 
   same : (k : ℕ) (t v : Ticket) → fin.get tickets k ≡ Some t → (v.out ≡ true → t.out ≡ true) → v.wrote ≡ t.wrote → v.read ≡ t.read → v.base ≡ t.base → v.work ≡ t.work → v.uuid ≡ t.uuid → v.first ≡ t.first → v.drawn ≡ t.drawn → Written f blobs (fin.insert tickets k v)
   same k t v there out wrote read base work uuid first drawn = put k v (λ o s.
       let old = h k t there (out o) (subst IsShard work s) in
-      record { there = λ name b m. old.there name b (subst (λ xs. Has xs (name, b)) wrote m); own = λ name b m. again t v work uuid first drawn name (old.own name b (subst (λ xs. Has xs (name, b)) wrote m)); base = λ i s g b is at m. old.base i s g b (sym work ∙ is) (sym base ∙ at) (subst (λ xs. Has xs (ShardIndex i s g, b)) read m) })
+      record { there = λ name b m. old.there name b (subst (λ xs. Has xs (name, b)) wrote m); own = λ name b m. again t v work uuid first drawn name (old.own name b (subst (λ xs. Has xs (name, b)) wrote m)); base = λ i s g b is at m. old.base i s g b (sym work ∙ is) (sym base ∙ at) (subst (λ xs. Has xs (ShardIndex i s g, b)) read m); fresh = λ i s g held is at reads e m id drew. old.fresh i s g held (sym work ∙ is) (sym base ∙ at) reads e m id (record { from = subst (λ n. n ≤ id) first drew.from; below = subst (λ n. id < n) (λ j. first j + drawn j) drew.below }) })
 
   -- one that has ended
   ended : (k : ℕ) (v : Ticket) → v.out ≡ false → Written f blobs (fin.insert tickets k v)
   ended k v e = put k v (λ o s. absurd (true≢false (sym o ∙ e)))
 
   -- a new one
-  new_one : (k : ℕ) (v : Ticket) → v.wrote ≡ [] → v.read ≡ [] → Written f blobs (fin.insert tickets k v)
-  new_one k v none unread =
-      put k v (λ o s. record { there = λ name b m. absurd (subst (λ xs. Has xs (name, b)) none m); own = λ name b m. absurd (subst (λ xs. Has xs (name, b)) none m); base = λ i x g b is at m. absurd (subst (λ xs. Has xs (ShardIndex i x g, b)) unread m) })
+  new_one : (k : ℕ) (v : Ticket) → v.wrote ≡ [] → v.read ≡ [] → v.drawn ≡ 0 → Written f blobs (fin.insert tickets k v)
+  new_one k v none unread undrawn =
+      put k v (λ o s. record { there = λ name b m. absurd (subst (λ xs. Has xs (name, b)) none m); own = λ name b m. absurd (subst (λ xs. Has xs (name, b)) none m); base = λ i x g b is at m. absurd (subst (λ xs. Has xs (ShardIndex i x g, b)) unread m); fresh = λ i x g held is at reads e m id drew. absurd (let a : v.first ≤ id = drew.from in let b : id < v.first + v.drawn = drew.below in omega (arith, undrawn, a, b)) })
 
 -- of a ticket that is no shard's
 no_shard : (f : Formats) (blobs : Blobs) (v : Ticket) → (IsShard v.work → ⊥) → v.out ≡ true → IsShard v.work → WroteLaw f blobs v
@@ -79,11 +81,34 @@ no_swap f (Deleting uuids plan) root s e h = h
 no_swap f Drop root s e h = h
 
 module _ (f : Formats) (w : World) (shelf : List Shelved) (l : Law f w shelf) (h : Written f w.blobs w.tickets) where
+  -- a base is there, and is one
+  base_stands : (k : ℕ) (t : Ticket) → fin.get w.tickets k ≡ Some t → t.out ≡ true → (i s g : ℕ) → t.work ≡ Shard i s → t.base ≡ Some g → IndexStands f (HeldIn f w) i s g
+  base_stands k t there out i s g is at =
+      let law = l.lawful.sound.carried.shards k t there out i s is in
+      (subst (Base f (HeldIn f w) w.root w.ops i s) at law.base).1.stands
+
+  pub base_was : (k : ℕ) (t : Ticket) → fin.get w.tickets k ≡ Some t → t.out ≡ true → (i s g : ℕ) (held : ShardFiles) → t.work ≡ Shard i s → t.base ≡ Some g → (now : Blobs) → ((m : BlobName) (b : Bytes) → At f w.blobs m b → At f now m b)
+      → Reads (At f now) (ShardIndex i s g) f.shard_index held → Reads (At f w.blobs) (ShardIndex i s g) f.shard_index held
+  base_was k t there out i s g held is at now kept reads =
+      let old = (base_stands k t there out i s g is at).held_reads in
+      let same : reads.bytes ≡ old.bytes = some_same _ _ (sym reads.there.0 ∙ (kept (ShardIndex i s g) old.bytes old.there.0).0) in
+      record { bytes = old.bytes; there = old.there.0; reads = ap f.shard_index.read (sym same) ∙ reads.reads }
+
+  -- its files have ids that were drawn
+  base_below : (k : ℕ) (t : Ticket) → fin.get w.tickets k ≡ Some t → t.out ≡ true → (i s g : ℕ) (held : ShardFiles) → t.work ≡ Shard i s → t.base ≡ Some g → Reads (At f w.blobs) (ShardIndex i s g) f.shard_index held
+      → (e : FileEntry) → Has held.files e → (id : ℕ) → w.next_id ≤ id → e.name < id
+  base_below k t there out i s g held is at reads e m id le =
+      let stands = base_stands k t there out i s g is at in
+      let same : held ≡ stands.held = some_same _ _ (sym reads.reads ∙ ap f.shard_index.read (some_same _ _ (sym reads.there.0 ∙ stands.held_reads.there.0.0)) ∙ stands.held_reads.reads) in
+      let (bytes, file) = stands.files e (subst (λ (x : ShardFiles). Has x.files e) same m) in
+      let b : e.name < w.next_id = file_below f w.next_id (HeldIn f w) (λ name b h. l.ids.blobs name (b, h.0)) i s e bytes file in
+      omega (arith, b, le)
+
   -- with a blob more
-  grown : (name : BlobName) (bytes : Bytes) → ReadsBack f.names name → fin.get w.blobs (f.names.text name) ≡ None → Written f (fin.insert w.blobs (f.names.text name) bytes) w.tickets
+  grown : (name : BlobName) (bytes : Bytes) → IsStored f name → fin.get w.blobs (f.names.text name) ≡ None → Written f (fin.insert w.blobs (f.names.text name) bytes) w.tickets
   grown name bytes named absent j u e out shard =
       let old = h j u e out shard in
-      record { there = λ m b has. at_kept f w.blobs name bytes named absent [] m b (old.there m b has); own = old.own; base = λ i s g b is at has. at_kept f w.blobs name bytes named absent [] (ShardIndex i s g) b (old.base i s g b is at has) }
+      record { there = λ m b has. at_kept f w.blobs name bytes named absent [] m b (old.there m b has); own = old.own; base = λ i s g b is at has. at_kept f w.blobs name bytes named absent [] (ShardIndex i s g) b (old.base i s g b is at has); fresh = λ i s g held is at reads. old.fresh i s g held is at (base_was j u e out i s g held is at _ (at_kept f w.blobs name bytes named absent []) reads) }
 
   committed : (k : ℕ) (name : BlobName) (new : World) → CommitDone f w k name new → Written f new.blobs new.tickets
   committed k name new c = subst (λ (x : World). Written f x.blobs x.tickets) (sym c.new_is)
@@ -105,6 +130,7 @@ module _ (f : Formats) (w : World) (shelf : List Shelved) (l : Law f w shelf) (h
               | inr was ↦ old.own m b was
             ]);
             base = old.base;
+            fresh = λ i s g held is at reads e m id drew. old.fresh i s g held is at reads e m id (record { from = drew.from; below = drew.below });
           }
         where
           allowed : MayCommit f c.t name c.bytes → ShardCommits c.t name
@@ -156,18 +182,19 @@ module _ (f : Formats) (w : World) (shelf : List Shelved) (l : Law f w shelf) (h
               | inl e ↦ subst (λ (p : BlobName × Bytes). At f w.blobs p.0 p.1) e c.there
               | inr was ↦ old.base i s g b is at was
             ];
+            fresh = λ i s g held is at reads e m id drew. old.fresh i s g held is at reads e m id (record { from = drew.from; below = drew.below });
           }
 
   removed : (k : ℕ) (names : List BlobName) (new : World) → Remove f w k names new → Written f new.blobs new.tickets
   removed k names new r = subst (λ (x : World). Written f x.blobs x.tickets) (sym r.new_is) (λ j u e out shard.
       let old = h j u e out shard in
-      record { there = λ m b has. r.removes.stays m b (old.there m b has) (λ named. not_doomed j u e out m (old.own m b has) (r.doomed m named)); own = old.own; base = λ i s g b is at has. r.removes.stays (ShardIndex i s g) b (old.base i s g b is at has) (λ named. base_held j u e out i s g is at (r.doomed (ShardIndex i s g) named)) })
+      record { there = λ m b has. r.removes.stays m b (old.there m b has) (λ named. not_doomed j u e out m (old.own m b has) (r.doomed m named)); own = old.own; base = λ i s g b is at has. r.removes.stays (ShardIndex i s g) b (old.base i s g b is at has) (λ named. base_held j u e out i s g is at (r.doomed (ShardIndex i s g) named)); fresh = λ i s g held is at reads. old.fresh i s g held is at (record { bytes = reads.bytes; there = (r.removes.left _ _ reads.there.0, reads.there.1); reads = reads.reads }) })
 
   drawn_shard : (k n : ℕ) (new : World) → DrawShard w k n new → Written f new.blobs new.tickets
   drawn_shard k n new d = subst (λ (x : World). Written f x.blobs x.tickets) (sym d.new_is)
       (put f w.blobs w.tickets h k (record d.t { first = w.next_id; drawn = n }) (λ o s.
       let old = h k d.t d.out.there d.out.out s in
-      record { there = old.there; own = λ m b has. early d.t (record d.t { first = w.next_id; drawn = n }) refl refl d.once m (old.own m b has); base = old.base }))
+      record { there = old.there; own = λ m b has. early d.t (record d.t { first = w.next_id; drawn = n }) refl refl d.once m (old.own m b has); base = old.base; fresh = λ i s g held is at reads e m id drew. base_below k d.t d.out.there d.out.out i s g held is at reads e m id drew.from }))
 
 turned : (f : Formats) (w new : World) (shelf : List Shelved) → Law f w shelf → Written f w.blobs w.tickets → Turn f w new → Written f new.blobs new.tickets
 turned f w new shelf l h (Stays m e) = subst (λ (x : World). Written f x.blobs x.tickets) (sym e) h
@@ -178,16 +205,16 @@ turned f w new shelf l h (CommitFails m k name c) = elim c.leaves [
 ]
 turned f w new shelf l h (Finds m k name d) = subst (λ (x : World). Written f x.blobs x.tickets) (sym d.new_is) (same f w.blobs w.tickets h k d.t (noting d.t name) d.out.there (λ o. o) refl refl refl refl refl refl refl)
 turned f w new shelf l h (Raises m k d) = subst (λ (x : World). Written f x.blobs x.tickets) (sym d.new_is) (same f w.blobs w.tickets h k d.t (record d.t { raised = Some w.pending }) d.out.there (λ o. o) refl refl refl refl refl refl refl)
-turned f w new shelf l h (Latests m k d) = subst (λ (x : World). Written f x.blobs x.tickets) (sym d.new_is) (same f w.blobs w.tickets h k d.t (record d.t { tried_latest = true }) d.out.there (λ o. o) refl refl refl refl refl refl refl)
+turned f w new shelf l h (Latests m k d) = subst (λ (x : World). Written f x.blobs x.tickets) (sym d.tries.new_is) (same f d.now w.tickets (put_law f w shelf l d.now d.puts).written k d.tries.t (record d.tries.t { tried_latest = true }) d.tries.out.there (λ o. o) refl refl refl refl refl refl refl)
 turned f w new shelf l h (Fetches m k name c) = fetched f w shelf l h k name m c
 turned f w new shelf l h (SettlesFinal m k n t s d) = subst (λ (x : World). Written f x.blobs x.tickets) (sym d.new_is) (same f w.blobs w.tickets h k t (record t { settled = true }) d.may.out.there (λ o. o) refl refl refl refl refl refl refl)
 turned f w new shelf l h (SettlesDelete m k n t s d) = subst (λ (x : World). Written f x.blobs x.tickets) (sym d.new_is) (same f w.blobs w.tickets h k t (record t { settled = true }) d.may.out.there (λ o. o) refl refl refl refl refl refl refl)
 turned f w new shelf l h (Elects m d) = subst (λ (x : World). Written f x.blobs x.tickets) (sym d.new_is) h
-turned f w new shelf l h (TakesShard m o op s base d) = subst (λ (x : World). Written f x.blobs x.tickets) (sym d.new_is) (new_one f w.blobs w.tickets h w.next_ticket (shard_ticket w o op s base) refl refl)
-turned f w new shelf l h (TakesFinal m o op results d) = subst (λ (x : World). Written f x.blobs x.tickets) (sym d.new_is) (new_one f w.blobs w.tickets h w.next_ticket (final_ticket f w o op results) refl refl)
-turned f w new shelf l h (TakesDrop m o d) = subst (λ (x : World). Written f x.blobs x.tickets) (sym d.new_is) (new_one f w.blobs w.tickets h w.next_ticket (plain_ticket w o Drop) refl refl)
-turned f w new shelf l h (TakesDelete m n x d) = subst (λ (x : World). Written f x.blobs x.tickets) (sym d.new_is) (new_one f w.blobs w.tickets h w.next_ticket (plain_ticket w n (Deleting x.uuids None)) refl refl)
-turned f w new shelf l h (TakesCleanup m n x d) = subst (λ (x : World). Written f x.blobs x.tickets) (sym d.new_is) (new_one f w.blobs w.tickets h w.next_ticket (plain_ticket w n (Deleting x.uuids None)) refl refl)
+turned f w new shelf l h (TakesShard m o op s base d) = subst (λ (x : World). Written f x.blobs x.tickets) (sym d.new_is) (new_one f w.blobs w.tickets h w.next_ticket (shard_ticket w o op s base) refl refl refl)
+turned f w new shelf l h (TakesFinal m o op results d) = subst (λ (x : World). Written f x.blobs x.tickets) (sym d.new_is) (new_one f w.blobs w.tickets h w.next_ticket (final_ticket f w o op results) refl refl refl)
+turned f w new shelf l h (TakesDrop m o d) = subst (λ (x : World). Written f x.blobs x.tickets) (sym d.new_is) (new_one f w.blobs w.tickets h w.next_ticket (plain_ticket w o Drop) refl refl refl)
+turned f w new shelf l h (TakesDelete m n x d) = subst (λ (x : World). Written f x.blobs x.tickets) (sym d.new_is) (new_one f w.blobs w.tickets h w.next_ticket (plain_ticket w n (Deleting x.uuids None)) refl refl refl)
+turned f w new shelf l h (TakesCleanup m n x d) = subst (λ (x : World). Written f x.blobs x.tickets) (sym d.new_is) (new_one f w.blobs w.tickets h w.next_ticket (plain_ticket w n (Deleting x.uuids None)) refl refl refl)
 turned f w new shelf l h (DrawsShard m k n d) = drawn_shard f w shelf l h k n m d
 turned f w new shelf l h (DrawsPlan m k n d) = subst (λ (x : World). Written f x.blobs x.tickets) (sym d.new_is)
     (put f w.blobs w.tickets h k (record d.t { first = w.next_id; drawn = n; work = Deleting d.named (Some (record { root = d.root; own = d.own; commands = d.commands })) }) (λ o s. absurd s))

@@ -10,3 +10,7 @@ pub mod Queue
 pub mod Written
 pub mod Ids
 pub mod Turns
+pub mod Entry
+pub mod After
+pub mod Allowed
+pub mod History

@@ -4,7 +4,7 @@ use Rattle.std.specs.FinMap as fin
 use Rattle.esr_model.specs.Names.{BlobName, Root, Latest, Snap, Meta, IndexMeta, ShardSnap, ShardIndex, File, Part, TestMaster, TestNode}
 use Rattle.esr_model.specs.Values.{Bytes, RootData, SnapInfo, FileEntry, SnapList, ShardFiles, ShardSnapshot, ShardResult, ReadsBack, Formats}
 use Rattle.esr_model.specs.Shelf.{Shelved, Command}
-use Rattle.esr_model.specs.Image.{Blobs, Has, AllPairs, At, Present, Reads, Lists, FileStands}
+use Rattle.esr_model.specs.Image.{Blobs, Has, AllPairs, IsStored, At, Present, Reads, Lists, FileStands}
 use Rattle.esr_model.specs.Kept.{first_id}
 use Rattle.esr_model.specs.Finalize.{finalized_root}
 use Rattle.esr_core.specs.Generations.{IsLive}
@@ -101,7 +101,7 @@ pub record CommitDone (f : Formats) (w : World) (k : ℕ) (name : BlobName) (new
   pub t : Ticket
   pub out : IsOut w k t
   pub bytes : Bytes
-  pub named : ReadsBack f.names name
+  pub named : IsStored f name
   pub may : MayCommit f t name bytes
   pub absent : fin.get w.blobs (f.names.text name) ≡ None
   pub new_is : new ≡ with_ticket (with_blob f w name bytes) k (writing t name bytes)
@@ -110,7 +110,7 @@ pub record CommitFault (f : Formats) (w : World) (k : ℕ) (name : BlobName) (ne
   pub t : Ticket
   pub out : IsOut w k t
   pub bytes : Bytes
-  pub named : ReadsBack f.names name
+  pub named : IsStored f name
   pub may : MayCommit f t name bytes
   pub leaves : (new ≡ w) ⊎ ((fin.get w.blobs (f.names.text name) ≡ None) × (new ≡ with_blob f w name bytes))
 
@@ -206,14 +206,24 @@ pub record TakeFinalize (f : Formats) (w : World) (o : ℕ) (op : Op) (results :
   pub idle : (k : ℕ) (t : Ticket) (s : Swap) → fin.get w.tickets k ≡ Some t → swap f t ≡ Some s → t.out ≡ true → t.settled ≡ false → t.term ≢ w.term
   pub new_is : new ≡ record w { tickets = fin.insert w.tickets w.next_ticket (final_ticket f w o op results); next_ticket = suc w.next_ticket }
 
--- `index.latest` is replaced, or its replacement fails: nothing reads it
-pub record TryLatest (f : Formats) (w : World) (k : ℕ) (new : World) : Type 0 where
+-- `index.latest` was replaced, or not
+abbrev pub PutsLatest : Formats → Blobs → Blobs → Type 0
+PutsLatest f blobs now = (now ≡ blobs) ⊎ ((bytes : Bytes) × (now ≡ fin.insert blobs (f.names.text Latest) bytes) × ReadsBack f.names Latest)
+
+-- a ticket has tried to replace it
+pub record TriesLatest (f : Formats) (w : World) (k : ℕ) (new : World) : Type 0 where
   pub t : Ticket
   pub out : IsOut w k t
   pub s : Swap
   pub is : swap f t ≡ Some s
   pub unsettled : t.settled ≡ false
   pub new_is : new ≡ with_ticket w k (record t { tried_latest = true })
+
+-- `index.latest` is replaced, or its replacement fails: nothing reads it
+pub record TryLatest (f : Formats) (w : World) (k : ℕ) (new : World) : Type 0 where
+  pub now : Blobs
+  pub puts : PutsLatest f w.blobs now
+  pub tries : TriesLatest f (record w { blobs = now }) k new
 
 -- a blob that is there is fetched
 abbrev pub reading : Ticket → BlobName → Bytes → Ticket

@@ -237,7 +237,7 @@ pub record AskCreate (f : Formats) (w : World) (op : Op) (new : World) : Type 0 
   -- the command's names are distinct, and so are the new ids
   pub one_name : (r q : IndexRef) → Has op.indices r → Has op.indices q → r.name ≡ q.name → r ≡ q
   pub one_new : (r q : IndexRef) → Has op.indices r → Has op.indices q → w.next_id < r.id → r.id ≡ q.id → r.name ≡ q.name
-  pub distinct : (s z : ShardWork) → Has op.shards s → Has op.shards z → s.ref.id ≡ z.ref.id → s.number ≡ z.number → s ≡ z
+  pub distinct : (s z : ShardWork) → Has op.shards s → Has op.shards z → s.ref ≡ z.ref → s.number ≡ z.number → s ≡ z
   -- a clone's source is listed, and no open delete names it
   pub source : (u : ℕ) → op.source ≡ Some u → Lists w.root u × ((d : ℕ) (x : Deletion) → fin.get w.deletes d ≡ Some x → names_uuid x.uuids u ≡ false)
   -- it draws its uuid, and then an id for each index whose name neither the root nor an open op has

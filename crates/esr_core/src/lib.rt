@@ -1,14 +1,14 @@
 // The core's law, over definitions alone.
 #![tactic(auto)]
 
-ghost use Rattle.std.specs.Prelude.{◌≡◌, Bool, true, false, Option, Some, ℕ, ◌<◌, ◌≤◌, List, ◌⊎◌};
+ghost use Rattle.std.specs.Prelude.{◌≡◌, Bool, true, false, Option, Some, ℕ, ◌<◌, ◌≤◌, List, [], ◌∷◌, ◌++◌, ◌⊎◌};
 ghost use Rattle.esr_model.specs.Values.{ReadsBack, Formats};
 ghost use Rattle.esr_model.specs.Names.{BlobName, Root};
 ghost use Rattle.esr_model.specs.Image.{Has, Image, Blobs, At, KeptAt, Present};
 ghost use Rattle.esr_model.specs.Kept.{Kept};
 ghost use Rattle.esr_model.specs.Shelf.{Shelved, Command, shelf_after};
 ghost use Rattle.esr_core.specs.World.{World, Op, ShardWork, Shard, Ticket, image_of, record_of, Opened};
-ghost use Rattle.esr_core.specs.Steps.{Raise, SettleStale, Remove};
+ghost use Rattle.esr_core.specs.Steps.{Raise, Remove};
 ghost use Rattle.esr_core.specs.Sound.{Sound};
 ghost use Rattle.esr_core.specs.Queue.{Lists, Sole};
 ghost use Rattle.esr_core.specs.Ids.{Law};
@@ -19,17 +19,16 @@ ghost use Rattle.std.specs.FinMap.{FinMap};
 ghost use Rattle.std.specs.Ordering.{nat_cmp};
 ghost use Rattle.esr_core.specs.Turns.{Turn, Turns, commands_of};
 ghost use Rattle.esr_core.specs.Doomed.{Dooms};
+ghost use Rattle.esr_core.specs.Entry.{Moment, Refused, StaleTerm};
+ghost use Rattle.esr_core.specs.After.{after};
+ghost use Rattle.esr_core.specs.Allowed.{SameBlobs};
+ghost use Rattle.esr_core.specs.History.{world_from, IsLegal, AreTold, AreHonest, committed, Lasts};
 ghost use Rattle.esr_model.specs.Image.{RootIs};
 
 /// A raise keeps the law, and the generation that it begins is that of no root that is there.
 pub fn raise_is_sound()
     ensures law { (f : Formats) (w new : World) (shelf : List Shelved) (k : ℕ) → Sound f w shelf → Raise f w k new → Sound f new shelf }
     ensures fresh { (f : Formats) (w new : World) (shelf : List Shelved) (k : ℕ) → Sound f w shelf → Raise f w k new → Present f w.blobs (Root w.pending) → ⊥ }
-{}
-
-/// A settle of an older term changes nothing.
-pub fn stale_settle_changes_nothing()
-    ensures { (f : Formats) (w new : World) (k n own now : ℕ) → SettleStale f w k n own now new → new ≡ w }
 {}
 
 /// A removal of doomed names keeps the law, also one that is cut short.
@@ -80,4 +79,27 @@ pub fn the_queue_is_apart()
     ensures behind { (f : Formats) (w : World) (shelf : List Shelved) (o : ℕ) (op : Op) (s : ShardWork) → Law f w shelf → fin.get w.ops o ≡ Some op → Barrier w.deletes o → Has op.shards s → Idle s.state }
     ensures source { (f : Formats) (w : World) (shelf : List Shelved) (o u : ℕ) (op : Op) → Law f w shelf → fin.get w.ops o ≡ Some op → op.source ≡ Some u → Lists w.root u }
     ensures sole { (f : Formats) (w : World) (shelf : List Shelved) → Law f w shelf → Sole w.term w.deletes w.tickets }
+{}
+
+/// Over each legal history the law holds, for the shelf with the commands that count in its last image.
+pub fn each_history_is_lawful()
+    ensures { (f : Formats) (part_size : ℕ) (image : Image) (shelf : List Shelved) (w : World) (log : List Moment) → Kept f image shelf → Opened f image w → IsLegal f part_size w log → AreTold log → AreHonest f w log
+        → Law f (world_from f w log) (shelf_after shelf (committed f (world_from f w log).safe w log)) }
+{}
+
+/// `safe` never falls over a legal history, and a record swap that failed is the last that may have moved it.
+pub fn safe_never_falls()
+    ensures { (f : Formats) (part_size : ℕ) (image : Image) (shelf : List Shelved) (w : World) (log : List Moment) → Kept f image shelf → Opened f image w → IsLegal f part_size w log → AreTold log → AreHonest f w log
+        → Lasts f w (world_from f w log) }
+{}
+
+/// Each image of a legal history is kept for the commands that count in it: also one that a failed call leaves, and so one that a crash in that call leaves.
+pub fn each_image_is_kept()
+    ensures { (f : Formats) (part_size : ℕ) (image : Image) (shelf : List Shelved) (w : World) (log : List Moment) (m : Moment) (i : Image) → Kept f image shelf → Opened f image w → m.image ≡ Some i → IsLegal f part_size w (log ++ m ∷ [])
+        → AreTold (log ++ m ∷ []) → AreHonest f w (log ++ m ∷ []) → Kept f i (shelf_after shelf (committed f (world_from f w (log ++ m ∷ [])).safe w (log ++ m ∷ []))) }
+{}
+
+/// A raise, settle or drop of an older term changes nothing.
+pub fn stale_steps_change_nothing()
+    ensures { (f : Formats) (w : World) (m : Moment) (own now : ℕ) → m.entry.reply ≡ Refused (StaleTerm own now) → SameBlobs w m.image → after f w m ≡ w }
 {}

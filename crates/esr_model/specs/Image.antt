@@ -1,10 +1,10 @@
 -- What stands in a container: whole roots, the shelf of a root, and what opening can rely on.
-use Rattle.std.specs.Prelude.{◌≡◌, ℕ, zero, suc, ◌<◌, ◌≤◌, List, [], ◌∷◌, ◌++◌, Option, Some, None, length, ◌==◌, if◌then◌else◌}
+use Rattle.std.specs.Prelude.{◌≡◌, ◌≢◌, ℕ, zero, suc, ◌<◌, ◌≤◌, List, [], ◌∷◌, ◌++◌, Option, Some, None, length, ◌==◌, if◌then◌else◌}
 use Rattle.std.specs.Ordering.{nat_cmp}
 use Rattle.std.specs.Cmp.Lexicographic.{slice_cmp}
 use Rattle.std.specs.FinMap.{FinMap}
 use Rattle.std.specs.FinMap as map
-use Rattle.esr_model.specs.Names.{BlobName, Root, Snap, Meta, IndexMeta, ShardSnap, ShardIndex}
+use Rattle.esr_model.specs.Names.{BlobName, Root, Latest, Snap, Meta, IndexMeta, ShardSnap, ShardIndex}
 use Rattle.esr_model.specs.Values.{Bytes, IndexRef, RootSnap, RootIndex, RootData, SnapInfo, GlobalMeta, FileEntry, ShardSnapshot, SnapList, ShardFiles, Ledger, Kind, ReadsBack, Formats}
 use Rattle.esr_model.specs.Parts.{part_names, AreFull}
 use Rattle.esr_model.specs.Places.{shelf_places}
@@ -26,9 +26,13 @@ AllPairs R [] (y ∷ ys) = ⊥
 AllPairs R (x ∷ xs) [] = ⊥
 AllPairs R (x ∷ xs) (y ∷ ys) = R x y × AllPairs R xs ys
 
--- the name is one of the layout, and its blob is there with these bytes
+-- a name of the layout, `index.latest` aside, which nothing reads
+abbrev pub IsStored : Formats → BlobName → Type 0
+IsStored f name = ReadsBack f.names name × (name ≢ Latest)
+
+-- the blob is there with these bytes
 abbrev pub At : Formats → Blobs → BlobName → Bytes → Type 0
-At f blobs name bytes = (map.get blobs (f.names.text name) ≡ Some bytes) × ReadsBack f.names name
+At f blobs name bytes = (map.get blobs (f.names.text name) ≡ Some bytes) × IsStored f name
 
 -- a name has one content
 abbrev pub IsOne : (BlobName → Bytes → Type 0) → Type 0

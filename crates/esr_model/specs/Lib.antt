@@ -8,3 +8,4 @@ pub mod Kept
 pub mod Reach
 pub mod Finalize
 pub mod Delete
+pub mod Uploads

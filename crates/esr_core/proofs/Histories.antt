@@ -1,0 +1,164 @@
+-- Over a legal history the law holds, for the shelf with the commands that count.
+use Rattle.std.proofs.Common.{◌≡◌, ◌≢◌, ◌⊎◌, ℕ, suc, ◌+◌, ◌<◌, ◌≤◌, List, [], ◌∷◌, ◌++◌, Bool, true, false, true≢false, Option, Some, None, map, refl, sym, ap, ◌∙◌, subst, inl, inr, arith, nat_cmp}
+use Rattle.std.specs.Prelude.{if◌then◌else◌}
+use Rattle.std.specs.FinMap as fin
+use Rattle.esr_model.specs.Values.{ReadsBack, ShardResult, Formats}
+use Rattle.esr_model.specs.Shelf.{Shelved, Command, apply, shelf_after}
+use Rattle.esr_model.specs.Image.{Image, Blobs}
+use Rattle.esr_model.specs.Kept.{Kept}
+use Rattle.esr_core.specs.World.{World, Ticket, Swap, Done, marked, record_of, image_of, Opened}
+use Rattle.esr_core.specs.Steps.{completing, MaySettle}
+use Rattle.esr_core.specs.Ids.{Law}
+use Rattle.esr_core.specs.Entry.{DoneStep, Reply, HasEnded, Refused, DeposedAt, StaleTerm, Moment}
+use Rattle.esr_core.specs.After.{answered, done_of, done_by, blobs_in, after}
+use Rattle.esr_core.specs.Allowed.{Allows, Allowed, IsDeposed, SameBlobs, Dones as DonesBy}
+use Rattle.esr_core.specs.History.{world_from, IsLegal, AreTold, AreHonest, IsHonest, commands_at, committed, Lasts}
+use Rattle.esr_core.specs.Turns.{Turn, Stays, Commits, CommitFails, Finds, Raises, Latests, Fetches, SettlesFinal, SettlesDelete, Elects, TakesShard, TakesFinal, TakesDrop, TakesDelete, TakesCleanup, AsksCleanup, CleanDrops, DrawsShard, DrawsPlan, Dones, Ending, Fails, FailsDelete, Drops, AsksCreate, AsksDelete, Merges, Removing, Deposes, commands_of}
+use Rattle.esr_core.proofs.Reading.{some_same, none_some}
+use Rattle.esr_core.proofs.Turning.{turn_law}
+use Rattle.esr_core.proofs.Moments.{Turned, plain, turn_by}
+use Rattle.esr_core.proofs.Accepting.{accepted}
+use Rattle.esr_core.proofs.Storing.{done_found}
+use Rattle.esr_core.proofs.Laws.{kept_of}
+use Rattle.esr_core.proofs.Lists.{opening_law, shelf_after-append}
+
+-- `safe` never falls
+settled_above : (f : Formats) (w : World) (shelf : List Shelved) → Law f w shelf → (k n : ℕ) (t : Ticket) (s : Swap) → MaySettle f w k n t s → t.term ≡ w.term → w.safe ≤ n
+settled_above f w shelf l k n t s may present = ((l.lawful.sound.rooted.tickets k t may.out.there).last s (record { is = may.is; out = may.out.out; unsettled = may.unsettled }) present n may.raised).1
+
+same_safe : (w new up : World) → new ≡ up → up.safe ≡ w.safe → w.safe ≤ new.safe
+same_safe w new up e s = let a : new.safe ≡ up.safe = ap (λ (x : World). x.safe) e in omega (arith, a, s)
+
+pub turn_safe : (f : Formats) (w new : World) (shelf : List Shelved) → Law f w shelf → Turn f w new → w.safe ≤ new.safe
+turn_safe f w new shelf l (Stays m e) = same_safe w m w e refl
+turn_safe f w new shelf l (Commits m k name h) = same_safe w m _ h.new_is refl
+turn_safe f w new shelf l (CommitFails m k name h) = elim h.leaves [ inl e ↦ same_safe w m w e refl | inr e ↦ same_safe w m _ e.1 refl ]
+turn_safe f w new shelf l (Finds m k name h) = same_safe w m _ h.new_is refl
+turn_safe f w new shelf l (Raises m k h) = same_safe w m _ h.new_is refl
+turn_safe f w new shelf l (Latests m k h) = same_safe w m _ h.tries.new_is refl
+turn_safe f w new shelf l (Fetches m k name h) = same_safe w m _ h.new_is refl
+turn_safe f w new shelf l (SettlesFinal m k n t s h) = let a : m.safe ≡ suc n = ap (λ (x : World). x.safe) h.new_is in let b : w.safe ≤ n = settled_above f w shelf l k n t s h.may h.present in omega (arith, a, b)
+turn_safe f w new shelf l (SettlesDelete m k n t s h) = let a : m.safe ≡ suc n = ap (λ (x : World). x.safe) h.new_is in let b : w.safe ≤ n = settled_above f w shelf l k n t s h.may h.present in omega (arith, a, b)
+turn_safe f w new shelf l (Elects m h) = same_safe w m _ h.new_is refl
+turn_safe f w new shelf l (TakesShard m o op s base h) = same_safe w m _ h.new_is refl
+turn_safe f w new shelf l (TakesFinal m o op results h) = same_safe w m _ h.new_is refl
+turn_safe f w new shelf l (TakesDrop m o h) = same_safe w m _ h.new_is refl
+turn_safe f w new shelf l (TakesDelete m n x h) = same_safe w m _ h.new_is refl
+turn_safe f w new shelf l (TakesCleanup m n x h) = same_safe w m _ h.new_is refl
+turn_safe f w new shelf l (DrawsShard m k n h) = same_safe w m _ h.new_is refl
+turn_safe f w new shelf l (DrawsPlan m k n h) = same_safe w m _ h.new_is refl
+turn_safe f w new shelf l (Dones m k r h) = same_safe w m _ h.new_is refl
+turn_safe f w new shelf l (Ending m k h) = same_safe w m _ h.new_is refl
+turn_safe f w new shelf l (Fails m k h) = same_safe w m _ h.new_is refl
+turn_safe f w new shelf l (FailsDelete m k h) = same_safe w m _ h.new_is refl
+turn_safe f w new shelf l (Drops m k h) = same_safe w m _ h.new_is refl
+turn_safe f w new shelf l (AsksCleanup m h) = same_safe w m _ h.new_is refl
+turn_safe f w new shelf l (CleanDrops m k h) = same_safe w m _ h.new_is refl
+turn_safe f w new shelf l (AsksCreate m op h) = same_safe w m _ h.new_is refl
+turn_safe f w new shelf l (AsksDelete m uuids h) = same_safe w m _ h.new_is refl
+turn_safe f w new shelf l (Merges m uuids n h) = same_safe w m _ h.new_is refl
+turn_safe f w new shelf l (Removing m k names h) = same_safe w m _ h.new_is refl
+turn_safe f w new shelf l (Deposes m up h e) = let a : w.safe ≤ up.safe = turn_safe f w up shelf l h in let b : m.safe ≡ up.safe = ap (λ (x : World). x.safe) e in omega (arith, a, b)
+
+-- after a record swap that failed the world stays
+deposed_stays : (f : Formats) (w : World) (m : Moment) → IsDeposed w m → after f w m ≡ w
+deposed_stays f w m d = (λ j. record (answered f w m.entry.who m.entry.step (d.refused j) m.image) { blobs = blobs_in m.image w.blobs }) ∙ (λ j. record w { blobs = same m.image d.same j })
+  where
+    same : (image : Option Image) → SameBlobs w image → blobs_in image w.blobs ≡ w.blobs
+    same None h = refl
+    same (Some i) h = h
+
+-- a step of a legal history, with the law of the world after it
+pub record Stepped (f : Formats) (w : World) (shelf : List Shelved) (m : Moment) (new : World) : Type 0 where
+  pub commands : List Command
+  pub law : Law f new (shelf_after shelf commands)
+  pub rises : w.safe ≤ new.safe
+  pub counted : (safe : ℕ) → new.safe ≤ safe → (new.deposed ≡ true → safe ≡ new.safe) → commands_at f safe w m.entry.who m.entry.step m.entry.reply ≡ commands
+  pub alone : w.deposed ≡ true → (new.deposed ≡ true) × (new.safe ≡ w.safe)
+
+pub step_law : (f : Formats) (size : ℕ) (w : World) (shelf : List Shelved) → Law f w shelf → IsHonest f w.blobs → (m : Moment) (i : Image) → m.image ≡ Some i → Allowed f size w m → Stepped f w shelf m (after f w m)
+step_law f size w shelf l honest m i told a = elim a.answered [
+  | inl alive ↦
+      let t : Turned f w m.entry.who m.entry.step m.entry.reply (after f w m) = turn_by f size w shelf l i doing (accepted f w shelf l) m.entry.who m.entry.step m.entry.reply m.image told alive.1 in
+      record {
+        commands = commands_of f w (after f w m) t.turn;
+        law = turn_law f w (after f w m) shelf l alive.0 t.turn;
+        rises = turn_safe f w (after f w m) shelf l t.turn;
+        counted = t.commands;
+        alone = λ e. absurd (true≢false (sym e ∙ alive.0));
+      }
+  | inr dead ↦
+      let same : after f w m ≡ w = deposed_stays f w m dead in
+      record {
+        commands = [];
+        law = subst (λ x. Law f x shelf) (sym same) l;
+        rises = let e : (after f w m).safe ≡ w.safe = ap (λ (x : World). x.safe) same in omega (arith, e);
+        counted = λ safe above only. ap (commands_at f safe w m.entry.who m.entry.step) dead.refused;
+        alone = λ e. (ap (λ (x : World). x.deposed) same ∙ e, ap (λ (x : World). x.safe) same);
+      }
+]
+  where
+    doing : (k : ℕ) (r : ShardResult) → DonesBy f size w k r (Some i) → i.blobs ≡ w.blobs → Turned f w k (DoneStep r) HasEnded (after f w (record { entry = record { who = k; step = DoneStep r; reply = HasEnded }; image = Some i }))
+    doing k r d same =
+        plain f w k (DoneStep r) HasEnded _
+        (Dones _ k r (done_found f size w shelf l honest k d.t d.out r d.is d.op d.op_there d.s d.s_there d.state d.done _
+        ((λ j. record (done_of w k r (d.out.there j)) { blobs = i.blobs }) ∙ (λ j. record (done_by w k r d.t (d.op_there j)) { blobs = same j })))) refl refl
+
+-- what a list of moments leaves
+pub lasts : (f : Formats) (size : ℕ) (log : List Moment) (w : World) (shelf : List Shelved) → Law f w shelf → IsLegal f size w log → AreTold log → AreHonest f w log → Lasts f w (world_from f w log)
+lasts f size [] w shelf l legal told honest = record { rises = omega arith; alone = λ e. refl }
+lasts f size (m ∷ log) w shelf l legal told honest =
+    let s = step_law f size w shelf l honest.0 m told.0.0 told.0.1 legal.0 in
+    let rest = lasts f size log (after f w m) (shelf_after shelf s.commands) s.law legal.1 told.1 honest.1 in
+    record {
+      rises = omega (arith, s.rises, rest.rises);
+      alone = λ e. let h = s.alone e in rest.alone h.0 ∙ h.1;
+    }
+
+-- the law over a legal history
+pub legal_law : (f : Formats) (size : ℕ) (log : List Moment) (w : World) (shelf : List Shelved) → Law f w shelf → IsLegal f size w log → AreTold log → AreHonest f w log
+    → Law f (world_from f w log) (shelf_after shelf (committed f (world_from f w log).safe w log))
+legal_law f size [] w shelf l legal told honest = l
+legal_law f size (m ∷ log) w shelf l legal told honest =
+    let s = step_law f size w shelf l honest.0 m told.0.0 told.0.1 legal.0 in
+    let rest = lasts f size log (after f w m) (shelf_after shelf s.commands) s.law legal.1 told.1 honest.1 in
+    let last : World = world_from f (after f w m) log in
+    let mine : commands_at f last.safe w m.entry.who m.entry.step m.entry.reply ≡ s.commands = s.counted last.safe rest.rises rest.alone in
+    let law : Law f last (shelf_after (shelf_after shelf s.commands) (committed f last.safe (after f w m) log)) = legal_law f size log (after f w m) (shelf_after shelf s.commands) s.law legal.1 told.1 honest.1 in
+    subst (Law f last) (sym (shelf_after-append shelf s.commands (committed f last.safe (after f w m) log)) ∙ ap (λ cs. shelf_after shelf (cs ++ committed f last.safe (after f w m) log)) (sym mine)) law
+
+-- the image after a moment is that of the world
+image_is : (f : Formats) (size : ℕ) (w : World) (m : Moment) (i : Image) → m.image ≡ Some i → Allowed f size w m → i ≡ image_of f (after f w m)
+image_is f size w m i told a = λ j. record { blobs = blobs_told m.image told j; text = a.text i told j }
+  where
+    blobs_told : (image : Option Image) → image ≡ Some i → i.blobs ≡ blobs_in image w.blobs
+    blobs_told None e = absurd (none_some i e)
+    blobs_told (Some x) e = ap (λ (y : Image). y.blobs) (sym (some_same _ _ e))
+
+world_append : (f : Formats) (log : List Moment) (w : World) (m : Moment) → world_from f w (log ++ m ∷ []) ≡ after f (world_from f w log) m
+world_append f [] w m = refl
+world_append f (x ∷ log) w m = world_append f log (after f w x) m
+
+last_allowed : (f : Formats) (size : ℕ) (log : List Moment) (w : World) (m : Moment) → IsLegal f size w (log ++ m ∷ []) → Allowed f size (world_from f w log) m
+last_allowed f size [] w m legal = legal.0
+last_allowed f size (x ∷ log) w m legal = last_allowed f size log (after f w x) m legal.1
+
+-- the image after the last moment is kept for the commands that count in it
+pub image_kept : (f : Formats) (size : ℕ) (log : List Moment) (w : World) (shelf : List Shelved) (m : Moment) (i : Image) → Law f w shelf → m.image ≡ Some i → IsLegal f size w (log ++ m ∷ []) → AreTold (log ++ m ∷ []) → AreHonest f w (log ++ m ∷ [])
+    → Kept f i (shelf_after shelf (committed f (world_from f w (log ++ m ∷ [])).safe w (log ++ m ∷ [])))
+image_kept f size log w shelf m i l image legal told honest =
+    let all : List Moment = log ++ m ∷ [] in
+    let a = last_allowed f size log w m legal in
+    let last : World = world_from f w all in
+    let same : last ≡ after f (world_from f w log) m = world_append f log w m in
+    let back : ReadsBack f.cluster (record_of last) = subst (λ x. ReadsBack f.cluster (record_of x)) (sym same) a.record_back in
+    subst (λ x. Kept f x (shelf_after shelf (committed f last.safe w all))) (ap (image_of f) same ∙ sym (image_is f size (world_from f w log) m i image a))
+    (kept_of f last _ (legal_law f size all w shelf l legal told honest) back)
+
+-- a step of an older term changes nothing
+pub stale_stays : (f : Formats) (w : World) (m : Moment) (own now : ℕ) → m.entry.reply ≡ Refused (StaleTerm own now) → SameBlobs w m.image → after f w m ≡ w
+stale_stays f w m own now e same = (λ j. record (answered f w m.entry.who m.entry.step (e j) m.image) { blobs = blobs_in m.image w.blobs }) ∙ (λ j. record w { blobs = stay m.image same j })
+  where
+    stay : (image : Option Image) → SameBlobs w image → blobs_in image w.blobs ≡ w.blobs
+    stay None h = refl
+    stay (Some i) h = h

@@ -1,0 +1,349 @@
+-- Each moment of a legal history is a turn of the law.
+use Rattle.std.proofs.Common.{◌≡◌, ◌≢◌, ◌⊎◌, ℕ, suc, ◌+◌, ◌^◌, ◌<◌, ◌≤◌, List, [], ◌∷◌, Bool, true, false, true≢false, Option, Some, None, refl, sym, ap, ◌∙◌, subst, inl, inr, arith, nat_cmp}
+use Rattle.std.specs.Prelude.{if◌then◌else◌, ◌&&◌, ◌==◌, nat_lt}
+use Rattle.std.proofs.lemmas.Bool.Decides.{eqb_tells}
+use Rattle.std.proofs.lemmas.Bool.{lt-ltb, le-ltb}
+use Rattle.std.specs.Cmp.Lexicographic.{nat_list_cmp_total}
+use Rattle.std.specs.FinMap as fin
+use Rattle.esr_model.specs.Names.{BlobName, Latest}
+use Rattle.esr_model.specs.Values.{Bytes, Has, SnapInfo, ShardResult, Formats}
+use Rattle.esr_model.specs.Shelf.{Shelved, Command}
+use Rattle.esr_model.specs.Kept.{first_id}
+use Rattle.esr_model.specs.Image.{Blobs, Image, At, Present}
+use Rattle.esr_core.specs.World.{World, Op, ShardWork, Work, Shard, Finalize, Deleting, Drop, Ticket, Swap, swap, record_of}
+use Rattle.esr_core.specs.Ready.{IsShard, IsMaster}
+use Rattle.esr_core.specs.Steps.{IsOut, PutsLatest, TryLatest, Ends, Elect, Raise, MaySettle, with_ticket, writing, noting, reading, settled, shard_ticket}
+use Rattle.esr_core.specs.Ids.{Law}
+use Rattle.esr_core.specs.Entry.{Asked, Snapshot, Given, GivenShard, GivenFinalize, GivenDrop, Why, Step, AskStep, TakeStep, DrawStep, BeginStep, CommitStep, LatestStep, FetchStep, ListStep, RaiseStep, SettleStep, DoneStep, FailedStep, FinishStep, DroppedStep, ElectStep, LookStep, Refusal, DepotFault, Reply, WasSettled, HasEnded, Refused, Entry, Moment}
+use Rattle.esr_core.specs.After.{asked, asked_op, taken_by, taken_shard, with_given, change, committing, fetching, told_blob, settled_of, settled_by, failed_of, failed_by, is_stale, dropped_of, done_step, has_text, fallen, blobs_in, after}
+use Rattle.esr_core.specs.Allowed as allowed
+use Rattle.esr_core.specs.Allowed.{Told, SameBlobs, Adds, Accepts, Gives, GivesShard, GivesFinalize, Draws, Commits, Refinds, Puts, Raises, Settles, Fails, Finishes, Drops, Dones, Allows}
+use Rattle.esr_core.specs.History.{counts, is_settle, command_of, command_by, commands_at, IsHonest}
+use Rattle.esr_core.specs.Turns.{AskCreate, AsksCreate, plain_ticket, SettleFinal, Failed, Dropped, Turn, Stays, Latests, Fetches, Raises as RaisesTurn, Finds, SettlesFinal, Elects, TakesShard, TakesFinal, TakesDrop, DrawsShard, Ending, Fails as FailsTurn, Drops as DropsTurn, Deposes, commands_of}
+use Rattle.esr_core.specs.Turns as turns
+use Rattle.esr_core.specs.Entry as entry
+use Rattle.esr_core.proofs.Maps.{get_same, texts_same}
+use Rattle.esr_core.proofs.Reading.{some_same}
+
+-- the blobs after a step that leaves them
+blobs_same : (w : World) (image : Option Image) → SameBlobs w image → blobs_in image w.blobs ≡ w.blobs
+blobs_same w None same = refl
+blobs_same w (Some i) same = same
+
+-- a step with the commands that count in an image with so many roots, by what the world after it says of them
+pub record Turned (f : Formats) (w : World) (who : ℕ) (step : Step) (reply : Reply) (new : World) : Type 0 where
+  pub turn : Turn f w new
+  pub commands : (safe : ℕ) → new.safe ≤ safe → (new.deposed ≡ true → safe ≡ new.safe) → commands_at f safe w who step reply ≡ commands_of f w new turn
+
+-- a step that is no settle
+pub plain : (f : Formats) (w : World) (who : ℕ) (step : Step) (reply : Reply) (new : World) (turn : Turn f w new) → is_settle step ≡ false → commands_of f w new turn ≡ [] → Turned f w who step reply new
+plain f w who step reply new turn no_settle none =
+    record { turn = turn; commands = λ safe a b. ap (λ (x : Bool). if counts reply && x then command_of f safe (fin.get w.tickets who) else []) no_settle ∙ both (counts reply) safe ∙ sym none }
+  where
+    both : (x : Bool) (safe : ℕ) → (if x && false then command_of f safe (fin.get w.tickets who) else []) ≡ []
+    both true safe = refl
+    both false safe = refl
+
+-- a step that leaves the world
+stays : (f : Formats) (w : World) (who : ℕ) (step : Step) (reply : Reply) (image : Option Image) → SameBlobs w image → counts reply ≡ false → Turned f w who step reply (record w { blobs = blobs_in image w.blobs })
+stays f w who step reply image same no_count =
+    record {
+      turn = Stays (record w { blobs = blobs_in image w.blobs }) (λ j. record w { blobs = blobs_same w image same j });
+      commands = λ safe a b. ap (λ (x : Bool). if x && is_settle step then command_of f safe (fin.get w.tickets who) else []) no_count;
+    }
+
+module _ (f : Formats) (w : World) where
+  raise_turn : (k n : ℕ) (image : Option Image) → Raises f w k n → SameBlobs w image → Raise f w k (record (record (change w k (λ (t : Ticket). record t { raised = Some w.pending })) { pending = suc w.pending }) { blobs = blobs_in image w.blobs })
+  raise_turn k n image r same =
+      record {
+        t = r.t;
+        out = r.out;
+        swapped = r.s;
+        is = r.is;
+        unsettled = r.unsettled;
+        present = r.present;
+        once = r.once;
+        new_is = λ j. record (record (with_given w k (λ (t : Ticket). record t { raised = Some w.pending }) (r.out.there j)) { pending = suc w.pending }) { blobs = blobs_same w image same j };
+      }
+
+  -- a record swap that failed leaves the world as before, or as where Ok, and deposed
+  falls : (up : World) → Turn f w up → (b : Bool) (blobs : Blobs) → blobs ≡ w.blobs → up.blobs ≡ w.blobs → Turn f w (record (if b then up else w) { deposed = true; blobs = blobs })
+  falls up turn true blobs same kept = Deposes (record up { deposed = true; blobs = blobs }) up turn (λ j. record up { deposed = true; blobs = (same ∙ sym kept) j })
+  falls up turn false blobs same kept = Deposes (record w { deposed = true; blobs = blobs }) w (Stays w refl) (λ j. record w { deposed = true; blobs = same j })
+
+  -- its commands are those of the swap where the new record stands
+  falls_commands : (up : World) (turn : Turn f w up) (b : Bool) (blobs : Blobs) (same : blobs ≡ w.blobs) (kept : up.blobs ≡ w.blobs)
+      → commands_of f w (record (if b then up else w) { deposed = true; blobs = blobs }) (falls up turn b blobs same kept) ≡ (if b then commands_of f w up turn else [])
+  unfolding falls
+  falls_commands up turn true blobs same kept = refl
+  falls_commands up turn false blobs same kept = refl
+
+  -- a swap that is no settle
+  falls_plain : (k : ℕ) (step : Step) (up0 up : World) (turn : Turn f w up) (b : Bool) (image : Option Image) → SameBlobs w image → up0 ≡ up → up.blobs ≡ w.blobs → is_settle step ≡ false → commands_of f w up turn ≡ []
+      → Turned f w k step (Refused DepotFault) (record (if b then up0 else w) { deposed = true; blobs = blobs_in image w.blobs })
+  falls_plain k step up0 up turn b image same is kept no_settle none =
+      subst (λ (x : World). Turned f w k step (Refused DepotFault) (record (if b then x else w) { deposed = true; blobs = blobs_in image w.blobs })) (sym is)
+      (plain f w k step (Refused DepotFault) _ (falls up turn b (blobs_in image w.blobs) (blobs_same w image same) kept) no_settle
+      (falls_commands up turn b (blobs_in image w.blobs) (blobs_same w image same) kept ∙ neither b))
+    where
+      neither : (b : Bool) → (if b then commands_of f w up turn else []) ≡ []
+      neither true = none
+      neither false = refl
+
+  -- ---- take
+
+  gives_turn : (k o : ℕ) (unit : Given) (image : Option Image) → Gives f w o unit → SameBlobs w image → Turned f w 0 TakeStep (entry.Gave k o unit) (record (taken_by f w o unit (fin.get w.ops o)) { blobs = blobs_in image w.blobs })
+  gives_turn k o (GivenShard index number base) image g same =
+      plain f w 0 TakeStep (entry.Gave k o (GivenShard index number base)) _
+      (TakesShard _ o g.op g.s base (record {
+        ready = g.ready;
+        largest = g.largest;
+        new_is = (λ j. record (taken_by f w o (GivenShard index number base) (g.ready.op_there j)) { blobs = blobs_in image w.blobs }) ∙ (λ j. record (taken_shard w o g.op base (g.found j)) { blobs = blobs_same w image same j });
+      })) refl refl
+  gives_turn k o (GivenFinalize info results) image g same =
+      plain f w 0 TakeStep (entry.Gave k o (GivenFinalize info results)) _
+      (TakesFinal _ o g.op results (record {
+        ready = g.ready;
+        root_back = g.root_back;
+        new_is = λ j. record (taken_by f w o (GivenFinalize info results) (g.ready.op_there j)) { blobs = blobs_same w image same j };
+      })) refl refl
+  gives_turn k o GivenDrop image g same =
+      plain f w 0 TakeStep (entry.Gave k o GivenDrop) _ (TakesDrop _ o (record { ready = g; new_is = dropping (fin.get w.ops o) })) refl refl
+    where
+      dropping : (found : Option Op) → record (taken_by f w o GivenDrop found) { blobs = blobs_in image w.blobs } ≡ record w { tickets = fin.insert w.tickets w.next_ticket (plain_ticket w o Drop); next_ticket = suc w.next_ticket }
+      dropping None = λ j. record w { tickets = fin.insert w.tickets w.next_ticket (plain_ticket w o Drop); next_ticket = suc w.next_ticket; blobs = blobs_same w image same j }
+      dropping (Some op) = λ j. record w { tickets = fin.insert w.tickets w.next_ticket (plain_ticket w o Drop); next_ticket = suc w.next_ticket; blobs = blobs_same w image same j }
+
+  -- ---- blobs
+
+  commit_turn : (k : ℕ) (name : BlobName) (i : Image) (c : Commits f w k name) → Adds f w name c.bytes i.blobs → Turned f w k (CommitStep name) entry.WasDone (record (change w k (committing name (told_blob f (Some i) name))) { blobs = i.blobs })
+  commit_turn k name i c adds =
+      let told : fin.get i.blobs (f.names.text name) ≡ Some c.bytes = ap (λ (b : Blobs). fin.get b (f.names.text name)) adds.1 ∙ get_same nat_list_cmp_total texts_same w.blobs (f.names.text name) c.bytes in
+      plain f w k (CommitStep name) entry.WasDone _
+      (turns.Commits _ k name (record { t = c.t; out = c.out; bytes = c.bytes; named = c.named; may = c.may; absent = adds.0; new_is = λ j. record (with_given w k (committing name (told j)) (c.out.there j)) { blobs = adds.1 j } })) refl refl
+
+  commit_fails : (k : ℕ) (name : BlobName) (i : Image) (c : Commits f w k name) → (i.blobs ≡ w.blobs) ⊎ Adds f w name c.bytes i.blobs → Turned f w k (CommitStep name) (Refused DepotFault) (record w { blobs = i.blobs })
+  commit_fails k name i c leaves =
+      plain f w k (CommitStep name) (Refused DepotFault) _
+      (turns.CommitFails _ k name (record { t = c.t; out = c.out; bytes = c.bytes; named = c.named; may = c.may; leaves = elim leaves [ inl e ↦ inl (λ j. record w { blobs = e j }) | inr adds ↦ inr (adds.0, λ j. record w { blobs = adds.1 j }) ] })) refl refl
+
+  find_turn : (k : ℕ) (name : BlobName) (image : Option Image) → Refinds f w k name → (bytes : Bytes) → At f w.blobs name bytes → SameBlobs w image
+      → Turned f w k (CommitStep name) entry.WasThere (record (change w k (λ (t : Ticket). noting t name)) { blobs = blobs_in image w.blobs })
+  find_turn k name image c bytes there same =
+      plain f w k (CommitStep name) entry.WasThere _
+      (Finds _ k name (record { t = c.t; out = c.out; info = c.info; results = c.results; made = c.made; work = c.work; bytes = c.bytes; own = c.own; there = (bytes, there); new_is = λ j. record (with_given w k (λ (t : Ticket). noting t name) (c.out.there j)) { blobs = blobs_same w image same j } })) refl refl
+
+  latest_turn : (k : ℕ) (reply : Reply) (i : Image) → Puts f w k → PutsLatest f w.blobs i.blobs → Turned f w k LatestStep reply (record (change w k (λ (t : Ticket). record t { tried_latest = true })) { blobs = i.blobs })
+  latest_turn k reply i c puts =
+      plain f w k LatestStep reply _
+      (Latests _ k (record { now = i.blobs; puts = puts; tries = record { t = c.t; out = record { there = c.out.there; out = c.out.out }; s = c.s; is = c.is; unsettled = c.unsettled; new_is = λ j. record (with_given w k (λ (t : Ticket). record t { tried_latest = true }) (c.out.there j)) { blobs = i.blobs } } })) refl refl
+
+  fetch_turn : (k : ℕ) (name : BlobName) (i : Image) (t : Ticket) → IsOut w k t → (bytes : Bytes) → At f w.blobs name bytes → i.blobs ≡ w.blobs → Turned f w k (FetchStep name) entry.WasFetched (record (change w k (fetching name (told_blob f (Some i) name))) { blobs = i.blobs })
+  fetch_turn k name i t out bytes at same =
+      let told : fin.get i.blobs (f.names.text name) ≡ Some bytes = ap (λ (b : Blobs). fin.get b (f.names.text name)) same ∙ at.0 in
+      plain f w k (FetchStep name) entry.WasFetched _
+      (Fetches _ k name (record { t = t; out = out; bytes = bytes; there = at; new_is = λ j. record (with_given w k (fetching name (told j)) (out.there j)) { blobs = same j } })) refl refl
+
+  -- ---- settle
+
+  settled_is : (k : ℕ) (s : Settles f w k) (blobs : Blobs) → record (settled_of f w k (fin.get w.tickets k)) { blobs = blobs } ≡ record (settled w k s.t s.n s.s.root) { deletes = fin.remove w.deletes s.t.op; blobs = blobs }
+  settled_is k s blobs = (λ j. record (settled_of f w k (s.may.out.there j)) { blobs = blobs }) ∙ (λ j. record (settled_by f w k s.t (s.may.is j) (s.may.raised j)) { blobs = blobs })
+
+  settled_plain : (k : ℕ) (s : Settles f w k) → settled_of f w k (fin.get w.tickets k) ≡ record (settled w k s.t s.n s.s.root) { deletes = fin.remove w.deletes s.t.op }
+  settled_plain k s = (λ j. settled_of f w k (s.may.out.there j)) ∙ (λ j. settled_by f w k s.t (s.may.is j) (s.may.raised j))
+
+  abbrev settle_final : (k : ℕ) (s : Settles f w k) (new : World) → new ≡ record (settled w k s.t s.n s.s.root) { deletes = fin.remove w.deletes s.t.op } → Turn f w new
+  settle_final k s new e = SettlesFinal new k s.n s.t s.s (record { info = s.info; results = s.results; made = s.made; work = s.work; may = s.may; present = s.present; new_is = e })
+
+  -- the command of its ticket, where the image's safe root isn't below it
+  command_is : (k : ℕ) (s : Settles f w k) (safe : ℕ) → command_of f safe (fin.get w.tickets k) ≡ (if nat_lt s.n safe then s.s.commands else [])
+  command_is k s safe = ap (command_of f safe) s.may.out.there ∙ (λ j. command_by safe (s.may.is j) (s.may.raised j))
+
+  less_true : (a b : ℕ) → a < b → nat_lt a b ≡ true
+  less_true a b h = lt-ltb a b h
+
+  less_false : (a b : ℕ) → b ≤ a → nat_lt a b ≡ false
+  less_false a b h = le-ltb a b h
+
+  settle_turn : (k : ℕ) (image : Option Image) → Settles f w k → SameBlobs w image → Turned f w k SettleStep WasSettled (record (settled_of f w k (fin.get w.tickets k)) { blobs = blobs_in image w.blobs })
+  settle_turn k image s same =
+      subst (λ (x : World). Turned f w k SettleStep WasSettled x) (sym (settled_is k s (blobs_in image w.blobs)))
+      (record {
+        turn = settle_final k s _ (λ j. record (settled w k s.t s.n s.s.root) { deletes = fin.remove w.deletes s.t.op; blobs = blobs_same w image same j });
+        commands = λ safe above alone. command_is k s safe ∙ ap (λ b. if b then s.s.commands else []) (less_true s.n safe (let h : suc s.n ≤ safe = above in omega (arith, h)));
+      })
+
+  -- a settle that failed counts where the new record stands
+  settle_fails : (shelf : List Shelved) → Law f w shelf → (k : ℕ) (s : Settles f w k) (b : Bool) (image : Option Image) → SameBlobs w image
+      → Turned f w k SettleStep (Refused DepotFault) (record (if b then settled_of f w k (fin.get w.tickets k) else w) { deposed = true; blobs = blobs_in image w.blobs })
+  settle_fails shelf l k s b image same =
+      subst (λ (x : World). Turned f w k SettleStep (Refused DepotFault) (record (if b then x else w) { deposed = true; blobs = blobs_in image w.blobs })) (sym (settled_plain k s))
+      (record {
+        turn = falls (record (settled w k s.t s.n s.s.root) { deletes = fin.remove w.deletes s.t.op }) (settle_final k s _ refl) b (blobs_in image w.blobs) (blobs_same w image same) refl;
+        commands = λ safe above alone. command_is k s safe ∙ chosen b safe above (alone refl) ∙ sym (falls_commands (record (settled w k s.t s.n s.s.root) { deletes = fin.remove w.deletes s.t.op }) (settle_final k s _ refl) b (blobs_in image w.blobs) (blobs_same w image same) refl);
+      })
+    where
+      not_below : w.safe ≤ s.n
+      not_below = ((l.lawful.sound.rooted.tickets k s.t s.may.out.there).last s.s (record { is = s.may.is; out = s.may.out.out; unsettled = s.may.unsettled }) s.present s.n s.may.raised).1
+
+      chosen : (b : Bool) (safe : ℕ) → (if b then record (settled w k s.t s.n s.s.root) { deletes = fin.remove w.deletes s.t.op } else w).safe ≤ safe → safe ≡ (if b then record (settled w k s.t s.n s.s.root) { deletes = fin.remove w.deletes s.t.op } else w).safe
+          → (if nat_lt s.n safe then s.s.commands else []) ≡ (if b then s.s.commands else [])
+      chosen true safe above is = ap (λ c. if c then s.s.commands else []) (less_true s.n safe (let h : suc s.n ≤ safe = above in omega (arith, h)))
+      chosen false safe above is = let e : safe ≡ w.safe = is in ap (λ c. if c then s.s.commands else []) (less_false s.n safe (omega (arith, e, not_below)))
+
+  -- ---- failed
+
+  shard_stale : (t : Ticket) (work : Work) → IsShard work → is_stale w t work ≡ false
+  shard_stale t (Shard i n) h = refl
+  shard_stale t (Finalize info rs made) h = absurd h
+  shard_stale t (Deleting uuids plan) h = absurd h
+  shard_stale t Drop h = absurd h
+
+  master_stale : (t : Ticket) (work : Work) → IsMaster work → is_stale w t work ≡ (if t.term == w.term then false else true)
+  master_stale t (Shard i n) h = absurd h
+  master_stale t (Finalize info rs made) h = refl
+  master_stale t (Deleting uuids plan) h = refl
+  master_stale t Drop h = absurd h
+
+  no_shard : (work : Work) → IsMaster work → IsShard work → ⊥
+  no_shard (Shard i n) m h = m
+  no_shard (Finalize info rs made) m h = h
+  no_shard (Deleting uuids plan) m h = h
+  no_shard Drop m h = h
+
+  fails_op : (k : ℕ) (why : Why) (image : Option Image) → SameBlobs w image → (c : Fails w k) → (IsShard c.t.work ⊎ ((c.t.term ≡ w.term) × IsMaster c.t.work)) → fin.get w.ops c.t.op ≡ Some c.op → is_stale w c.t c.t.work ≡ false
+      → Turned f w k (FailedStep why) HasEnded (record (failed_of w k (fin.get w.tickets k)) { blobs = blobs_in image w.blobs })
+  fails_op k why image same c counts there fresh =
+      plain f w k (FailedStep why) HasEnded _
+      (FailsTurn _ k (record {
+        t = c.t;
+        out = c.out;
+        unsettled = c.unsettled;
+        counts = counts;
+        op = c.op;
+        op_there = there;
+        new_is = (λ j. record (failed_of w k (c.out.there j)) { blobs = blobs_in image w.blobs })
+            ∙ (λ j. record (if fresh j then with_ticket w k (record c.t { out = false }) else failed_by w k c.t (fin.get w.ops c.t.op)) { blobs = blobs_in image w.blobs })
+            ∙ (λ j. record (failed_by w k c.t (there j)) { blobs = blobs_same w image same j });
+      })) refl refl
+
+  fails_stale : (k : ℕ) (why : Why) (image : Option Image) → SameBlobs w image → (c : Fails w k) → IsMaster c.t.work → c.t.term ≢ w.term → is_stale w c.t c.t.work ≡ true
+      → Turned f w k (FailedStep why) HasEnded (record (failed_of w k (fin.get w.tickets k)) { blobs = blobs_in image w.blobs })
+  fails_stale k why image same c master apart stale =
+      plain f w k (FailedStep why) HasEnded _
+      (Ending _ k (record {
+        t = c.t;
+        out = c.out;
+        no_shard = no_shard c.t.work master;
+        done = inr apart;
+        new_is = (λ j. record (failed_of w k (c.out.there j)) { blobs = blobs_in image w.blobs })
+            ∙ (λ j. record (if stale j then with_ticket w k (record c.t { out = false }) else failed_by w k c.t (fin.get w.ops c.t.op)) { blobs = blobs_same w image same j });
+      })) refl refl
+
+  fails_turn : (k : ℕ) (why : Why) (image : Option Image) → Fails w k → SameBlobs w image → Turned f w k (FailedStep why) HasEnded (record (failed_of w k (fin.get w.tickets k)) { blobs = blobs_in image w.blobs })
+  fails_turn k why image c same = elim c.unit [
+    | inl shard ↦ fails_op k why image same c (inl shard) (c.op_there (inl shard)) (shard_stale c.t c.t.work shard)
+    | inr master ↦ elim (eqb_tells c.t.term w.term) [
+      | inl e ↦ fails_op k why image same c (inr (e.1, master)) (c.op_there (inr e.1)) (master_stale c.t c.t.work master ∙ ap (λ (b : Bool). if b then false else true) e.0)
+      | inr e ↦ fails_stale k why image same c master e.1 (master_stale c.t c.t.work master ∙ ap (λ (b : Bool). if b then false else true) e.0)
+    ]
+  ]
+
+  ends_turn : (k : ℕ) (image : Option Image) → Finishes w k → SameBlobs w image → Turned f w k FinishStep HasEnded (record (change w k (λ (t : Ticket). record t { out = false })) { blobs = blobs_in image w.blobs })
+  ends_turn k image c same =
+      plain f w k FinishStep HasEnded _ (Ending _ k (record { t = c.t; out = c.out; no_shard = c.no_shard; done = c.done; new_is = λ j. record (with_given w k (λ (t : Ticket). record t { out = false }) (c.out.there j)) { blobs = blobs_same w image same j } })) refl refl
+
+  dropped : (k : ℕ) (c : Drops w k) → World
+  dropped k c = record w { ops = fin.remove w.ops c.t.op; deletes = fin.remove w.deletes c.t.op; tickets = fin.insert w.tickets k (record c.t { out = false }) }
+
+  abbrev drop_turn : (k : ℕ) (c : Drops w k) (new : World) → new ≡ record w { ops = fin.remove w.ops c.t.op; deletes = fin.remove w.deletes c.t.op; tickets = fin.insert w.tickets k (record c.t { out = false }) } → Turn f w new
+  drop_turn k c new e = DropsTurn new k (record { t = c.t; out = c.out; work = c.work; present = c.present; new_is = e })
+
+-- a call that failed and leaves all but the record as it was
+fault_stays : (f : Formats) (w : World) (who : ℕ) (step : Step) (image : Option Image) → SameBlobs w image → is_settle step ≡ false → Turned f w who step (Refused DepotFault) (record w { blobs = blobs_in image w.blobs })
+fault_stays f w who step image same no_settle = plain f w who step (Refused DepotFault) _ (Stays _ (λ j. record w { blobs = blobs_same w image same j })) no_settle refl
+
+abbrev moment : ℕ → Step → Reply → Option Image → Moment
+moment who step reply image = record { entry = record { who = who; step = step; reply = reply }; image = image }
+
+-- a told condition, of the image that is told
+of_told : (i : Image) (image : Option Image) (P : Blobs → Type 0) → image ≡ Some i → Told image P → P i.blobs
+of_told i None P e h = absurd (cc)
+of_told i (Some x) P e h = subst (λ (y : Image). P y.blobs) (some_same _ _ e) h
+
+module _ (f : Formats) (size : ℕ) (w : World) (shelf : List Shelved) (l : Law f w shelf) (i : Image)
+    (doing : (k : ℕ) (r : ShardResult) → Dones f size w k r (Some i) → i.blobs ≡ w.blobs → Turned f w k (DoneStep r) HasEnded (after f w (moment k (DoneStep r) HasEnded (Some i))))
+    (asking : (name : Bytes) (indices : List entry.AskedIndex) (time o : ℕ) → Accepts f w name indices time o → AskCreate f w (asked_op w name indices time) (asked w (Snapshot name indices time))) where
+  ask_turn : (name : Bytes) (indices : List entry.AskedIndex) (time o : ℕ) (image : Option Image) → Accepts f w name indices time o → SameBlobs w image → Turned f w 0 (AskStep (Snapshot name indices time)) (entry.Accepted o) (after f w (moment 0 (AskStep (Snapshot name indices time)) (entry.Accepted o) image))
+  ask_turn name indices time o image acc same =
+      plain f w 0 _ _ _ (AsksCreate _ (asked_op w name indices time) (subst (AskCreate f w (asked_op w name indices time)) (λ j. record (asked w (Snapshot name indices time)) { blobs = sym (blobs_same w image same) j }) (asking name indices time o acc))) refl refl
+
+  ask_fails : (name : Bytes) (indices : List entry.AskedIndex) (time : ℕ) (image : Option Image) → Accepts f w name indices time w.next_op → SameBlobs w image → Turned f w 0 (AskStep (Snapshot name indices time)) (Refused DepotFault) (after f w (moment 0 (AskStep (Snapshot name indices time)) (Refused DepotFault) image))
+  ask_fails name indices time image acc same =
+      falls_plain f w 0 (AskStep (Snapshot name indices time)) (asked w (Snapshot name indices time)) (asked w (Snapshot name indices time)) (AsksCreate _ (asked_op w name indices time) (asking name indices time w.next_op acc)) _ image same refl refl refl refl
+
+  -- each answer is a turn
+  pub turn_by : (who : ℕ) (step : Step) (reply : Reply) (image : Option Image) → image ≡ Some i → Allows f size w who step reply image → Turned f w who step reply (after f w (moment who step reply image))
+  turn_by who step reply image told (allowed.Accepting name indices time o im acc same) = ask_turn name indices time o im acc same
+  turn_by who step reply image told (allowed.GivingNothing im none same) = stays f w 0 TakeStep entry.NothingReady im same refl
+  turn_by who step reply image told (allowed.Giving k o unit im is g same) = gives_turn f w k o unit im g same
+  turn_by who step reply image told (allowed.Drawing k n first im d same) =
+      plain f w k (DrawStep n) (entry.DrawnFrom first) _
+      (DrawsShard _ k n (record { t = d.t; out = d.out; shard = d.shard; once = d.once; fits = d.fits; new_is = λ j. record (record (with_given w k (λ (t : Ticket). record t { first = w.next_id; drawn = n }) (d.out.there j)) { next_id = w.next_id + n }) { blobs = blobs_same w im same j } })) refl refl
+  turn_by who step reply image told (allowed.Beginning k name im c same) = stays f w k (BeginStep name) entry.WasBegun im same refl
+  turn_by who step reply image told (allowed.BeginningLatest k name im c is same) = stays f w k (BeginStep name) entry.WasBegun im same refl
+  turn_by who step reply image told (allowed.Committing k name im c adds) =
+      subst (λ x. Turned f w k (CommitStep name) entry.WasDone (after f w (moment k (CommitStep name) entry.WasDone x))) (sym told) (commit_turn f w k name i c (of_told i im (Adds f w name c.bytes) told adds))
+  turn_by who step reply image told (allowed.Finding k name im c found) =
+      let here = of_told i im (λ blobs. Present f w.blobs name × (blobs ≡ w.blobs)) told found in
+      find_turn f w k name im c here.0.0 here.0.1 (subst (SameBlobs w) (sym told) here.1)
+  turn_by who step reply image told (allowed.Replacing k im c puts) =
+      subst (λ x. Turned f w k LatestStep entry.WasReplaced (after f w (moment k LatestStep entry.WasReplaced x))) (sym told) (latest_turn f w k entry.WasReplaced i c (of_told i im (PutsLatest f w.blobs) told puts))
+  turn_by who step reply image told (allowed.Fetching k name im t out stored found) =
+      let here = of_told i im (λ blobs. (bytes : Bytes) × (fin.get w.blobs (f.names.text name) ≡ Some bytes) × (blobs ≡ w.blobs)) told found in
+      subst (λ x. Turned f w k (FetchStep name) entry.WasFetched (after f w (moment k (FetchStep name) entry.WasFetched x))) (sym told) (fetch_turn f w k name i t out here.0 (here.1, stored) here.2)
+  turn_by who step reply image told (allowed.Missing k name im t out found) =
+      let here = of_told i im (λ blobs. (fin.get w.blobs (f.names.text name) ≡ None) × (blobs ≡ w.blobs)) told found in
+      stays f w k (FetchStep name) entry.WasAbsent im (subst (SameBlobs w) (sym told) here.1) refl
+  turn_by who step reply image told (allowed.Listing k im t out same) = stays f w k ListStep entry.WasListed im same refl
+  turn_by who step reply image told (allowed.Raising k n im r same) = plain f w k RaiseStep (entry.RaisedTo n) _ (RaisesTurn _ k (raise_turn f w k n im r same)) refl refl
+  turn_by who step reply image told (allowed.Settling k im s same) = settle_turn f w k im s same
+  turn_by who step reply image told (allowed.Doing k r im d same) =
+      subst (λ x. Turned f w k (DoneStep r) HasEnded (after f w (moment k (DoneStep r) HasEnded x))) (sym told)
+      (doing k r (subst (Dones f size w k r) told d) (subst (SameBlobs w) told same))
+  turn_by who step reply image told (allowed.Failing k why im c same) = fails_turn f w k why im c same
+  turn_by who step reply image told (allowed.Finishing k im c same) = ends_turn f w k im c same
+  turn_by who step reply image told (allowed.Dropping k im c same) =
+      plain f w k DroppedStep HasEnded _ (drop_turn f w k c _ (λ j. record (dropped_of w k (c.out.there j)) { blobs = blobs_same w im same j })) refl refl
+  turn_by who step reply image told (allowed.Electing im room same) = plain f w 0 ElectStep _ _ (Elects _ (record { new_is = λ j. record w { term = suc w.term; next_id = first_id (suc w.term); blobs = blobs_same w im same j } })) refl refl
+  turn_by who step reply image told (allowed.Looking im same) = stays f w 0 LookStep _ im same refl
+  turn_by who step reply image told (allowed.Cleaning c d x im there clean same) = stays f w 0 (AskStep c) _ im same refl
+  turn_by who step reply image told (allowed.Used name indices time uuid im is same) = stays f w 0 (AskStep (Snapshot name indices time)) _ im same refl
+  turn_by who step reply image told (allowed.Full c im full same) = stays f w 0 (AskStep c) _ im same refl
+  turn_by who step reply image told (allowed.AskSpent name indices time im spent same) = stays f w 0 (AskStep (Snapshot name indices time)) _ im same refl
+  turn_by who step reply image told (allowed.DrawSpent k n im spent same) = stays f w k (DrawStep n) _ im same refl
+  turn_by who step reply image told (allowed.RaiseStale k t im out apart same) = stays f w k RaiseStep _ im same refl
+  turn_by who step reply image told (allowed.SettleStale k t im out apart same) = stays f w k SettleStep _ im same refl
+  turn_by who step reply image told (allowed.DropStale k t im out apart same) = stays f w k DroppedStep _ im same refl
+  turn_by who step reply image told (allowed.RaiseSpent k im spent same) = stays f w k RaiseStep _ im same refl
+  turn_by who step reply image told (allowed.ElectSpent im spent same) = stays f w 0 ElectStep _ im same refl
+  turn_by who step reply image told (allowed.Taken k name im c found) =
+      stays f w k (CommitStep name) _ im (subst (SameBlobs w) (sym told) (of_told i im (λ blobs. Present f w.blobs name × (blobs ≡ w.blobs)) told found).1) refl
+  turn_by who step reply image told (allowed.BeginFails k name im same) = fault_stays f w k (BeginStep name) im same refl
+  turn_by who step reply image told (allowed.CommitFails k name im c leaves) =
+      subst (λ x. Turned f w k (CommitStep name) (Refused DepotFault) (after f w (moment k (CommitStep name) (Refused DepotFault) x))) (sym told)
+      (commit_fails f w k name i c (of_told i im (λ blobs. (blobs ≡ w.blobs) ⊎ Adds f w name c.bytes blobs) told leaves))
+  turn_by who step reply image told (allowed.ReplaceFails k im c puts) =
+      subst (λ x. Turned f w k LatestStep (Refused DepotFault) (after f w (moment k LatestStep (Refused DepotFault) x))) (sym told) (latest_turn f w k (Refused DepotFault) i c (of_told i im (PutsLatest f w.blobs) told puts))
+  turn_by who step reply image told (allowed.FetchFails k name im same) = fault_stays f w k (FetchStep name) im same refl
+  turn_by who step reply image told (allowed.ListFails k im same) = fault_stays f w k ListStep im same refl
+  turn_by who step reply image told (allowed.AskFails name indices time im acc same) = ask_fails name indices time im acc same
+  turn_by who step reply image told (allowed.RaiseFails k im r same) =
+      falls_plain f w k RaiseStep _ (record w { pending = suc w.pending; tickets = fin.insert w.tickets k (record r.t { raised = Some w.pending }) })
+      (RaisesTurn _ k (record { t = r.t; out = r.out; swapped = r.s; is = r.is; unsettled = r.unsettled; present = r.present; once = r.once; new_is = refl })) _ im same
+      (λ j. record (with_given w k (λ (t : Ticket). record t { raised = Some w.pending }) (r.out.there j)) { pending = suc w.pending }) refl refl refl
+  turn_by who step reply image told (allowed.SettleFails k im s same) = settle_fails f w shelf l k s _ im same
+  turn_by who step reply image told (allowed.DropFails k im c same) =
+      falls_plain f w k DroppedStep _ (record w { ops = fin.remove w.ops c.t.op; deletes = fin.remove w.deletes c.t.op; tickets = fin.insert w.tickets k (record c.t { out = false }) })
+      (drop_turn f w k c _ refl) _ im same (λ j. dropped_of w k (c.out.there j)) refl refl refl
+  turn_by who step reply image told (allowed.ElectFails im room same) = falls_plain f w 0 ElectStep _ _ (Elects _ (record { new_is = refl })) _ im same refl refl refl refl

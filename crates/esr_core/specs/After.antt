@@ -1,0 +1,226 @@
+-- The world after a step.
+use Rattle.std.specs.Prelude.{ℕ, zero, suc, ◌+◌, Bool, true, false, List, [], ◌∷◌, ◌++◌, Option, Some, None, map, ◌==◌, ◌&&◌, if◌then◌else◌}
+use Rattle.std.specs.Ordering.{nat_cmp}
+use Rattle.std.specs.FinMap.{FinMap}
+use Rattle.std.specs.FinMap as fin
+use Rattle.esr_model.specs.Names.{BlobName}
+use Rattle.esr_model.specs.Values.{Bytes, IndexRef, RootIndex, RootData, SnapInfo, ShardResult, Formats}
+use Rattle.esr_model.specs.Uploads.{same_bytes}
+use Rattle.esr_model.specs.Kept.{first_id}
+use Rattle.esr_model.specs.Image.{Blobs, Image}
+use Rattle.esr_core.specs.World.{World, Op, ShardWork, Pending, Out, Done, Work, Shard, Finalize, Deleting, Drop, Ticket, Swap, swap, marked, shelved_of, record_of}
+use Rattle.esr_core.specs.Steps.{with_ticket, noting, writing, reading, given, completing, settled, shard_ticket, final_ticket}
+use Rattle.esr_core.specs.Turns.{plain_ticket, fails}
+use Rattle.esr_core.specs.Entry.{AskedIndex, Asked, Snapshot, Given, GivenShard, GivenFinalize, GivenDrop, Step, AskStep, TakeStep, DrawStep, BeginStep, CommitStep, LatestStep, FetchStep, ListStep, RaiseStep, SettleStep, DoneStep, FailedStep, FinishStep, DroppedStep, ElectStep, LookStep, Refusal, DepotFault, Reply, Accepted, Gave, DrawnFrom, WasDone, WasThere, WasReplaced, WasFetched, RaisedTo, WasSettled, HasEnded, ElectedTerm, Refused, Entry, Moment}
+
+abbrev pub or_else : {A : Type 0} → Option A → Option A → Option A
+or_else None b = b
+or_else (Some a) b = Some a
+
+-- ---- ask
+
+-- the id of an index by its name: in a root, in the indices of an op, in the open ops
+abbrev pub root_index_id : List RootIndex → Bytes → Option ℕ
+root_index_id [] name = None
+root_index_id (x ∷ xs) name = if same_bytes x.name name then Some x.id else root_index_id xs name
+
+abbrev pub index_id : List IndexRef → Bytes → Option ℕ
+index_id [] name = None
+index_id (r ∷ refs) name = if same_bytes r.name name then Some r.id else index_id refs name
+
+abbrev pub open_index_id : List (ℕ × Op) → Bytes → Option ℕ
+open_index_id [] name = None
+open_index_id (e ∷ ops) name = or_else (index_id e.1.indices name) (open_index_id ops name)
+
+abbrev pub known_id : World → Bytes → Option ℕ
+known_id w name = or_else (root_index_id w.root.indices name) (open_index_id (fin.entries w.ops) name)
+
+abbrev pub ref_by : AskedIndex → Option ℕ → ℕ → IndexRef
+ref_by a None next = record { id = next; name = a.name; shards = a.shards }
+ref_by a (Some id) next = record { id = id; name = a.name; shards = a.shards }
+
+-- one more where the name is new
+abbrev pub next_by : Option ℕ → ℕ → ℕ
+next_by None next = suc next
+next_by (Some id) next = next
+
+-- the indices with their ids, where new ones are drawn one after another
+abbrev pub refs_from : World → ℕ → List AskedIndex → List IndexRef
+refs_from w next [] = []
+refs_from w next (a ∷ asked) = ref_by a (known_id w a.name) next ∷ refs_from w (next_by (known_id w a.name) next) asked
+
+-- how many names are new
+abbrev pub new_names : World → List AskedIndex → ℕ
+new_names w [] = 0
+new_names w (a ∷ asked) = next_by (known_id w a.name) (new_names w asked)
+
+abbrev pub pending_shards : AskedIndex → IndexRef → ℕ → ℕ → List ShardWork
+pending_shards a r first zero = []
+pending_shards a r first (suc n) = record { ref = r; number = first; place = a.place; state = Pending } ∷ pending_shards a r (suc first) n
+
+abbrev pub all_pending : List AskedIndex → List IndexRef → List ShardWork
+all_pending [] refs = []
+all_pending (a ∷ asked) [] = []
+all_pending (a ∷ asked) (r ∷ refs) = pending_shards a r 0 r.shards ++ all_pending asked refs
+
+-- the op of a snapshot: it draws its uuid, then an id for each index whose name is new
+abbrev pub asked_op : World → Bytes → List AskedIndex → ℕ → Op
+asked_op w name indices moment =
+    record {
+      name = name;
+      uuid = w.next_id;
+      moment = moment;
+      indices = refs_from w (suc w.next_id) indices;
+      shards = all_pending indices (refs_from w (suc w.next_id) indices);
+      failed = false;
+      source = None;
+      aborted = None;
+    }
+
+abbrev pub asked : World → Asked → World
+asked w (Snapshot name indices moment) =
+    let op : Op = asked_op w name indices moment in
+    record w { ops = fin.insert w.ops w.next_op op; next_op = suc w.next_op; completed = completing w.completed w.next_op op.shards; next_id = w.next_id + suc (new_names w indices) }
+
+-- ---- take
+
+-- the shard of an op that is of this index and number
+abbrev pub shard_of : List ShardWork → ℕ → ℕ → Option ShardWork
+shard_of [] index number = None
+shard_of (s ∷ shards) index number = if (s.ref.id == index) && (s.number == number) then Some s else shard_of shards index number
+
+abbrev pub taken_shard : World → ℕ → Op → Option ℕ → Option ShardWork → World
+taken_shard w o op base None = w
+taken_shard w o op base (Some s) =
+    record w { ops = fin.insert w.ops o (record op { shards = map (given w.next_ticket s.ref.id s.number) op.shards }); tickets = fin.insert w.tickets w.next_ticket (shard_ticket w o op s base); next_ticket = suc w.next_ticket }
+
+abbrev pub taken_by : Formats → World → ℕ → Given → Option Op → World
+taken_by f w o (GivenShard index number base) (Some op) = taken_shard w o op base (shard_of op.shards index number)
+taken_by f w o (GivenShard index number base) None = w
+taken_by f w o (GivenFinalize info results) (Some op) = record w { tickets = fin.insert w.tickets w.next_ticket (final_ticket f w o op results); next_ticket = suc w.next_ticket }
+taken_by f w o (GivenFinalize info results) None = w
+taken_by f w o GivenDrop op = record w { tickets = fin.insert w.tickets w.next_ticket (plain_ticket w o Drop); next_ticket = suc w.next_ticket }
+
+-- ---- steps of a ticket
+
+abbrev pub with_given : World → ℕ → (Ticket → Ticket) → Option Ticket → World
+with_given w k g None = w
+with_given w k g (Some t) = with_ticket w k (g t)
+
+-- the ticket given anew
+abbrev pub change : World → ℕ → (Ticket → Ticket) → World
+change w k g = with_given w k g (fin.get w.tickets k)
+
+-- the bytes of a blob, where they are told
+abbrev pub told_blob : Formats → Option Image → BlobName → Option Bytes
+told_blob f None name = None
+told_blob f (Some image) name = fin.get image.blobs (f.names.text name)
+
+abbrev pub committing : BlobName → Option Bytes → Ticket → Ticket
+committing name None t = noting t name
+committing name (Some bytes) t = writing t name bytes
+
+abbrev pub fetching : BlobName → Option Bytes → Ticket → Ticket
+fetching name None t = t
+fetching name (Some bytes) t = reading t name bytes
+
+abbrev pub raised : World → ℕ → World
+raised w k = record (change w k (λ t. record t { raised = Some w.pending })) { pending = suc w.pending }
+
+-- the new root of a ticket's swap
+abbrev pub settled_by : Formats → World → ℕ → Ticket → Option Swap → Option ℕ → World
+settled_by f w k t (Some s) (Some n) = record (settled w k t n s.root) { deletes = fin.remove w.deletes t.op }
+settled_by f w k t (Some s) None = w
+settled_by f w k t None n = w
+
+abbrev pub settled_of : Formats → World → ℕ → Option Ticket → World
+settled_of f w k None = w
+settled_of f w k (Some t) = settled_by f w k t (swap f t) t.raised
+
+abbrev pub done_by : World → ℕ → ShardResult → Ticket → Option Op → World
+done_by w k r t None = w
+done_by w k r t (Some op) =
+    let shards : List ShardWork = map (marked k (Done r)) op.shards in
+    record w { ops = fin.insert w.ops t.op (record op { shards = shards }); tickets = fin.insert w.tickets k (record t { out = false }); completed = completing w.completed t.op shards }
+
+abbrev pub done_of : World → ℕ → ShardResult → Option Ticket → World
+done_of w k r None = w
+done_of w k r (Some t) = done_by w k r t (fin.get w.ops t.op)
+
+-- what a stale master ticket reports as failed ends that ticket alone
+abbrev pub is_stale : World → Ticket → Work → Bool
+is_stale w t (Shard index number) = false
+is_stale w t (Finalize info results made) = if t.term == w.term then false else true
+is_stale w t (Deleting uuids plan) = if t.term == w.term then false else true
+is_stale w t Drop = if t.term == w.term then false else true
+
+abbrev pub failed_by : World → ℕ → Ticket → Option Op → World
+failed_by w k t None = w
+failed_by w k t (Some op) = record w { ops = fin.insert w.ops t.op (record op { shards = map (fails k) op.shards; failed = true }); tickets = fin.insert w.tickets k (record t { out = false }) }
+
+abbrev pub failed_of : World → ℕ → Option Ticket → World
+failed_of w k None = w
+failed_of w k (Some t) = if is_stale w t t.work then with_ticket w k (record t { out = false }) else failed_by w k t (fin.get w.ops t.op)
+
+abbrev pub dropped_of : World → ℕ → Option Ticket → World
+dropped_of w k None = w
+dropped_of w k (Some t) = record w { ops = fin.remove w.ops t.op; deletes = fin.remove w.deletes t.op; tickets = fin.insert w.tickets k (record t { out = false }) }
+
+-- ---- all steps
+
+-- the world after a step that was answered Ok, its blobs aside
+abbrev pub done_step : Formats → World → ℕ → Step → Reply → Option Image → World
+done_step f w k (AskStep command) reply image = asked w command
+done_step f w k TakeStep (Gave ticket op unit) image = taken_by f w op unit (fin.get w.ops op)
+done_step f w k (DrawStep n) reply image = record (change w k (λ t. record t { first = w.next_id; drawn = n })) { next_id = w.next_id + n }
+done_step f w k (CommitStep name) WasDone image = change w k (committing name (told_blob f image name))
+done_step f w k (CommitStep name) WasThere image = change w k (λ t. noting t name)
+done_step f w k LatestStep reply image = change w k (λ t. record t { tried_latest = true })
+done_step f w k (FetchStep name) WasFetched image = change w k (fetching name (told_blob f image name))
+done_step f w k RaiseStep reply image = raised w k
+done_step f w k SettleStep reply image = settled_of f w k (fin.get w.tickets k)
+done_step f w k (DoneStep result) reply image = done_of w k result (fin.get w.tickets k)
+done_step f w k (FailedStep why) reply image = failed_of w k (fin.get w.tickets k)
+done_step f w k FinishStep reply image = change w k (λ t. record t { out = false })
+done_step f w k DroppedStep reply image = dropped_of w k (fin.get w.tickets k)
+done_step f w k ElectStep reply image = record w { term = suc w.term; next_id = first_id (suc w.term) }
+done_step f w k step reply image = w
+
+-- a step that swaps the record
+abbrev pub swaps_record : Step → Bool
+swaps_record (AskStep command) = true
+swaps_record RaiseStep = true
+swaps_record SettleStep = true
+swaps_record DroppedStep = true
+swaps_record ElectStep = true
+swaps_record step = false
+
+abbrev pub text_is : Option Bytes → Bytes → Bool
+text_is None text = false
+text_is (Some have) text = same_bytes have text
+
+abbrev pub has_text : Option Image → Bytes → Bool
+has_text None text = false
+has_text (Some image) text = text_is image.text text
+
+-- a record swap that failed leaves the world as before, or as where Ok, and deposed
+abbrev pub fallen : Formats → World → World → Option Image → World
+fallen f w up image = record (if has_text image (f.cluster.text (record_of up)) then up else w) { deposed = true }
+
+-- a replacement of `index.latest` that failed was tried
+abbrev pub faulted : Formats → World → ℕ → Step → Option Image → World
+faulted f w k LatestStep image = change w k (λ t. record t { tried_latest = true })
+faulted f w k step image = if swaps_record step then fallen f w (done_step f w k step HasEnded image) image else w
+
+abbrev pub answered : Formats → World → ℕ → Step → Reply → Option Image → World
+answered f w k step (Refused DepotFault) image = faulted f w k step image
+answered f w k step (Refused refusal) image = w
+answered f w k step reply image = done_step f w k step reply image
+
+abbrev pub blobs_in : Option Image → Blobs → Blobs
+blobs_in None blobs = blobs
+blobs_in (Some image) blobs = image.blobs
+
+-- the world after a moment
+abbrev pub after : Formats → World → Moment → World
+after f w m = record (answered f w m.entry.who m.entry.step m.entry.reply m.image) { blobs = blobs_in m.image w.blobs }

@@ -1,0 +1,253 @@
+-- What each step asks of the world before it, by its answer.
+use Rattle.std.specs.Prelude.{◌≡◌, ◌≢◌, ◌⊎◌, ℕ, zero, suc, ◌+◌, ◌-◌, ◌^◌, ◌<◌, ◌≤◌, Bool, true, false, List, [], ◌∷◌, ◌++◌, map, length, sum_by, min, Option, Some, None}
+use Rattle.std.specs.FinMap as fin
+use Rattle.esr_model.specs.Names.{BlobName, Root, Latest, ShardIndex}
+use Rattle.esr_model.specs.Values.{Bytes, Has, RootSnap, SnapInfo, FileEntry, ShardFiles, ShardResult, ReadsBack, Formats}
+use Rattle.esr_model.specs.Shelf.{Shelved}
+use Rattle.esr_model.specs.Kept.{first_id}
+use Rattle.esr_model.specs.Finalize.{finalized_root}
+use Rattle.esr_model.specs.Image.{Blobs, Image, IsStored, Present}
+use Rattle.esr_model.specs.Uploads.{entries_from, id_after, shard_blobs, with_snap, no_files}
+use Rattle.esr_core.specs.World.{World, Op, Deletion, ShardWork, Out, Work, Shard, Finalize, Drop, Ticket, Swap, swap, AllDone, info_of, metadata, record_of}
+use Rattle.esr_core.specs.Generations.{OpTexts}
+use Rattle.esr_core.specs.Ready.{IsShard, IsMaster, ReadyShard, ReadyFinalize, ReadyDrop, AnyReady}
+use Rattle.esr_core.specs.Steps.{IsOut, Largest, MayCommit, MaySettle, PutsLatest}
+use Rattle.esr_core.specs.Entry.{AskedIndex, Asked, Snapshot, Given, GivenShard, GivenFinalize, GivenDrop, Why, Step, AskStep, TakeStep, DrawStep, BeginStep, CommitStep, LatestStep, FetchStep, ListStep, RaiseStep, SettleStep, DoneStep, FailedStep, FinishStep, DroppedStep, ElectStep, LookStep, Refusal, CleanupRunning, NameInUse, TooMany, DeposedAt, AbortedBy, StaleTerm, GenerationsSpent, TermsSpent, IdsSpent, NameTaken, DepotFault, Reply, Accepted, NothingReady, Gave, DrawnFrom, WasBegun, WasDone, WasThere, WasReplaced, WasFetched, WasAbsent, WasListed, RaisedTo, WasSettled, HasEnded, ElectedTerm, Looked, Refused, Entry, Moment}
+use Rattle.esr_core.specs.After.{asked_op, new_names, shard_of, after}
+
+-- what is told of the blobs after a step
+abbrev pub Told : Option Image → (Blobs → Type 0) → Type 0
+Told None P = Unit {0}
+Told (Some image) P = P image.blobs
+
+-- ---- ask
+
+-- the names are distinct
+abbrev pub AreDistinct : List AskedIndex → Type 0
+AreDistinct [] = Unit {0}
+AreDistinct (a ∷ asked) = ((b : AskedIndex) → Has asked b → a.name ≢ b.name) × AreDistinct asked
+
+-- a snapshot of this name is listed, or an open one has it
+abbrev pub IsNameOf : World → Bytes → ℕ → Type 0
+IsNameOf w name uuid =
+    ((s : RootSnap) × Has w.root.snapshots s × (s.name ≡ name) × (s.uuid ≡ uuid))
+    ⊎ ((o : ℕ) × (op : Op) × (fin.get w.ops o ≡ Some op) × (op.name ≡ name) × (op.uuid ≡ uuid))
+
+-- a snapshot is accepted as this op
+pub record Accepts (f : Formats) (w : World) (name : Bytes) (indices : List AskedIndex) (moment o : ℕ) : Type 0 where
+  pub number : o ≡ w.next_op
+  pub distinct : AreDistinct indices
+  pub no_cleanup : (d : ℕ) (x : Deletion) → fin.get w.deletes d ≡ Some x → x.clean ≡ false
+  pub unused : (uuid : ℕ) → IsNameOf w name uuid → ⊥
+  pub room : fin.len w.ops + fin.len w.deletes < 1000
+  pub fits : w.next_id + suc (new_names w indices) < first_id (suc w.term)
+  -- its texts can be written
+  pub texts : OpTexts f (asked_op w name indices moment)
+
+-- ---- take
+
+-- the shard of an op is given, on the largest live generation
+pub record GivesShard (w : World) (o index number : ℕ) (base : Option ℕ) : Type 0 where
+  pub op : Op
+  pub s : ShardWork
+  pub found : shard_of op.shards index number ≡ Some s
+  pub ready : ReadyShard w o op s
+  pub largest : Largest w s.ref.id s.number base
+
+pub record GivesFinalize (f : Formats) (w : World) (o : ℕ) (info : SnapInfo) (results : List ShardResult) : Type 0 where
+  pub op : Op
+  pub ready : ReadyFinalize w o op results
+  pub info_is : info ≡ info_of op results
+  pub root_back : ReadsBack f.root (finalized_root w.root (info_of op results) results)
+
+abbrev pub Gives : Formats → World → ℕ → Given → Type 0
+Gives f w o (GivenShard index number base) = GivesShard w o index number base
+Gives f w o (GivenFinalize info results) = GivesFinalize f w o info results
+Gives f w o GivenDrop = ReadyDrop w o
+
+-- ---- steps of a ticket
+
+-- a shard's ticket draws once
+pub record Draws (w : World) (k n first : ℕ) : Type 0 where
+  pub t : Ticket
+  pub out : IsOut w k t
+  pub shard : IsShard t.work
+  pub once : t.drawn ≡ 0
+  pub some : 1 ≤ n
+  pub first_is : first ≡ w.next_id
+  pub fits : w.next_id + n < first_id (suc w.term)
+
+-- a ticket commits a blob of its unit, before its settle
+pub record Commits (f : Formats) (w : World) (k : ℕ) (name : BlobName) : Type 0 where
+  pub t : Ticket
+  pub out : IsOut w k t
+  pub unsettled : t.settled ≡ false
+  pub bytes : Bytes
+  pub named : IsStored f name
+  pub may : MayCommit f t name bytes
+
+-- a finalization's name may be there already
+pub record Refinds (f : Formats) (w : World) (k : ℕ) (name : BlobName) : Type 0 where
+  pub t : Ticket
+  pub out : IsOut w k t
+  pub info : SnapInfo
+  pub results : List ShardResult
+  pub made : Shelved
+  pub work : t.work ≡ Finalize info results made
+  pub bytes : Bytes
+  pub own : Has (metadata f info) (name, bytes)
+
+-- `index.latest` is written by an unsettled swap that has committed its root
+pub record Puts (f : Formats) (w : World) (k : ℕ) : Type 0 where
+  pub t : Ticket
+  pub out : IsOut w k t
+  pub s : Swap
+  pub is : swap f t ≡ Some s
+  pub unsettled : t.settled ≡ false
+  pub n : ℕ
+  pub raised : t.raised ≡ Some n
+  pub written : Has t.noted (Root n)
+
+pub record Raises (f : Formats) (w : World) (k n : ℕ) : Type 0 where
+  pub t : Ticket
+  pub out : IsOut w k t
+  pub s : Swap
+  pub is : swap f t ≡ Some s
+  pub unsettled : t.settled ≡ false
+  pub present : t.term ≡ w.term
+  pub once : t.raised ≡ None
+  pub n_is : n ≡ w.pending
+  pub room : w.pending < 2 ^ 63
+
+pub record Settles (f : Formats) (w : World) (k : ℕ) : Type 0 where
+  pub t : Ticket
+  pub s : Swap
+  pub n : ℕ
+  pub may : MaySettle f w k n t s
+  pub present : t.term ≡ w.term
+  pub info : SnapInfo
+  pub results : List ShardResult
+  pub made : Shelved
+  pub work : t.work ≡ Finalize info results made
+
+-- the base, as the ticket fetched it
+abbrev pub Based : Formats → Ticket → ℕ → ℕ → Option ℕ → ShardFiles → Type 0
+Based f t index shard None base = base ≡ no_files
+Based f t index shard (Some g) base = (bytes : Bytes) × Has t.read (ShardIndex index shard g, bytes) × (f.shard_index.read bytes ≡ Some base)
+
+-- a shard is done: its ticket wrote the parts of the files that the base doesn't have, the snapshot of the shard and the
+-- index under the last id that it drew; the files are those that the source tells
+pub record DoneBy (f : Formats) (part_size : ℕ) (t : Ticket) (s : ShardWork) (r : ShardResult) : Type 0 where
+  pub size : 0 < part_size
+  pub base : ShardFiles
+  pub based : Based f t r.index r.shard t.base base
+  pub generation : r.generation ≡ id_after f base t.first (f.told s.place s.ref.name s.number)
+  pub drew : t.first + t.drawn ≡ suc r.generation
+  pub wrote : (name : BlobName) (bytes : Bytes) → Has (shard_blobs f part_size base r.index r.shard t.uuid t.first (f.told s.place s.ref.name s.number)) (name, bytes) → Has t.wrote (name, bytes)
+  pub snap_back : ReadsBack f.shard_snap (record { uuid = t.uuid; files = entries_from f part_size base t.first (f.told s.place s.ref.name s.number) })
+  pub index_back : ReadsBack f.shard_index (with_snap base t.uuid (entries_from f part_size base t.first (f.told s.place s.ref.name s.number)))
+  pub files : r.files ≡ length (f.told s.place s.ref.name s.number)
+  pub bytes : r.bytes ≡ min (sum_by (λ (file : Bytes × Bytes). length file.1) (f.told s.place s.ref.name s.number)) (2 ^ 64 - 1)
+
+pub record Dones (f : Formats) (part_size : ℕ) (w : World) (k : ℕ) (r : ShardResult) (image : Option Image) : Type 0 where
+  pub t : Ticket
+  pub out : IsOut w k t
+  pub is : t.work ≡ Shard r.index r.shard
+  pub op : Op
+  pub op_there : fin.get w.ops t.op ≡ Some op
+  pub s : ShardWork
+  pub s_there : Has op.shards s
+  pub state : s.state ≡ Out k
+  pub done : Told image (λ blobs. DoneBy f part_size t s r)
+
+-- a unit fails: a shard's at any term, a finalization before its settle; what a stale master ticket tells ends it alone
+pub record Fails (w : World) (k : ℕ) : Type 0 where
+  pub t : Ticket
+  pub out : IsOut w k t
+  pub unsettled : t.settled ≡ false
+  pub unit : IsShard t.work ⊎ IsMaster t.work
+  pub op : Op
+  pub op_there : (IsShard t.work ⊎ (t.term ≡ w.term)) → fin.get w.ops t.op ≡ Some op
+
+-- a settled finalization ends, or a master ticket of an older term
+pub record Finishes (w : World) (k : ℕ) : Type 0 where
+  pub t : Ticket
+  pub out : IsOut w k t
+  pub no_shard : IsShard t.work → ⊥
+  pub done : (t.settled ≡ true) ⊎ (t.term ≢ w.term)
+
+pub record Drops (w : World) (k : ℕ) : Type 0 where
+  pub t : Ticket
+  pub out : IsOut w k t
+  pub work : t.work ≡ Drop
+  pub present : t.term ≡ w.term
+
+-- ---- all steps
+
+-- the blobs are as they were
+abbrev pub SameBlobs : World → Option Image → Type 0
+SameBlobs w image = Told image (λ blobs. blobs ≡ w.blobs)
+
+-- a blob more, under a name that was free
+abbrev pub Adds : Formats → World → BlobName → Bytes → Blobs → Type 0
+Adds f w name bytes blobs = (fin.get w.blobs (f.names.text name) ≡ None) × (blobs ≡ fin.insert w.blobs (f.names.text name) bytes)
+
+-- Who may answer a step so, in a world that isn't deposed. A case each for an answer; a further step is a further case.
+pub data Allows (f : Formats) (part_size : ℕ) (w : World) : ℕ → Step → Reply → Option Image → Type 0 where
+  Accepting : (name : Bytes) (indices : List AskedIndex) (moment o : ℕ) (image : Option Image) → Accepts f w name indices moment o → SameBlobs w image → Allows f part_size w 0 (AskStep (Snapshot name indices moment)) (Accepted o) image
+  GivingNothing : (image : Option Image) → (AnyReady w → ⊥) → SameBlobs w image → Allows f part_size w 0 TakeStep NothingReady image
+  Giving : (k o : ℕ) (unit : Given) (image : Option Image) → k ≡ w.next_ticket → Gives f w o unit → SameBlobs w image → Allows f part_size w 0 TakeStep (Gave k o unit) image
+  Drawing : (k n first : ℕ) (image : Option Image) → Draws w k n first → SameBlobs w image → Allows f part_size w k (DrawStep n) (DrawnFrom first) image
+  Beginning : (k : ℕ) (name : BlobName) (image : Option Image) → Commits f w k name → SameBlobs w image → Allows f part_size w k (BeginStep name) WasBegun image
+  BeginningLatest : (k : ℕ) (name : BlobName) (image : Option Image) → Puts f w k → name ≡ Latest → SameBlobs w image → Allows f part_size w k (BeginStep name) WasBegun image
+  Committing : (k : ℕ) (name : BlobName) (image : Option Image) (c : Commits f w k name) → Told image (Adds f w name c.bytes) → Allows f part_size w k (CommitStep name) WasDone image
+  Finding : (k : ℕ) (name : BlobName) (image : Option Image) → Refinds f w k name → Told image (λ blobs. Present f w.blobs name × (blobs ≡ w.blobs)) → Allows f part_size w k (CommitStep name) WasThere image
+  Replacing : (k : ℕ) (image : Option Image) → Puts f w k → Told image (PutsLatest f w.blobs) → Allows f part_size w k LatestStep WasReplaced image
+  Fetching : (k : ℕ) (name : BlobName) (image : Option Image) (t : Ticket) → IsOut w k t → IsStored f name → Told image (λ blobs. (bytes : Bytes) × (fin.get w.blobs (f.names.text name) ≡ Some bytes) × (blobs ≡ w.blobs)) → Allows f part_size w k (FetchStep name) WasFetched image
+  Missing : (k : ℕ) (name : BlobName) (image : Option Image) (t : Ticket) → IsOut w k t → Told image (λ blobs. (fin.get w.blobs (f.names.text name) ≡ None) × (blobs ≡ w.blobs)) → Allows f part_size w k (FetchStep name) WasAbsent image
+  Listing : (k : ℕ) (image : Option Image) (t : Ticket) → IsOut w k t → SameBlobs w image → Allows f part_size w k ListStep WasListed image
+  Raising : (k n : ℕ) (image : Option Image) → Raises f w k n → SameBlobs w image → Allows f part_size w k RaiseStep (RaisedTo n) image
+  Settling : (k : ℕ) (image : Option Image) → Settles f w k → SameBlobs w image → Allows f part_size w k SettleStep WasSettled image
+  Doing : (k : ℕ) (r : ShardResult) (image : Option Image) → Dones f part_size w k r image → SameBlobs w image → Allows f part_size w k (DoneStep r) HasEnded image
+  Failing : (k : ℕ) (why : Why) (image : Option Image) → Fails w k → SameBlobs w image → Allows f part_size w k (FailedStep why) HasEnded image
+  Finishing : (k : ℕ) (image : Option Image) → Finishes w k → SameBlobs w image → Allows f part_size w k FinishStep HasEnded image
+  Dropping : (k : ℕ) (image : Option Image) → Drops w k → SameBlobs w image → Allows f part_size w k DroppedStep HasEnded image
+  Electing : (image : Option Image) → suc w.term < 2 ^ 63 → SameBlobs w image → Allows f part_size w 0 ElectStep (ElectedTerm (suc w.term)) image
+  Looking : (image : Option Image) → SameBlobs w image → Allows f part_size w 0 LookStep (Looked w.root.snapshots w.safe) image
+  -- refusals by rule
+  Cleaning : (command : Asked) (d : ℕ) (x : Deletion) (image : Option Image) → fin.get w.deletes d ≡ Some x → x.clean ≡ true → SameBlobs w image → Allows f part_size w 0 (AskStep command) (Refused (CleanupRunning d)) image
+  Used : (name : Bytes) (indices : List AskedIndex) (moment uuid : ℕ) (image : Option Image) → IsNameOf w name uuid → SameBlobs w image → Allows f part_size w 0 (AskStep (Snapshot name indices moment)) (Refused (NameInUse uuid)) image
+  Full : (command : Asked) (image : Option Image) → 1000 ≤ fin.len w.ops + fin.len w.deletes → SameBlobs w image → Allows f part_size w 0 (AskStep command) (Refused (TooMany 1000)) image
+  AskSpent : (name : Bytes) (indices : List AskedIndex) (moment : ℕ) (image : Option Image) → first_id (suc w.term) ≤ w.next_id + suc (new_names w indices) → SameBlobs w image
+      → Allows f part_size w 0 (AskStep (Snapshot name indices moment)) (Refused (IdsSpent w.next_id)) image
+  DrawSpent : (k n : ℕ) (image : Option Image) → first_id (suc w.term) ≤ w.next_id + n → SameBlobs w image → Allows f part_size w k (DrawStep n) (Refused (IdsSpent w.next_id)) image
+  RaiseStale : (k : ℕ) (t : Ticket) (image : Option Image) → IsOut w k t → t.term ≢ w.term → SameBlobs w image → Allows f part_size w k RaiseStep (Refused (StaleTerm t.term w.term)) image
+  SettleStale : (k : ℕ) (t : Ticket) (image : Option Image) → IsOut w k t → t.term ≢ w.term → SameBlobs w image → Allows f part_size w k SettleStep (Refused (StaleTerm t.term w.term)) image
+  DropStale : (k : ℕ) (t : Ticket) (image : Option Image) → IsOut w k t → t.term ≢ w.term → SameBlobs w image → Allows f part_size w k DroppedStep (Refused (StaleTerm t.term w.term)) image
+  RaiseSpent : (k : ℕ) (image : Option Image) → 2 ^ 63 ≤ w.pending → SameBlobs w image → Allows f part_size w k RaiseStep (Refused (GenerationsSpent w.pending)) image
+  ElectSpent : (image : Option Image) → 2 ^ 63 ≤ suc w.term → SameBlobs w image → Allows f part_size w 0 ElectStep (Refused (TermsSpent w.term)) image
+  Taken : (k : ℕ) (name : BlobName) (image : Option Image) → Commits f w k name → Told image (λ blobs. Present f w.blobs name × (blobs ≡ w.blobs)) → Allows f part_size w k (CommitStep name) (Refused (NameTaken name)) image
+  -- calls that fail: of a commit nothing or the whole blob is left, of a replacement nothing or the blob, of a record swap the old record or the new one
+  BeginFails : (k : ℕ) (name : BlobName) (image : Option Image) → SameBlobs w image → Allows f part_size w k (BeginStep name) (Refused DepotFault) image
+  CommitFails : (k : ℕ) (name : BlobName) (image : Option Image) (c : Commits f w k name) → Told image (λ blobs. (blobs ≡ w.blobs) ⊎ Adds f w name c.bytes blobs) → Allows f part_size w k (CommitStep name) (Refused DepotFault) image
+  ReplaceFails : (k : ℕ) (image : Option Image) → Puts f w k → Told image (PutsLatest f w.blobs) → Allows f part_size w k LatestStep (Refused DepotFault) image
+  FetchFails : (k : ℕ) (name : BlobName) (image : Option Image) → SameBlobs w image → Allows f part_size w k (FetchStep name) (Refused DepotFault) image
+  ListFails : (k : ℕ) (image : Option Image) → SameBlobs w image → Allows f part_size w k ListStep (Refused DepotFault) image
+  AskFails : (name : Bytes) (indices : List AskedIndex) (moment : ℕ) (image : Option Image) → Accepts f w name indices moment w.next_op → SameBlobs w image → Allows f part_size w 0 (AskStep (Snapshot name indices moment)) (Refused DepotFault) image
+  RaiseFails : (k : ℕ) (image : Option Image) → Raises f w k w.pending → SameBlobs w image → Allows f part_size w k RaiseStep (Refused DepotFault) image
+  SettleFails : (k : ℕ) (image : Option Image) → Settles f w k → SameBlobs w image → Allows f part_size w k SettleStep (Refused DepotFault) image
+  DropFails : (k : ℕ) (image : Option Image) → Drops w k → SameBlobs w image → Allows f part_size w k DroppedStep (Refused DepotFault) image
+  ElectFails : (image : Option Image) → suc w.term < 2 ^ 63 → SameBlobs w image → Allows f part_size w 0 ElectStep (Refused DepotFault) image
+
+-- after a record swap that failed every step is refused
+pub record IsDeposed (w : World) (m : Moment) : Type 0 where
+  pub deposed : w.deposed ≡ true
+  pub place : ℕ
+  pub refused : m.entry.reply ≡ Refused (DeposedAt place)
+  pub same : SameBlobs w m.image
+
+-- the moment is a step from this world, and the record's text is that of the world after it
+pub record Allowed (f : Formats) (part_size : ℕ) (w : World) (m : Moment) : Type 0 where
+  pub answered : ((w.deposed ≡ false) × Allows f part_size w m.entry.who m.entry.step m.entry.reply m.image) ⊎ IsDeposed w m
+  pub record_back : ReadsBack f.cluster (record_of (after f w m))
+  pub text : (image : Image) → m.image ≡ Some image → image.text ≡ Some (f.cluster.text (record_of (after f w m)))

@@ -1,0 +1,94 @@
+-- A step of the repository as the history tells it: who made it, what was asked, and what was answered.
+use Rattle.std.specs.Prelude.{ℕ, List, Option}
+use Rattle.esr_model.specs.Names.{BlobName}
+use Rattle.esr_model.specs.Values.{Bytes, RootSnap, SnapInfo, ShardResult}
+use Rattle.esr_model.specs.Image.{Image}
+
+-- an index that a snapshot is to hold, with the place of its files
+pub record AskedIndex : Type 0 where
+  pub name : Bytes
+  pub shards : ℕ
+  pub place : Bytes
+
+-- a command as it is asked; a further command is a further case
+pub data Asked : Type 0 where
+  Snapshot : (name : Bytes) (indices : List AskedIndex) (moment : ℕ) → Asked
+
+-- the unit that a ticket was given
+pub data Given : Type 0 where
+  GivenShard : (index number : ℕ) (base : Option ℕ) → Given
+  GivenFinalize : (info : SnapInfo) (results : List ShardResult) → Given
+  GivenDrop : Given
+
+-- why a unit failed
+pub data Why : Type 0 where
+  -- a call of the container, a stage or a fetch failed
+  OfDepot : Why
+  OfSource : Why
+  -- the two prints of one file
+  OfChange : (first_len : ℕ) (first_digest : Bytes) (second_len : ℕ) (second_digest : Bytes) → Why
+  -- a blob that was absent, or didn't read
+  OfDamage : (name : BlobName) → Why
+
+pub data Step : Type 0 where
+  AskStep : (command : Asked) → Step
+  TakeStep : Step
+  DrawStep : (count : ℕ) → Step
+  BeginStep : (name : BlobName) → Step
+  CommitStep : (name : BlobName) → Step
+  LatestStep : Step
+  FetchStep : (name : BlobName) → Step
+  ListStep : Step
+  RaiseStep : Step
+  SettleStep : Step
+  DoneStep : (result : ShardResult) → Step
+  FailedStep : (why : Why) → Step
+  FinishStep : Step
+  DroppedStep : Step
+  ElectStep : Step
+  LookStep : Step
+
+pub data Refusal : Type 0 where
+  CleanupRunning : (op : ℕ) → Refusal
+  NameInUse : (uuid : ℕ) → Refusal
+  TooMany : (limit : ℕ) → Refusal
+  -- the record swap at this place of the history failed
+  DeposedAt : (place : ℕ) → Refusal
+  AbortedBy : (op : ℕ) → Refusal
+  StaleTerm : (own now : ℕ) → Refusal
+  GenerationsSpent : (pending : ℕ) → Refusal
+  TermsSpent : (term : ℕ) → Refusal
+  IdsSpent : (next : ℕ) → Refusal
+  NameTaken : (name : BlobName) → Refusal
+  DepotFault : Refusal
+
+pub data Reply : Type 0 where
+  Accepted : (op : ℕ) → Reply
+  NothingReady : Reply
+  Gave : (ticket op : ℕ) (unit : Given) → Reply
+  DrawnFrom : (first : ℕ) → Reply
+  WasBegun : Reply
+  -- a commit: the blob was added, or one of its name was there
+  WasDone : Reply
+  WasThere : Reply
+  WasReplaced : Reply
+  WasFetched : Reply
+  WasAbsent : Reply
+  WasListed : Reply
+  RaisedTo : (generation : ℕ) → Reply
+  WasSettled : Reply
+  HasEnded : Reply
+  ElectedTerm : (term : ℕ) → Reply
+  Looked : (snapshots : List RootSnap) (safe : ℕ) → Reply
+  Refused : (refusal : Refusal) → Reply
+
+-- who: a ticket from 1 on, else 0
+pub record Entry : Type 0 where
+  pub who : ℕ
+  pub step : Step
+  pub reply : Reply
+
+-- an entry, and the image after it where the container tells
+pub record Moment : Type 0 where
+  pub entry : Entry
+  pub image : Option Image
