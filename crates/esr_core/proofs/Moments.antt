@@ -286,7 +286,7 @@ module _ (f : Formats) (size : ℕ) (w : World) (shelf : List Shelved) (l : Law 
   pub turn_by : (who : ℕ) (step : Step) (reply : Reply) (image : Option Image) → image ≡ Some i → Allows f size w who step reply image → Turned f w who step reply (after f w (moment who step reply image))
   turn_by who step reply image told (allowed.Accepting name indices time o im acc same) = ask_turn name indices time o im acc same
   turn_by who step reply image told (allowed.GivingNothing im none same) = stays f w 0 TakeStep entry.NothingReady im same refl
-  turn_by who step reply image told (allowed.Giving k o unit im is g same) = gives_turn f w k o unit im g same
+  turn_by who step reply image told (allowed.Giving k o unit im is lowest g same) = gives_turn f w k o unit im g same
   turn_by who step reply image told (allowed.Drawing k n first im d same) =
       plain f w k (DrawStep n) (entry.DrawnFrom first) _
       (DrawsShard _ k n (record { t = d.t; out = d.out; shard = d.shard; once = d.once; fits = d.fits; new_is = λ j. record (record (with_given w k (λ (t : Ticket). record t { first = w.next_id; drawn = n }) (d.out.there j)) { next_id = w.next_id + n }) { blobs = blobs_same w im same j } })) refl refl
@@ -318,9 +318,9 @@ module _ (f : Formats) (size : ℕ) (w : World) (shelf : List Shelved) (l : Law 
   turn_by who step reply image told (allowed.Electing im room same) = plain f w 0 ElectStep _ _ (Elects _ (record { new_is = λ j. record w { term = suc w.term; next_id = first_id (suc w.term); blobs = blobs_same w im same j } })) refl refl
   turn_by who step reply image told (allowed.Looking im same) = stays f w 0 LookStep _ im same refl
   turn_by who step reply image told (allowed.Cleaning c d x im there clean same) = stays f w 0 (AskStep c) _ im same refl
-  turn_by who step reply image told (allowed.Used name indices time uuid im is same) = stays f w 0 (AskStep (Snapshot name indices time)) _ im same refl
-  turn_by who step reply image told (allowed.Full c im full same) = stays f w 0 (AskStep c) _ im same refl
-  turn_by who step reply image told (allowed.AskSpent name indices time im spent same) = stays f w 0 (AskStep (Snapshot name indices time)) _ im same refl
+  turn_by who step reply image told (allowed.Used name indices time uuid im clear is same) = stays f w 0 (AskStep (Snapshot name indices time)) _ im same refl
+  turn_by who step reply image told (allowed.Full name indices time im clear unused full same) = stays f w 0 (AskStep (Snapshot name indices time)) _ im same refl
+  turn_by who step reply image told (allowed.AskSpent name indices time im clear unused room spent same) = stays f w 0 (AskStep (Snapshot name indices time)) _ im same refl
   turn_by who step reply image told (allowed.DrawSpent k n im spent same) = stays f w k (DrawStep n) _ im same refl
   turn_by who step reply image told (allowed.RaiseStale k t im out apart same) = stays f w k RaiseStep _ im same refl
   turn_by who step reply image told (allowed.SettleStale k t im out apart same) = stays f w k SettleStep _ im same refl

@@ -10,7 +10,7 @@ use Rattle.esr_model.specs.Image.{Blobs, Image, IsStored, Present}
 use Rattle.esr_model.specs.Uploads.{entries_from, id_after, shard_blobs, with_snap, no_files}
 use Rattle.esr_core.specs.World.{World, Op, Deletion, ShardWork, Out, Work, Shard, Finalize, Drop, Ticket, Swap, swap, AllDone, info_of, metadata, record_of}
 use Rattle.esr_core.specs.Generations.{OpTexts}
-use Rattle.esr_core.specs.Ready.{IsShard, IsMaster, ReadyShard, ReadyFinalize, ReadyDrop, AnyReady}
+use Rattle.esr_core.specs.Ready.{IsShard, IsMaster, ReadyShard, ReadyFinalize, ReadyDrop, ReadyDelete, ReadyCleanup, AnyReady}
 use Rattle.esr_core.specs.Steps.{IsOut, Largest, MayCommit, MaySettle, PutsLatest}
 use Rattle.esr_core.specs.Entry.{AskedIndex, Asked, Snapshot, Given, GivenShard, GivenFinalize, GivenDrop, Why, Step, AskStep, TakeStep, DrawStep, BeginStep, CommitStep, LatestStep, FetchStep, ListStep, RaiseStep, SettleStep, DoneStep, FailedStep, FinishStep, DroppedStep, ElectStep, LookStep, Refusal, CleanupRunning, NameInUse, TooMany, DeposedAt, AbortedBy, StaleTerm, GenerationsSpent, TermsSpent, IdsSpent, NameTaken, DepotFault, Reply, Accepted, NothingReady, Gave, DrawnFrom, WasBegun, WasDone, WasThere, WasReplaced, WasFetched, WasAbsent, WasListed, RaisedTo, WasSettled, HasEnded, ElectedTerm, Looked, Refused, Entry, Moment}
 use Rattle.esr_core.specs.After.{asked_op, new_names, shard_of, after}
@@ -33,18 +33,41 @@ IsNameOf w name uuid =
     ((s : RootSnap) × Has w.root.snapshots s × (s.name ≡ name) × (s.uuid ≡ uuid))
     ⊎ ((o : ℕ) × (op : Op) × (fin.get w.ops o ≡ Some op) × (op.name ≡ name) × (op.uuid ≡ uuid))
 
+-- no cleanup is open
+abbrev pub NoCleanup : World → Type 0
+NoCleanup w = (d : ℕ) (x : Deletion) → fin.get w.deletes d ≡ Some x → x.clean ≡ false
+
+abbrev pub IsUnused : World → Bytes → Type 0
+IsUnused w name = (uuid : ℕ) → IsNameOf w name uuid → ⊥
+
+-- how many ops are open
+abbrev pub open_count : World → ℕ
+open_count w = fin.len w.ops + fin.len w.deletes
+
 -- a snapshot is accepted as this op
 pub record Accepts (f : Formats) (w : World) (name : Bytes) (indices : List AskedIndex) (moment o : ℕ) : Type 0 where
   pub number : o ≡ w.next_op
   pub distinct : AreDistinct indices
-  pub no_cleanup : (d : ℕ) (x : Deletion) → fin.get w.deletes d ≡ Some x → x.clean ≡ false
-  pub unused : (uuid : ℕ) → IsNameOf w name uuid → ⊥
-  pub room : fin.len w.ops + fin.len w.deletes < 1000
+  pub no_cleanup : NoCleanup w
+  pub unused : IsUnused w name
+  pub room : open_count w < 1000
   pub fits : w.next_id + suc (new_names w indices) < first_id (suc w.term)
   -- its texts can be written
   pub texts : OpTexts f (asked_op w name indices moment)
 
 -- ---- take
+
+-- some unit of this op is ready
+abbrev pub HasReady : World → ℕ → Type 0
+HasReady w o =
+    ((op : Op) × (s : ShardWork) × ReadyShard w o op s)
+    ⊎ (((op : Op) × (results : List ShardResult) × ReadyFinalize w o op results)
+    ⊎ (ReadyDrop w o ⊎ ((x : Deletion) × (ReadyDelete w o x ⊎ ReadyCleanup w o x))))
+
+-- a stands before the first b in the list
+abbrev pub StandsBefore : List ShardWork → ShardWork → ShardWork → Type 0
+StandsBefore [] a b = ⊥
+StandsBefore (x ∷ xs) a b = (x ≢ b) × (((x ≡ a) × Has xs b) ⊎ StandsBefore xs a b)
 
 -- the shard of an op is given, on the largest live generation
 pub record GivesShard (w : World) (o index number : ℕ) (base : Option ℕ) : Type 0 where
@@ -52,6 +75,8 @@ pub record GivesShard (w : World) (o index number : ℕ) (base : Option ℕ) : T
   pub s : ShardWork
   pub found : shard_of op.shards index number ≡ Some s
   pub ready : ReadyShard w o op s
+  -- the first of its op that is ready
+  pub first : (z : ShardWork) → StandsBefore op.shards z s → ReadyShard w o op z → ⊥
   pub largest : Largest w s.ref.id s.number base
 
 pub record GivesFinalize (f : Formats) (w : World) (o : ℕ) (info : SnapInfo) (results : List ShardResult) : Type 0 where
@@ -196,7 +221,7 @@ Adds f w name bytes blobs = (fin.get w.blobs (f.names.text name) ≡ None) × (b
 pub data Allows (f : Formats) (part_size : ℕ) (w : World) : ℕ → Step → Reply → Option Image → Type 0 where
   Accepting : (name : Bytes) (indices : List AskedIndex) (moment o : ℕ) (image : Option Image) → Accepts f w name indices moment o → SameBlobs w image → Allows f part_size w 0 (AskStep (Snapshot name indices moment)) (Accepted o) image
   GivingNothing : (image : Option Image) → (AnyReady w → ⊥) → SameBlobs w image → Allows f part_size w 0 TakeStep NothingReady image
-  Giving : (k o : ℕ) (unit : Given) (image : Option Image) → k ≡ w.next_ticket → Gives f w o unit → SameBlobs w image → Allows f part_size w 0 TakeStep (Gave k o unit) image
+  Giving : (k o : ℕ) (unit : Given) (image : Option Image) → k ≡ w.next_ticket → ((p : ℕ) → p < o → HasReady w p → ⊥) → Gives f w o unit → SameBlobs w image → Allows f part_size w 0 TakeStep (Gave k o unit) image
   Drawing : (k n first : ℕ) (image : Option Image) → Draws w k n first → SameBlobs w image → Allows f part_size w k (DrawStep n) (DrawnFrom first) image
   Beginning : (k : ℕ) (name : BlobName) (image : Option Image) → Commits f w k name → SameBlobs w image → Allows f part_size w k (BeginStep name) WasBegun image
   BeginningLatest : (k : ℕ) (name : BlobName) (image : Option Image) → Puts f w k → name ≡ Latest → SameBlobs w image → Allows f part_size w k (BeginStep name) WasBegun image
@@ -216,9 +241,9 @@ pub data Allows (f : Formats) (part_size : ℕ) (w : World) : ℕ → Step → R
   Looking : (image : Option Image) → SameBlobs w image → Allows f part_size w 0 LookStep (Looked w.root.snapshots w.safe) image
   -- refusals by rule
   Cleaning : (command : Asked) (d : ℕ) (x : Deletion) (image : Option Image) → fin.get w.deletes d ≡ Some x → x.clean ≡ true → SameBlobs w image → Allows f part_size w 0 (AskStep command) (Refused (CleanupRunning d)) image
-  Used : (name : Bytes) (indices : List AskedIndex) (moment uuid : ℕ) (image : Option Image) → IsNameOf w name uuid → SameBlobs w image → Allows f part_size w 0 (AskStep (Snapshot name indices moment)) (Refused (NameInUse uuid)) image
-  Full : (command : Asked) (image : Option Image) → 1000 ≤ fin.len w.ops + fin.len w.deletes → SameBlobs w image → Allows f part_size w 0 (AskStep command) (Refused (TooMany 1000)) image
-  AskSpent : (name : Bytes) (indices : List AskedIndex) (moment : ℕ) (image : Option Image) → first_id (suc w.term) ≤ w.next_id + suc (new_names w indices) → SameBlobs w image
+  Used : (name : Bytes) (indices : List AskedIndex) (moment uuid : ℕ) (image : Option Image) → NoCleanup w → IsNameOf w name uuid → SameBlobs w image → Allows f part_size w 0 (AskStep (Snapshot name indices moment)) (Refused (NameInUse uuid)) image
+  Full : (name : Bytes) (indices : List AskedIndex) (moment : ℕ) (image : Option Image) → NoCleanup w → IsUnused w name → 1000 ≤ open_count w → SameBlobs w image → Allows f part_size w 0 (AskStep (Snapshot name indices moment)) (Refused (TooMany 1000)) image
+  AskSpent : (name : Bytes) (indices : List AskedIndex) (moment : ℕ) (image : Option Image) → NoCleanup w → IsUnused w name → open_count w < 1000 → first_id (suc w.term) ≤ w.next_id + suc (new_names w indices) → SameBlobs w image
       → Allows f part_size w 0 (AskStep (Snapshot name indices moment)) (Refused (IdsSpent w.next_id)) image
   DrawSpent : (k n : ℕ) (image : Option Image) → first_id (suc w.term) ≤ w.next_id + n → SameBlobs w image → Allows f part_size w k (DrawStep n) (Refused (IdsSpent w.next_id)) image
   RaiseStale : (k : ℕ) (t : Ticket) (image : Option Image) → IsOut w k t → t.term ≢ w.term → SameBlobs w image → Allows f part_size w k RaiseStep (Refused (StaleTerm t.term w.term)) image

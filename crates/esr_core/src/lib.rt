@@ -1,19 +1,22 @@
-// The core's law, over definitions alone.
+//! The core's law, over definitions alone: each function's contract is a law, and its body is empty.
 #![tactic(auto)]
 
 ghost use Rattle.std.specs.Prelude.{◌≡◌, Bool, true, false, Option, Some, ℕ, ◌<◌, ◌≤◌, List, [], ◌∷◌, ◌++◌, ◌⊎◌};
 ghost use Rattle.esr_model.specs.Values.{ReadsBack, Formats};
 ghost use Rattle.esr_model.specs.Names.{BlobName, Root};
-ghost use Rattle.esr_model.specs.Image.{Has, Image, Blobs, At, KeptAt, Present};
+ghost use Rattle.esr_model.specs.Image.{Has, Image, KeptBy, Present};
 ghost use Rattle.esr_model.specs.Kept.{Kept};
 ghost use Rattle.esr_model.specs.Shelf.{Shelved, Command, shelf_after};
-ghost use Rattle.esr_core.specs.World.{World, Op, ShardWork, Shard, Ticket, image_of, record_of, Opened};
+ghost use Rattle.esr_core.specs.World.{World, Op, ShardWork, Shard, Ticket, HeldIn, ledger_of, image_of, record_of, Opened};
+ghost use Rattle.esr_core.specs.Swaps.{TicketLaw};
+ghost use Rattle.esr_core.specs.Generations.{Carried};
+ghost use Rattle.esr_core.specs.Written.{Written};
+ghost use Rattle.esr_core.specs.Texts.{Texted};
 ghost use Rattle.esr_core.specs.Steps.{Raise, Remove};
 ghost use Rattle.esr_core.specs.Sound.{Sound};
-ghost use Rattle.esr_core.specs.Queue.{Lists, Sole};
-ghost use Rattle.esr_core.specs.Ids.{Law};
-ghost use Rattle.esr_model.specs.Kept.{IdsBelow, RootIds};
-ghost use Rattle.esr_core.specs.Ready.{IsOpen, AnyReady, Barrier, Idle};
+ghost use Rattle.esr_core.specs.Queue.{Lists, Sole, QueueIn};
+ghost use Rattle.esr_core.specs.Ids.{Law, DoomedIds, IdsIn, InTerm};
+ghost use Rattle.esr_core.specs.Ready.{IsOpen, AnyReady, Barrier, Idle, SwapIsOut};
 ghost use Rattle.std.specs.FinMap as fin;
 ghost use Rattle.std.specs.FinMap.{FinMap};
 ghost use Rattle.std.specs.Ordering.{nat_cmp};
@@ -23,7 +26,6 @@ ghost use Rattle.esr_core.specs.Entry.{Moment, Refused, StaleTerm};
 ghost use Rattle.esr_core.specs.After.{after};
 ghost use Rattle.esr_core.specs.Allowed.{SameBlobs};
 ghost use Rattle.esr_core.specs.History.{world_from, IsLegal, AreTold, AreHonest, committed, Lasts};
-ghost use Rattle.esr_model.specs.Image.{RootIs};
 
 /// A raise keeps the law, and the generation that it begins is that of no root that is there.
 pub fn raise_is_sound()
@@ -102,4 +104,49 @@ pub fn each_image_is_kept()
 /// A raise, settle or drop of an older term changes nothing.
 pub fn stale_steps_change_nothing()
     ensures { (f : Formats) (w : World) (m : Moment) (own now : ℕ) → m.entry.reply ≡ Refused (StaleTerm own now) → SameBlobs w m.image → after f w m ≡ w }
+{}
+
+/// What stands in the container goes on standing: the safe root for the shelf with the commands that count, and each root above it for some shelf.
+pub fn kept_stays()
+    ensures { (f : Formats) (w new : World) (shelf : List Shelved) → Law f w shelf → w.deposed ≡ false → (turn : Turn f w new) → KeptBy f (HeldIn f new) new.blobs (ledger_of new) (shelf_after shelf (commands_of f w new turn)) }
+{}
+
+/// Each live generation, and each base of a shard that is out, serves the open ops that are done at none above it and, where it is not below the root's, each listed snapshot.
+pub fn generations_stay()
+    ensures { (f : Formats) (w new : World) (shelf : List Shelved) → Law f w shelf → w.deposed ≡ false → (turn : Turn f w new) → Carried f (HeldIn f new) new.safe new.term new.root new.ops new.tickets }
+{}
+
+/// What an unsettled ticket has committed is there while it counts.
+pub fn committed_blobs_stay()
+    ensures { (f : Formats) (w new : World) (shelf : List Shelved) → Law f w shelf → w.deposed ≡ false → (turn : Turn f w new) → (k : ℕ) (t : Ticket) → fin.get new.tickets k ≡ Some t → TicketLaw f (HeldIn f new) new.doomed (ledger_of new) (shelf_after shelf (commands_of f w new turn)) t }
+{}
+
+/// So is what the ticket of a shard has committed, and its base.
+pub fn shard_blobs_stay()
+    ensures { (f : Formats) (w new : World) (shelf : List Shelved) → Law f w shelf → w.deposed ≡ false → (turn : Turn f w new) → Written f new.blobs new.tickets }
+{}
+
+/// A metadata name of a finalization is absent, or holds the text that its op gives.
+pub fn metadata_stays()
+    ensures { (f : Formats) (w new : World) (shelf : List Shelved) → Law f w shelf → w.deposed ≡ false → (turn : Turn f w new) → Texted f new.blobs new.ops new.tickets }
+{}
+
+/// No doomed name has the uuid of an open op, or an id that a shard's ticket out has drawn.
+pub fn doomed_stay_apart()
+    ensures { (f : Formats) (w new : World) (shelf : List Shelved) → Law f w shelf → w.deposed ≡ false → (turn : Turn f w new) → (name : BlobName) → Has new.doomed name → DoomedIds new.next_id new.ops new.tickets name }
+{}
+
+/// At most one ticket of the present term has a swap that it has not settled.
+pub fn one_swap_stays()
+    ensures { (f : Formats) (w new : World) (shelf : List Shelved) → Law f w shelf → w.deposed ≡ false → (turn : Turn f w new) → (j k : ℕ) → SwapIsOut new.tickets new.term j → SwapIsOut new.tickets new.term k → j ≡ k }
+{}
+
+/// The list of ops stays in order: queues, barriers, aborts and drops.
+pub fn queue_stays()
+    ensures { (f : Formats) (w new : World) (shelf : List Shelved) → Law f w shelf → w.deposed ≡ false → (turn : Turn f w new) → QueueIn new }
+{}
+
+/// Each id that is there lies below the next one, which is one of the present term.
+pub fn ids_stay_below()
+    ensures { (f : Formats) (w new : World) (shelf : List Shelved) → Law f w shelf → w.deposed ≡ false → (turn : Turn f w new) → IdsIn f new × InTerm new }
 {}

@@ -1,0 +1,5 @@
+use Rattle.esr_core.proofs.Turning.{turn_law}
+use Rattle.esr_core.proofs.shard_blobs_stay.Goals as goal
+
+pub returns : goal.returns
+returns c = λ f w new shelf l d turn. (turn_law f w new shelf l d turn).written

@@ -1,0 +1,5 @@
+use Rattle.esr_json.proofs.InOrder.{IsInOrder-parsed, Rising-members_at}
+use Rattle.esr_json.proofs.reading.members_rise.Goals as goal
+
+pub returns : goal.returns
+returns c = λ bytes d key es read found. Rising-members_at key d es (IsInOrder-parsed bytes d read) found

@@ -1,0 +1,4 @@
+pub mod IdText
+pub mod Layout
+pub mod NameRule
+pub mod Reading

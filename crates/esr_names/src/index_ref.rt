@@ -1,0 +1,39 @@
+//! An index as a command names it, and lists of ids, names and indices.
+ghost use Rattle.std.specs.Prelude.{◌≡◌, IfOk};
+
+use crate::{Id, IndexName, SnapName};
+use esr_seq::Seq;
+use std::alloc::{AllocError, Global};
+
+/// An index: its id, its name, and how many shards it has.
+#[derive(Debug, Drop)]
+pub struct IndexRef {
+    pub id: Id,
+    pub name: IndexName,
+    pub shards: u32,
+}
+
+impl IndexRef {
+    /// A copy of the whole.
+    pub fn try_clone(&self, alloc: Global) -> Result<IndexRef, AllocError>
+        ensures { IfOk result (λ i. i ≡ self.now) }
+    {
+        Ok(IndexRef {
+            id: self.id,
+            name: self.name.try_clone(alloc)?,
+            shards: self.shards,
+        })
+    }
+}
+
+/// Ids in order.
+pub type Ids = Seq<Id>;
+
+/// Indices in order.
+pub type IndexRefs = Seq<IndexRef>;
+
+/// Names of snapshots in order.
+pub type SnapNames = Seq<SnapName>;
+
+/// Names of indices in order.
+pub type IndexNames = Seq<IndexName>;

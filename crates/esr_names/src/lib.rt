@@ -1,0 +1,16 @@
+//! Ids, the names of snapshots and indices, and the names of a repository's blobs.
+#![tactic(auto)]
+
+mod blob;
+mod ids;
+mod index_ref;
+mod name;
+mod parse;
+#[cfg(test)]
+mod tests;
+
+pub use blob::{BlobName, ShardId, is_name, print_name};
+pub use ids::{ID_TEXT_LEN, Id, id_read, id_reads_back, id_text, worked_texts};
+pub use index_ref::{Ids, IndexNames, IndexRef, IndexRefs, SnapNames};
+pub use name::{BadName, IndexName, NameRefusal, Rule, SnapName};
+pub use parse::{one_text, parse_name};

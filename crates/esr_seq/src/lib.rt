@@ -1,0 +1,12 @@
+//! Small containers that a contract sees as lists: values in order, bytes, and texts.
+#![tactic(auto)]
+
+mod bytes;
+mod seq;
+#[cfg(test)]
+mod tests;
+mod text;
+
+pub use bytes::Bytes;
+pub use seq::Seq;
+pub use text::Text;
