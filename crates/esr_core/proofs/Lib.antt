@@ -51,3 +51,4 @@ pub mod Storing
 pub mod Accepting
 pub mod Moments
 pub mod Histories
+pub mod Example

@@ -14,3 +14,4 @@ pub mod Entry
 pub mod After
 pub mod Allowed
 pub mod History
+pub mod Example

@@ -1,4 +1,4 @@
--- What holds of the list of open ops and their master tickets: what readiness rests on (the queue's part of D19).
+-- What holds of the list of open ops and their master tickets: what readiness rests on.
 use Rattle.std.specs.Prelude.{◌≡◌, ℕ, ◌<◌, ◌⊎◌, true, false, List, Option, Some}
 use Rattle.std.specs.Ordering.{nat_cmp}
 use Rattle.std.specs.FinMap.{FinMap}

@@ -2,7 +2,7 @@
 #![tactic(auto)]
 
 ghost use Rattle.std.specs.Prelude.{◌≡◌, Bool, true, false, Option, Some, ℕ, ◌<◌, ◌≤◌, List, [], ◌∷◌, ◌++◌, ◌⊎◌};
-ghost use Rattle.esr_model.specs.Values.{ReadsBack, Formats};
+ghost use Rattle.esr_model.specs.Values.{Bytes, ReadsBack, Formats};
 ghost use Rattle.esr_model.specs.Names.{BlobName, Root};
 ghost use Rattle.esr_model.specs.Image.{Has, Image, KeptBy, Present};
 ghost use Rattle.esr_model.specs.Kept.{Kept};
@@ -24,6 +24,7 @@ ghost use Rattle.esr_core.specs.Turns.{Turn, Turns, commands_of};
 ghost use Rattle.esr_core.specs.Doomed.{Dooms};
 ghost use Rattle.esr_core.specs.Entry.{Moment, Refused, StaleTerm};
 ghost use Rattle.esr_core.specs.After.{after};
+ghost use Rattle.esr_core.specs.Example.{CanWrite, HasSnapshot};
 ghost use Rattle.esr_core.specs.Allowed.{SameBlobs};
 ghost use Rattle.esr_core.specs.History.{world_from, IsLegal, AreTold, AreHonest, committed, Lasts};
 
@@ -149,4 +150,9 @@ pub fn queue_stays()
 /// Each id that is there lies below the next one, which is one of the present term.
 pub fn ids_stay_below()
     ensures { (f : Formats) (w new : World) (shelf : List Shelved) → Law f w shelf → w.deposed ≡ false → (turn : Turn f w new) → IdsIn f new × InTerm new }
+{}
+
+/// The steps admit a whole snapshot: into an empty container one of no index can be asked, finalized and settled, and it is the one command that counts.
+pub fn a_snapshot_is_legal()
+    ensures { (f : Formats) (part_size : ℕ) (name : Bytes) (moment : ℕ) → CanWrite f name moment → HasSnapshot f part_size name }
 {}
