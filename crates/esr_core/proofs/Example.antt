@@ -15,7 +15,7 @@ use Rattle.esr_core.specs.Steps.{final_ticket, writing}
 use Rattle.esr_core.specs.Entry.{Snapshot, GivenFinalize, Step, AskStep, TakeStep, CommitStep, LatestStep, RaiseStep, SettleStep, Reply, Accepted, Gave, WasDone, WasReplaced, RaisedTo, WasSettled, Moment}
 use Rattle.esr_core.specs.After.{asked, taken_by, with_given, committing, told_blob, settled_of, after}
 use Rattle.esr_core.specs.Allowed as allowed
-use Rattle.esr_core.specs.Allowed.{Allows, Allowed, HasReady, Commits}
+use Rattle.esr_core.specs.Allowed.{latest_text, Allows, Allowed, HasReady, Commits}
 use Rattle.esr_core.specs.History.{IsLegal, AreTold, commands_at, committed, command_of}
 use Rattle.esr_core.specs.Example.{begun, bare_op, CanWrite, HasSnapshot}
 use Rattle.esr_core.proofs.Adds.{text_one}
@@ -127,7 +127,7 @@ module _ (f : Formats) (size : ℕ) (name : Bytes) (moment : ℕ) (can : CanWrit
   t7 = record t6 { tried_latest = true }
 
   abbrev w7 : World
-  w7 = record w6 { blobs = fin.insert b6 (f.names.text Latest) []; tickets = fin.insert w6.tickets 1 t7 }
+  w7 = record w6 { blobs = fin.insert b6 (f.names.text Latest) (latest_text 0); tickets = fin.insert w6.tickets 1 t7 }
 
   abbrev t8 : Ticket
   t8 = record t7 { settled = true }
@@ -213,7 +213,7 @@ module _ (f : Formats) (size : ℕ) (name : Bytes) (moment : ℕ) (can : CanWrit
         n = 0;
         raised = refl;
         written = inl refl;
-      }) (inr ([], refl, can.latest)))
+      }) can.latest refl)
       (λ j. record (with_given w6 1 (λ (t : Ticket). record t { tried_latest = true }) (got w5.tickets t6 j)) { blobs = w7.blobs })
       can.raised_record [] refl step8
 
@@ -229,13 +229,8 @@ module _ (f : Formats) (size : ℕ) (name : Bytes) (moment : ℕ) (can : CanWrit
   step5 : Runs f size w4 (Create (shelved_of f op) ∷ [])
   step5 = goes f size w4 w5 1 RaiseStep (RaisedTo 0) _ refl
       (allowed.Raising 1 0 _ (record {
-        t = t4;
-        out = record { there = got w3.tickets t4; out = refl };
-        s = record { root = finalized_root no_root (info_of op []) []; own = metadata f (info_of op []); commands = Create (shelved_of f op) ∷ [] };
-        is = refl;
-        unsettled = refl;
+        may = record { t = t4; out = record { there = got w3.tickets t4; out = refl }; s = record { root = finalized_root no_root (info_of op []) []; own = metadata f (info_of op []); commands = Create (shelved_of f op) ∷ [] }; is = refl; unsettled = refl; once = refl };
         present = refl;
-        once = refl;
         n_is = refl;
         room = lit< tt;
       }) refl)

@@ -73,6 +73,7 @@ pub record Stepped (f : Formats) (w : World) (shelf : List Shelved) (m : Moment)
   pub commands : List Command
   pub law : Law f new (shelf_after shelf commands)
   pub rises : w.safe ≤ new.safe
+  pub early : (safe : ℕ) → safe ≤ w.safe → commands_at f safe w m.entry.who m.entry.step m.entry.reply ≡ []
   pub counted : (safe : ℕ) → new.safe ≤ safe → (new.deposed ≡ true → safe ≡ new.safe) → commands_at f safe w m.entry.who m.entry.step m.entry.reply ≡ commands
   pub alone : w.deposed ≡ true → (new.deposed ≡ true) × (new.safe ≡ w.safe)
 
@@ -84,6 +85,7 @@ step_law f size w shelf l honest m i told a = elim a.answered [
         commands = commands_of f w (after f w m) t.turn;
         law = turn_law f w (after f w m) shelf l alive.0 t.turn;
         rises = turn_safe f w (after f w m) shelf l t.turn;
+        early = t.early;
         counted = t.commands;
         alone = λ e. absurd (true≢false (sym e ∙ alive.0));
       }
@@ -93,6 +95,7 @@ step_law f size w shelf l honest m i told a = elim a.answered [
         commands = [];
         law = subst (λ x. Law f x shelf) (sym same) l;
         rises = let e : (after f w m).safe ≡ w.safe = ap (λ (x : World). x.safe) same in omega (arith, e);
+        early = λ safe below. ap (commands_at f safe w m.entry.who m.entry.step) dead.refused;
         counted = λ safe above only. ap (commands_at f safe w m.entry.who m.entry.step) dead.refused;
         alone = λ e. (ap (λ (x : World). x.deposed) same ∙ e, ap (λ (x : World). x.safe) same);
       }
@@ -154,6 +157,63 @@ image_kept f size log w shelf m i l image legal told honest =
     let back : ReadsBack f.cluster (record_of last) = subst (λ x. ReadsBack f.cluster (record_of x)) (sym same) a.record_back in
     subst (λ x. Kept f x (shelf_after shelf (committed f last.safe w all))) (ap (image_of f) same ∙ sym (image_is f size (world_from f w log) m i image a))
     (kept_of f last _ (legal_law f size all w shelf l legal told honest) back)
+
+-- ---- a history in two parts
+
+legal_parts : (f : Formats) (size : ℕ) (xs ys : List Moment) (w : World) → IsLegal f size w (xs ++ ys) → IsLegal f size w xs × IsLegal f size (world_from f w xs) ys
+legal_parts f size [] ys w h = (tt, h)
+legal_parts f size (x ∷ xs) ys w h = let r = legal_parts f size xs ys (after f w x) h.1 in ((h.0, r.0), r.1)
+
+told_parts : (xs ys : List Moment) → AreTold (xs ++ ys) → AreTold xs × AreTold ys
+told_parts [] ys h = (tt, h)
+told_parts (x ∷ xs) ys h = let r = told_parts xs ys h.1 in ((h.0, r.0), r.1)
+
+honest_here : (f : Formats) (w : World) (ys : List Moment) → AreHonest f w ys → IsHonest f w.blobs
+honest_here f w [] h = h
+honest_here f w (y ∷ ys) h = h.0
+
+honest_parts : (f : Formats) (xs ys : List Moment) (w : World) → AreHonest f w (xs ++ ys) → AreHonest f w xs × AreHonest f (world_from f w xs) ys
+honest_parts f [] ys w h = (honest_here f w ys h, h)
+honest_parts f (x ∷ xs) ys w h = let r = honest_parts f xs ys (after f w x) h.1 in ((h.0, r.0), r.1)
+
+committed_parts : (f : Formats) (safe : ℕ) (xs ys : List Moment) (w : World) → committed f safe w (xs ++ ys) ≡ committed f safe w xs ++ committed f safe (world_from f w xs) ys
+committed_parts f safe [] ys w = refl
+committed_parts f safe (x ∷ xs) ys w = ap (λ cs. commands_at f safe w x.entry.who x.entry.step x.entry.reply ++ cs) (committed_parts f safe xs ys (after f w x)) ∙ sym (append_assoc (commands_at f safe w x.entry.who x.entry.step x.entry.reply) _ _)
+  where
+    append_assoc : (xs ys zs : List Command) → (xs ++ ys) ++ zs ≡ xs ++ (ys ++ zs)
+    append_assoc [] ys zs = refl
+    append_assoc (x ∷ xs) ys zs = ap (λ ds. x ∷ ds) (append_assoc xs ys zs)
+
+-- no later command counts in an image
+later_none : (f : Formats) (size : ℕ) (log : List Moment) (w : World) (shelf : List Shelved) (safe : ℕ) → Law f w shelf → safe ≤ w.safe → IsLegal f size w log → AreTold log → AreHonest f w log → committed f safe w log ≡ []
+later_none f size [] w shelf safe l below legal told honest = refl
+later_none f size (m ∷ log) w shelf safe l below legal told honest =
+    let s = step_law f size w shelf l honest.0 m told.0.0 told.0.1 legal.0 in
+    (λ j. s.early safe below j ++ later_none f size log (after f w m) (shelf_after shelf s.commands) safe s.law (omega (arith, below, s.rises)) legal.1 told.1 honest.1 j)
+
+append_one : (log : List Moment) (m : Moment) (rest : List Moment) → (log ++ m ∷ []) ++ rest ≡ log ++ m ∷ rest
+append_one [] m rest = refl
+append_one (x ∷ log) m rest = ap (λ ms. x ∷ ms) (append_one log m rest)
+
+-- each image of a history is kept for the commands of all of it that count in the image
+pub each_image : (f : Formats) (size : ℕ) (log rest : List Moment) (w : World) (shelf : List Shelved) (m : Moment) (i : Image) → Law f w shelf → m.image ≡ Some i → IsLegal f size w (log ++ m ∷ rest) → AreTold (log ++ m ∷ rest) → AreHonest f w (log ++ m ∷ rest)
+    → Kept f i (shelf_after shelf (committed f (world_from f w (log ++ m ∷ [])).safe w (log ++ m ∷ rest)))
+each_image f size log rest w shelf m i l image legal told honest =
+    let all : List Moment = log ++ m ∷ [] in
+    let same : (log ++ m ∷ []) ++ rest ≡ log ++ m ∷ rest = append_one log m rest in
+    let legals = legal_parts f size all rest w (subst (IsLegal f size w) (sym same) legal) in
+    let tolds = told_parts all rest (subst AreTold (sym same) told) in
+    let honests = honest_parts f all rest w (subst (AreHonest f w) (sym same) honest) in
+    let safe : ℕ = (world_from f w all).safe in
+    let kept = image_kept f size log w shelf m i l image legals.0 tolds.0 honests.0 in
+    let law = legal_law f size all w shelf l legals.0 tolds.0 honests.0 in
+    let none : committed f safe (world_from f w all) rest ≡ [] = later_none f size rest (world_from f w all) _ safe law (omega arith) legals.1 tolds.1 honests.1 in
+    let mine : committed f safe w (log ++ m ∷ rest) ≡ committed f safe w all = ap (committed f safe w) (sym same) ∙ committed_parts f safe all rest w ∙ ap (λ cs. committed f safe w all ++ cs) none ∙ nil (committed f safe w all) in
+    subst (λ cs. Kept f i (shelf_after shelf cs)) (sym mine) kept
+  where
+    nil : (cs : List Command) → cs ++ [] ≡ cs
+    nil [] = refl
+    nil (c ∷ cs) = ap (λ ds. c ∷ ds) (nil cs)
 
 -- a step of an older term changes nothing
 pub stale_stays : (f : Formats) (w : World) (m : Moment) (own now : ℕ) → m.entry.reply ≡ Refused (StaleTerm own now) → SameBlobs w m.image → after f w m ≡ w

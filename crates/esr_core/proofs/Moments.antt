@@ -5,7 +5,7 @@ use Rattle.std.proofs.lemmas.Bool.Decides.{eqb_tells}
 use Rattle.std.proofs.lemmas.Bool.{lt-ltb, le-ltb}
 use Rattle.std.specs.Cmp.Lexicographic.{nat_list_cmp_total}
 use Rattle.std.specs.FinMap as fin
-use Rattle.esr_model.specs.Names.{BlobName, Latest}
+use Rattle.esr_model.specs.Names.{BlobName, Root, Latest, Snap, Meta, IndexMeta, ShardSnap, ShardIndex, File, Part, TestMaster, TestNode}
 use Rattle.esr_model.specs.Values.{Bytes, Has, SnapInfo, ShardResult, Formats}
 use Rattle.esr_model.specs.Shelf.{Shelved, Command}
 use Rattle.esr_model.specs.Kept.{first_id}
@@ -15,9 +15,9 @@ use Rattle.esr_core.specs.Ready.{IsShard, IsMaster}
 use Rattle.esr_core.specs.Steps.{IsOut, PutsLatest, TryLatest, Ends, Elect, Raise, MaySettle, with_ticket, writing, noting, reading, settled, shard_ticket}
 use Rattle.esr_core.specs.Ids.{Law}
 use Rattle.esr_core.specs.Entry.{Asked, Snapshot, Given, GivenShard, GivenFinalize, GivenDrop, Why, Step, AskStep, TakeStep, DrawStep, BeginStep, CommitStep, LatestStep, FetchStep, ListStep, RaiseStep, SettleStep, DoneStep, FailedStep, FinishStep, DroppedStep, ElectStep, LookStep, Refusal, DepotFault, Reply, WasSettled, HasEnded, Refused, Entry, Moment}
-use Rattle.esr_core.specs.After.{asked, asked_op, taken_by, taken_shard, with_given, change, committing, fetching, told_blob, settled_of, settled_by, failed_of, failed_by, is_stale, dropped_of, done_step, has_text, fallen, blobs_in, after}
+use Rattle.esr_core.specs.After.{asked, asked_op, taken_by, taken_shard, with_given, change, committing, fetching, told_blob, settled_of, settled_by, failed_of, failed_by, is_stale, dropped_of, done_step, has_text, fallen, is_latest, tried, blobs_in, after}
 use Rattle.esr_core.specs.Allowed as allowed
-use Rattle.esr_core.specs.Allowed.{Told, SameBlobs, Adds, Accepts, Gives, GivesShard, GivesFinalize, Draws, Commits, Refinds, Puts, Raises, Settles, Fails, Finishes, Drops, Dones, Allows}
+use Rattle.esr_core.specs.Allowed.{latest_text, Told, SameBlobs, Adds, Accepts, Gives, GivesShard, GivesFinalize, Draws, Commits, Refinds, Puts, Raises, Settles, Fails, Finishes, Drops, Dones, Allows}
 use Rattle.esr_core.specs.History.{counts, is_settle, command_of, command_by, commands_at, IsHonest}
 use Rattle.esr_core.specs.Turns.{AskCreate, AsksCreate, plain_ticket, SettleFinal, Failed, Dropped, Turn, Stays, Latests, Fetches, Raises as RaisesTurn, Finds, SettlesFinal, Elects, TakesShard, TakesFinal, TakesDrop, DrawsShard, Ending, Fails as FailsTurn, Drops as DropsTurn, Deposes, commands_of}
 use Rattle.esr_core.specs.Turns as turns
@@ -34,11 +34,17 @@ blobs_same w (Some i) same = same
 pub record Turned (f : Formats) (w : World) (who : ℕ) (step : Step) (reply : Reply) (new : World) : Type 0 where
   pub turn : Turn f w new
   pub commands : (safe : ℕ) → new.safe ≤ safe → (new.deposed ≡ true → safe ≡ new.safe) → commands_at f safe w who step reply ≡ commands_of f w new turn
+  -- in an image before it none counts
+  pub early : (safe : ℕ) → safe ≤ w.safe → commands_at f safe w who step reply ≡ []
 
 -- a step that is no settle
 pub plain : (f : Formats) (w : World) (who : ℕ) (step : Step) (reply : Reply) (new : World) (turn : Turn f w new) → is_settle step ≡ false → commands_of f w new turn ≡ [] → Turned f w who step reply new
 plain f w who step reply new turn no_settle none =
-    record { turn = turn; commands = λ safe a b. ap (λ (x : Bool). if counts reply && x then command_of f safe (fin.get w.tickets who) else []) no_settle ∙ both (counts reply) safe ∙ sym none }
+    record {
+      turn = turn;
+      commands = λ safe a b. ap (λ (x : Bool). if counts reply && x then command_of f safe (fin.get w.tickets who) else []) no_settle ∙ both (counts reply) safe ∙ sym none;
+      early = λ safe a. ap (λ (x : Bool). if counts reply && x then command_of f safe (fin.get w.tickets who) else []) no_settle ∙ both (counts reply) safe;
+    }
   where
     both : (x : Bool) (safe : ℕ) → (if x && false then command_of f safe (fin.get w.tickets who) else []) ≡ []
     both true safe = refl
@@ -50,20 +56,21 @@ stays f w who step reply image same no_count =
     record {
       turn = Stays (record w { blobs = blobs_in image w.blobs }) (λ j. record w { blobs = blobs_same w image same j });
       commands = λ safe a b. ap (λ (x : Bool). if x && is_settle step then command_of f safe (fin.get w.tickets who) else []) no_count;
+      early = λ safe a. ap (λ (x : Bool). if x && is_settle step then command_of f safe (fin.get w.tickets who) else []) no_count;
     }
 
 module _ (f : Formats) (w : World) where
   raise_turn : (k n : ℕ) (image : Option Image) → Raises f w k n → SameBlobs w image → Raise f w k (record (record (change w k (λ (t : Ticket). record t { raised = Some w.pending })) { pending = suc w.pending }) { blobs = blobs_in image w.blobs })
   raise_turn k n image r same =
       record {
-        t = r.t;
-        out = r.out;
-        swapped = r.s;
-        is = r.is;
-        unsettled = r.unsettled;
+        t = r.may.t;
+        out = r.may.out;
+        swapped = r.may.s;
+        is = r.may.is;
+        unsettled = r.may.unsettled;
         present = r.present;
-        once = r.once;
-        new_is = λ j. record (record (with_given w k (λ (t : Ticket). record t { raised = Some w.pending }) (r.out.there j)) { pending = suc w.pending }) { blobs = blobs_same w image same j };
+        once = r.may.once;
+        new_is = λ j. record (record (with_given w k (λ (t : Ticket). record t { raised = Some w.pending }) (r.may.out.there j)) { pending = suc w.pending }) { blobs = blobs_same w image same j };
       }
 
   -- a record swap that failed leaves the world as before, or as where Ok, and deposed
@@ -133,10 +140,10 @@ module _ (f : Formats) (w : World) where
       plain f w k (CommitStep name) entry.WasThere _
       (Finds _ k name (record { t = c.t; out = c.out; info = c.info; results = c.results; made = c.made; work = c.work; bytes = c.bytes; own = c.own; there = (bytes, there); new_is = λ j. record (with_given w k (λ (t : Ticket). noting t name) (c.out.there j)) { blobs = blobs_same w image same j } })) refl refl
 
-  latest_turn : (k : ℕ) (reply : Reply) (i : Image) → Puts f w k → PutsLatest f w.blobs i.blobs → Turned f w k LatestStep reply (record (change w k (λ (t : Ticket). record t { tried_latest = true })) { blobs = i.blobs })
-  latest_turn k reply i c puts =
-      plain f w k LatestStep reply _
-      (Latests _ k (record { now = i.blobs; puts = puts; tries = record { t = c.t; out = record { there = c.out.there; out = c.out.out }; s = c.s; is = c.is; unsettled = c.unsettled; new_is = λ j. record (with_given w k (λ (t : Ticket). record t { tried_latest = true }) (c.out.there j)) { blobs = i.blobs } } })) refl refl
+  latest_turn : (k : ℕ) (step : Step) (reply : Reply) (image : Option Image) → Puts f w k → is_settle step ≡ false → (blobs : Blobs) → PutsLatest f w.blobs blobs → Turned f w k step reply (record (change w k (λ (t : Ticket). record t { tried_latest = true })) { blobs = blobs })
+  latest_turn k step reply image c no_settle blobs puts =
+      plain f w k step reply _
+      (Latests _ k (record { now = blobs; puts = puts; tries = record { t = c.t; out = record { there = c.out.there; out = c.out.out }; s = c.s; is = c.is; unsettled = c.unsettled; new_is = λ j. record (with_given w k (λ (t : Ticket). record t { tried_latest = true }) (c.out.there j)) { blobs = blobs } } })) no_settle refl
 
   fetch_turn : (k : ℕ) (name : BlobName) (i : Image) (t : Ticket) → IsOut w k t → (bytes : Bytes) → At f w.blobs name bytes → i.blobs ≡ w.blobs → Turned f w k (FetchStep name) entry.WasFetched (record (change w k (fetching name (told_blob f (Some i) name))) { blobs = i.blobs })
   fetch_turn k name i t out bytes at same =
@@ -165,12 +172,16 @@ module _ (f : Formats) (w : World) where
   less_false : (a b : ℕ) → b ≤ a → nat_lt a b ≡ false
   less_false a b h = le-ltb a b h
 
-  settle_turn : (k : ℕ) (image : Option Image) → Settles f w k → SameBlobs w image → Turned f w k SettleStep WasSettled (record (settled_of f w k (fin.get w.tickets k)) { blobs = blobs_in image w.blobs })
-  settle_turn k image s same =
+  not_before : (shelf : List Shelved) → Law f w shelf → (k : ℕ) (s : Settles f w k) → w.safe ≤ s.n
+  not_before shelf l k s = ((l.lawful.sound.rooted.tickets k s.t s.may.out.there).last s.s (record { is = s.may.is; out = s.may.out.out; unsettled = s.may.unsettled }) s.present s.n s.may.raised).1
+
+  settle_turn : (shelf : List Shelved) → Law f w shelf → (k : ℕ) (image : Option Image) → Settles f w k → SameBlobs w image → Turned f w k SettleStep WasSettled (record (settled_of f w k (fin.get w.tickets k)) { blobs = blobs_in image w.blobs })
+  settle_turn shelf l k image s same =
       subst (λ (x : World). Turned f w k SettleStep WasSettled x) (sym (settled_is k s (blobs_in image w.blobs)))
       (record {
         turn = settle_final k s _ (λ j. record (settled w k s.t s.n s.s.root) { deletes = fin.remove w.deletes s.t.op; blobs = blobs_same w image same j });
         commands = λ safe above alone. command_is k s safe ∙ ap (λ b. if b then s.s.commands else []) (less_true s.n safe (let h : suc s.n ≤ safe = above in omega (arith, h)));
+        early = λ safe below. command_is k s safe ∙ ap (λ b. if b then s.s.commands else []) (less_false s.n safe (let h : w.safe ≤ s.n = not_before shelf l k s in omega (arith, h, below)));
       })
 
   -- a settle that failed counts where the new record stands
@@ -181,10 +192,11 @@ module _ (f : Formats) (w : World) where
       (record {
         turn = falls (record (settled w k s.t s.n s.s.root) { deletes = fin.remove w.deletes s.t.op }) (settle_final k s _ refl) b (blobs_in image w.blobs) (blobs_same w image same) refl;
         commands = λ safe above alone. command_is k s safe ∙ chosen b safe above (alone refl) ∙ sym (falls_commands (record (settled w k s.t s.n s.s.root) { deletes = fin.remove w.deletes s.t.op }) (settle_final k s _ refl) b (blobs_in image w.blobs) (blobs_same w image same) refl);
+        early = λ safe below. command_is k s safe ∙ ap (λ c. if c then s.s.commands else []) (less_false s.n safe (omega (arith, below, not_below)));
       })
     where
       not_below : w.safe ≤ s.n
-      not_below = ((l.lawful.sound.rooted.tickets k s.t s.may.out.there).last s.s (record { is = s.may.is; out = s.may.out.out; unsettled = s.may.unsettled }) s.present s.n s.may.raised).1
+      not_below = not_before shelf l k s
 
       chosen : (b : Bool) (safe : ℕ) → (if b then record (settled w k s.t s.n s.s.root) { deletes = fin.remove w.deletes s.t.op } else w).safe ≤ safe → safe ≡ (if b then record (settled w k s.t s.n s.s.root) { deletes = fin.remove w.deletes s.t.op } else w).safe
           → (if nat_lt s.n safe then s.s.commands else []) ≡ (if b then s.s.commands else [])
@@ -254,10 +266,35 @@ module _ (f : Formats) (w : World) where
       plain f w k FinishStep HasEnded _ (Ending _ k (record { t = c.t; out = c.out; no_shard = c.no_shard; done = c.done; new_is = λ j. record (with_given w k (λ (t : Ticket). record t { out = false }) (c.out.there j)) { blobs = blobs_same w image same j } })) refl refl
 
   dropped : (k : ℕ) (c : Drops w k) → World
-  dropped k c = record w { ops = fin.remove w.ops c.t.op; deletes = fin.remove w.deletes c.t.op; tickets = fin.insert w.tickets k (record c.t { out = false }) }
+  dropped k c = record w { ops = fin.remove w.ops c.may.t.op; deletes = fin.remove w.deletes c.may.t.op; tickets = fin.insert w.tickets k (record c.may.t { out = false }) }
 
-  abbrev drop_turn : (k : ℕ) (c : Drops w k) (new : World) → new ≡ record w { ops = fin.remove w.ops c.t.op; deletes = fin.remove w.deletes c.t.op; tickets = fin.insert w.tickets k (record c.t { out = false }) } → Turn f w new
-  drop_turn k c new e = DropsTurn new k (record { t = c.t; out = c.out; work = c.work; present = c.present; new_is = e })
+  abbrev drop_turn : (k : ℕ) (c : Drops w k) (new : World) → new ≡ record w { ops = fin.remove w.ops c.may.t.op; deletes = fin.remove w.deletes c.may.t.op; tickets = fin.insert w.tickets k (record c.may.t { out = false }) } → Turn f w new
+  drop_turn k c new e = DropsTurn new k (record { t = c.may.t; out = c.may.out; work = c.may.work; present = c.present; new_is = e })
+
+-- the blobs of an image that is told
+blobs_told : (w : World) (i : Image) (image : Option Image) → image ≡ Some i → blobs_in image w.blobs ≡ i.blobs
+blobs_told w i None e = absurd (cc)
+blobs_told w i (Some x) e = ap (λ (y : Image). y.blobs) (some_same _ _ e)
+
+not_latest : (name : BlobName) → name ≢ Latest → is_latest name ≡ false
+not_latest (Root n) h = refl
+not_latest Latest h = absurd (h refl)
+not_latest (Snap u) h = refl
+not_latest (Meta u) h = refl
+not_latest (IndexMeta i u) h = refl
+not_latest (ShardSnap i s u) h = refl
+not_latest (ShardIndex i s g) h = refl
+not_latest (File i s x) h = refl
+not_latest (Part i s x p) h = refl
+not_latest (TestMaster v) h = refl
+not_latest (TestNode v n) h = refl
+
+-- a begin that failed, of another name than `index.latest`
+begin_fails : (f : Formats) (w : World) (k : ℕ) (name : BlobName) (image : Option Image) → is_latest name ≡ false → SameBlobs w image
+    → Turned f w k (BeginStep name) (Refused DepotFault) (record (if is_latest name then tried w k else w) { blobs = blobs_in image w.blobs })
+begin_fails f w k name image no_latest same =
+    subst (λ (b : Bool). Turned f w k (BeginStep name) (Refused DepotFault) (record (if b then tried w k else w) { blobs = blobs_in image w.blobs })) (sym no_latest)
+    (plain f w k (BeginStep name) (Refused DepotFault) _ (Stays _ (λ j. record w { blobs = blobs_same w image same j })) refl refl)
 
 -- a call that failed and leaves all but the record as it was
 fault_stays : (f : Formats) (w : World) (who : ℕ) (step : Step) (image : Option Image) → SameBlobs w image → is_settle step ≡ false → Turned f w who step (Refused DepotFault) (record w { blobs = blobs_in image w.blobs })
@@ -289,61 +326,66 @@ module _ (f : Formats) (size : ℕ) (w : World) (shelf : List Shelved) (l : Law 
   turn_by who step reply image told (allowed.Giving k o unit im is lowest g same) = gives_turn f w k o unit im g same
   turn_by who step reply image told (allowed.Drawing k n first im d same) =
       plain f w k (DrawStep n) (entry.DrawnFrom first) _
-      (DrawsShard _ k n (record { t = d.t; out = d.out; shard = d.shard; once = d.once; fits = d.fits; new_is = λ j. record (record (with_given w k (λ (t : Ticket). record t { first = w.next_id; drawn = n }) (d.out.there j)) { next_id = w.next_id + n }) { blobs = blobs_same w im same j } })) refl refl
+      (DrawsShard _ k n (record { t = d.may.t; out = d.may.out; shard = d.may.shard; once = d.may.once; fits = d.fits; new_is = λ j. record (record (with_given w k (λ (t : Ticket). record t { first = w.next_id; drawn = n }) (d.may.out.there j)) { next_id = w.next_id + n }) { blobs = blobs_same w im same j } })) refl refl
   turn_by who step reply image told (allowed.Beginning k name im c same) = stays f w k (BeginStep name) entry.WasBegun im same refl
-  turn_by who step reply image told (allowed.BeginningLatest k name im c is same) = stays f w k (BeginStep name) entry.WasBegun im same refl
+  turn_by who step reply image told (allowed.BeginningLatest k im c same) = stays f w k (BeginStep Latest) entry.WasBegun im same refl
   turn_by who step reply image told (allowed.Committing k name im c adds) =
       subst (λ x. Turned f w k (CommitStep name) entry.WasDone (after f w (moment k (CommitStep name) entry.WasDone x))) (sym told) (commit_turn f w k name i c (of_told i im (Adds f w name c.bytes) told adds))
   turn_by who step reply image told (allowed.Finding k name im c found) =
       let here = of_told i im (λ blobs. Present f w.blobs name × (blobs ≡ w.blobs)) told found in
       find_turn f w k name im c here.0.0 here.0.1 (subst (SameBlobs w) (sym told) here.1)
-  turn_by who step reply image told (allowed.Replacing k im c puts) =
-      subst (λ x. Turned f w k LatestStep entry.WasReplaced (after f w (moment k LatestStep entry.WasReplaced x))) (sym told) (latest_turn f w k entry.WasReplaced i c (of_told i im (PutsLatest f w.blobs) told puts))
-  turn_by who step reply image told (allowed.Fetching k name im t out stored found) =
+  turn_by who step reply image told (allowed.Replacing k im c named puts) =
+      let here = of_told i im (λ blobs. blobs ≡ fin.insert w.blobs (f.names.text Latest) (latest_text c.n)) told puts in
+      latest_turn f w k LatestStep entry.WasReplaced im c refl (blobs_in im w.blobs) (inr (latest_text c.n, blobs_told w i im told ∙ here, named))
+  turn_by who step reply image told (allowed.Fetching k name im g found) =
       let here = of_told i im (λ blobs. (bytes : Bytes) × (fin.get w.blobs (f.names.text name) ≡ Some bytes) × (blobs ≡ w.blobs)) told found in
-      subst (λ x. Turned f w k (FetchStep name) entry.WasFetched (after f w (moment k (FetchStep name) entry.WasFetched x))) (sym told) (fetch_turn f w k name i t out here.0 (here.1, stored) here.2)
-  turn_by who step reply image told (allowed.Missing k name im t out found) =
+      subst (λ x. Turned f w k (FetchStep name) entry.WasFetched (after f w (moment k (FetchStep name) entry.WasFetched x))) (sym told) (fetch_turn f w k name i g.t g.out here.0 (here.1, g.stored) here.2)
+  turn_by who step reply image told (allowed.Missing k name im g found) =
       let here = of_told i im (λ blobs. (fin.get w.blobs (f.names.text name) ≡ None) × (blobs ≡ w.blobs)) told found in
       stays f w k (FetchStep name) entry.WasAbsent im (subst (SameBlobs w) (sym told) here.1) refl
   turn_by who step reply image told (allowed.Listing k im t out same) = stays f w k ListStep entry.WasListed im same refl
   turn_by who step reply image told (allowed.Raising k n im r same) = plain f w k RaiseStep (entry.RaisedTo n) _ (RaisesTurn _ k (raise_turn f w k n im r same)) refl refl
-  turn_by who step reply image told (allowed.Settling k im s same) = settle_turn f w k im s same
+  turn_by who step reply image told (allowed.Settling k im s same) = settle_turn f w shelf l k im s same
   turn_by who step reply image told (allowed.Doing k r im d same) =
       subst (λ x. Turned f w k (DoneStep r) HasEnded (after f w (moment k (DoneStep r) HasEnded x))) (sym told)
       (doing k r (subst (Dones f size w k r) told d) (subst (SameBlobs w) told same))
   turn_by who step reply image told (allowed.Failing k why im c same) = fails_turn f w k why im c same
   turn_by who step reply image told (allowed.Finishing k im c same) = ends_turn f w k im c same
   turn_by who step reply image told (allowed.Dropping k im c same) =
-      plain f w k DroppedStep HasEnded _ (drop_turn f w k c _ (λ j. record (dropped_of w k (c.out.there j)) { blobs = blobs_same w im same j })) refl refl
+      plain f w k DroppedStep HasEnded _ (drop_turn f w k c _ (λ j. record (dropped_of w k (c.may.out.there j)) { blobs = blobs_same w im same j })) refl refl
   turn_by who step reply image told (allowed.Electing im room same) = plain f w 0 ElectStep _ _ (Elects _ (record { new_is = λ j. record w { term = suc w.term; next_id = first_id (suc w.term); blobs = blobs_same w im same j } })) refl refl
   turn_by who step reply image told (allowed.Looking im same) = stays f w 0 LookStep _ im same refl
   turn_by who step reply image told (allowed.Cleaning c d x im there clean same) = stays f w 0 (AskStep c) _ im same refl
   turn_by who step reply image told (allowed.Used name indices time uuid im clear is same) = stays f w 0 (AskStep (Snapshot name indices time)) _ im same refl
   turn_by who step reply image told (allowed.Full name indices time im clear unused full same) = stays f w 0 (AskStep (Snapshot name indices time)) _ im same refl
   turn_by who step reply image told (allowed.AskSpent name indices time im clear unused room spent same) = stays f w 0 (AskStep (Snapshot name indices time)) _ im same refl
-  turn_by who step reply image told (allowed.DrawSpent k n im spent same) = stays f w k (DrawStep n) _ im same refl
-  turn_by who step reply image told (allowed.RaiseStale k t im out apart same) = stays f w k RaiseStep _ im same refl
-  turn_by who step reply image told (allowed.SettleStale k t im out apart same) = stays f w k SettleStep _ im same refl
-  turn_by who step reply image told (allowed.DropStale k t im out apart same) = stays f w k DroppedStep _ im same refl
-  turn_by who step reply image told (allowed.RaiseSpent k im spent same) = stays f w k RaiseStep _ im same refl
+  turn_by who step reply image told (allowed.DrawSpent k n im may spent same) = stays f w k (DrawStep n) _ im same refl
+  turn_by who step reply image told (allowed.RaiseStale k im may apart same) = stays f w k RaiseStep _ im same refl
+  turn_by who step reply image told (allowed.SettleStale k n t s im may apart same) = stays f w k SettleStep _ im same refl
+  turn_by who step reply image told (allowed.DropStale k im may apart same) = stays f w k DroppedStep _ im same refl
+  turn_by who step reply image told (allowed.RaiseSpent k im may present spent same) = stays f w k RaiseStep _ im same refl
   turn_by who step reply image told (allowed.ElectSpent im spent same) = stays f w 0 ElectStep _ im same refl
-  turn_by who step reply image told (allowed.Taken k name im c found) =
+  turn_by who step reply image told (allowed.Taken k name im c aside found) =
       stays f w k (CommitStep name) _ im (subst (SameBlobs w) (sym told) (of_told i im (λ blobs. Present f w.blobs name × (blobs ≡ w.blobs)) told found).1) refl
-  turn_by who step reply image told (allowed.BeginFails k name im same) = fault_stays f w k (BeginStep name) im same refl
+  turn_by who step reply image told (allowed.BeginFails k name im c same) = begin_fails f w k name im (not_latest name c.named.1) same
+  turn_by who step reply image told (allowed.BeginLatestFails k im c same) = latest_turn f w k (BeginStep Latest) (Refused DepotFault) im c refl (blobs_in im w.blobs) (inl (blobs_same w im same))
   turn_by who step reply image told (allowed.CommitFails k name im c leaves) =
       subst (λ x. Turned f w k (CommitStep name) (Refused DepotFault) (after f w (moment k (CommitStep name) (Refused DepotFault) x))) (sym told)
       (commit_fails f w k name i c (of_told i im (λ blobs. (blobs ≡ w.blobs) ⊎ Adds f w name c.bytes blobs) told leaves))
-  turn_by who step reply image told (allowed.ReplaceFails k im c puts) =
-      subst (λ x. Turned f w k LatestStep (Refused DepotFault) (after f w (moment k LatestStep (Refused DepotFault) x))) (sym told) (latest_turn f w k (Refused DepotFault) i c (of_told i im (PutsLatest f w.blobs) told puts))
-  turn_by who step reply image told (allowed.FetchFails k name im same) = fault_stays f w k (FetchStep name) im same refl
-  turn_by who step reply image told (allowed.ListFails k im same) = fault_stays f w k ListStep im same refl
+  turn_by who step reply image told (allowed.ReplaceFails k im c named puts) =
+      latest_turn f w k LatestStep (Refused DepotFault) im c refl (blobs_in im w.blobs) (elim (of_told i im (λ blobs. (blobs ≡ w.blobs) ⊎ (blobs ≡ fin.insert w.blobs (f.names.text Latest) (latest_text c.n))) told puts) [
+        | inl e ↦ inl (blobs_told w i im told ∙ e)
+        | inr e ↦ inr (latest_text c.n, blobs_told w i im told ∙ e, named)
+      ])
+  turn_by who step reply image told (allowed.FetchFails k name im g same) = fault_stays f w k (FetchStep name) im same refl
+  turn_by who step reply image told (allowed.ListFails k im t out same) = fault_stays f w k ListStep im same refl
   turn_by who step reply image told (allowed.AskFails name indices time im acc same) = ask_fails name indices time im acc same
   turn_by who step reply image told (allowed.RaiseFails k im r same) =
-      falls_plain f w k RaiseStep _ (record w { pending = suc w.pending; tickets = fin.insert w.tickets k (record r.t { raised = Some w.pending }) })
-      (RaisesTurn _ k (record { t = r.t; out = r.out; swapped = r.s; is = r.is; unsettled = r.unsettled; present = r.present; once = r.once; new_is = refl })) _ im same
-      (λ j. record (with_given w k (λ (t : Ticket). record t { raised = Some w.pending }) (r.out.there j)) { pending = suc w.pending }) refl refl refl
+      falls_plain f w k RaiseStep _ (record w { pending = suc w.pending; tickets = fin.insert w.tickets k (record r.may.t { raised = Some w.pending }) })
+      (RaisesTurn _ k (record { t = r.may.t; out = r.may.out; swapped = r.may.s; is = r.may.is; unsettled = r.may.unsettled; present = r.present; once = r.may.once; new_is = refl })) _ im same
+      (λ j. record (with_given w k (λ (t : Ticket). record t { raised = Some w.pending }) (r.may.out.there j)) { pending = suc w.pending }) refl refl refl
   turn_by who step reply image told (allowed.SettleFails k im s same) = settle_fails f w shelf l k s _ im same
   turn_by who step reply image told (allowed.DropFails k im c same) =
-      falls_plain f w k DroppedStep _ (record w { ops = fin.remove w.ops c.t.op; deletes = fin.remove w.deletes c.t.op; tickets = fin.insert w.tickets k (record c.t { out = false }) })
-      (drop_turn f w k c _ refl) _ im same (λ j. dropped_of w k (c.out.there j)) refl refl refl
+      falls_plain f w k DroppedStep _ (record w { ops = fin.remove w.ops c.may.t.op; deletes = fin.remove w.deletes c.may.t.op; tickets = fin.insert w.tickets k (record c.may.t { out = false }) })
+      (drop_turn f w k c _ refl) _ im same (λ j. dropped_of w k (c.may.out.there j)) refl refl refl
   turn_by who step reply image told (allowed.ElectFails im room same) = falls_plain f w 0 ElectStep _ _ (Elects _ (record { new_is = refl })) _ im same refl refl refl refl

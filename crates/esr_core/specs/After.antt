@@ -3,7 +3,7 @@ use Rattle.std.specs.Prelude.{ℕ, zero, suc, ◌+◌, Bool, true, false, List, 
 use Rattle.std.specs.Ordering.{nat_cmp}
 use Rattle.std.specs.FinMap.{FinMap}
 use Rattle.std.specs.FinMap as fin
-use Rattle.esr_model.specs.Names.{BlobName}
+use Rattle.esr_model.specs.Names.{BlobName, Latest}
 use Rattle.esr_model.specs.Values.{Bytes, IndexRef, RootIndex, RootData, SnapInfo, ShardResult, Formats}
 use Rattle.esr_model.specs.Uploads.{same_bytes}
 use Rattle.esr_model.specs.Kept.{first_id}
@@ -207,9 +207,17 @@ has_text (Some image) text = text_is image.text text
 abbrev pub fallen : Formats → World → World → Option Image → World
 fallen f w up image = record (if has_text image (f.cluster.text (record_of up)) then up else w) { deposed = true }
 
--- a replacement of `index.latest` that failed was tried
+abbrev pub is_latest : BlobName → Bool
+is_latest Latest = true
+is_latest name = false
+
+-- `index.latest` was tried where its replacement failed, or a begin for it
+abbrev pub tried : World → ℕ → World
+tried w k = change w k (λ t. record t { tried_latest = true })
+
 abbrev pub faulted : Formats → World → ℕ → Step → Option Image → World
-faulted f w k LatestStep image = change w k (λ t. record t { tried_latest = true })
+faulted f w k LatestStep image = tried w k
+faulted f w k (BeginStep name) image = if is_latest name then tried w k else w
 faulted f w k step image = if swaps_record step then fallen f w (done_step f w k step HasEnded image) image else w
 
 abbrev pub answered : Formats → World → ℕ → Step → Reply → Option Image → World

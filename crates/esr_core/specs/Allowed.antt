@@ -1,7 +1,7 @@
 -- What each step asks of the world before it, by its answer.
 use Rattle.std.specs.Prelude.{◌≡◌, ◌≢◌, ◌⊎◌, ℕ, zero, suc, ◌+◌, ◌-◌, ◌^◌, ◌<◌, ◌≤◌, Bool, true, false, List, [], ◌∷◌, ◌++◌, map, length, sum_by, min, Option, Some, None}
 use Rattle.std.specs.FinMap as fin
-use Rattle.esr_model.specs.Names.{BlobName, Root, Latest, ShardIndex}
+use Rattle.esr_model.specs.Names.{BlobName, Root, Latest, ShardSnap, ShardIndex}
 use Rattle.esr_model.specs.Values.{Bytes, Has, RootSnap, SnapInfo, FileEntry, ShardFiles, ShardResult, ReadsBack, Formats}
 use Rattle.esr_model.specs.Shelf.{Shelved}
 use Rattle.esr_model.specs.Kept.{first_id}
@@ -11,9 +11,15 @@ use Rattle.esr_model.specs.Uploads.{entries_from, id_after, shard_blobs, with_sn
 use Rattle.esr_core.specs.World.{World, Op, Deletion, ShardWork, Out, Work, Shard, Finalize, Drop, Ticket, Swap, swap, AllDone, info_of, metadata, record_of}
 use Rattle.esr_core.specs.Generations.{OpTexts}
 use Rattle.esr_core.specs.Ready.{IsShard, IsMaster, ReadyShard, ReadyFinalize, ReadyDrop, ReadyDelete, ReadyCleanup, AnyReady}
-use Rattle.esr_core.specs.Steps.{IsOut, Largest, MayCommit, MaySettle, PutsLatest}
+use Rattle.esr_core.specs.Steps.{IsOut, Drew, Largest, MayCommit, MaySettle}
+use Rattle.esr_core.specs.Texts.{IsMetaOf}
+use Rattle.std.specs.Int.{w64, to_be_bytes}
 use Rattle.esr_core.specs.Entry.{AskedIndex, Asked, Snapshot, Given, GivenShard, GivenFinalize, GivenDrop, Why, Step, AskStep, TakeStep, DrawStep, BeginStep, CommitStep, LatestStep, FetchStep, ListStep, RaiseStep, SettleStep, DoneStep, FailedStep, FinishStep, DroppedStep, ElectStep, LookStep, Refusal, CleanupRunning, NameInUse, TooMany, DeposedAt, AbortedBy, StaleTerm, GenerationsSpent, TermsSpent, IdsSpent, NameTaken, DepotFault, Reply, Accepted, NothingReady, Gave, DrawnFrom, WasBegun, WasDone, WasThere, WasReplaced, WasFetched, WasAbsent, WasListed, RaisedTo, WasSettled, HasEnded, ElectedTerm, Looked, Refused, Entry, Moment}
 use Rattle.esr_core.specs.After.{asked_op, new_names, shard_of, after}
+
+-- what `index.latest` holds: the generation as 8 bytes, the highest first
+abbrev pub latest_text : ℕ → Bytes
+latest_text n = to_be_bytes w64 n
 
 -- what is told of the blobs after a step
 abbrev pub Told : Option Image → (Blobs → Type 0) → Type 0
@@ -92,13 +98,17 @@ Gives f w o GivenDrop = ReadyDrop w o
 
 -- ---- steps of a ticket
 
--- a shard's ticket draws once
-pub record Draws (w : World) (k n first : ℕ) : Type 0 where
+-- a shard's ticket may draw once: at least one id, and at most one for each file of the source and one more
+pub record MayDraw (f : Formats) (w : World) (k n : ℕ) : Type 0 where
   pub t : Ticket
   pub out : IsOut w k t
   pub shard : IsShard t.work
   pub once : t.drawn ≡ 0
   pub some : 1 ≤ n
+  pub most : (op : Op) (s : ShardWork) → fin.get w.ops t.op ≡ Some op → Has op.shards s → s.state ≡ Out k → n ≤ suc (length (f.told s.place s.ref.name s.number))
+
+pub record Draws (f : Formats) (w : World) (k n first : ℕ) : Type 0 where
+  pub may : MayDraw f w k n
   pub first_is : first ≡ w.next_id
   pub fits : w.next_id + n < first_id (suc w.term)
 
@@ -122,6 +132,18 @@ pub record Refinds (f : Formats) (w : World) (k : ℕ) (name : BlobName) : Type 
   pub bytes : Bytes
   pub own : Has (metadata f info) (name, bytes)
 
+-- a shard's ticket fetches its base
+pub record Fetches (f : Formats) (w : World) (k : ℕ) (name : BlobName) : Type 0 where
+  pub t : Ticket
+  pub out : IsOut w k t
+  pub stored : IsStored f name
+  pub index : ℕ
+  pub shard : ℕ
+  pub base : ℕ
+  pub work : t.work ≡ Shard index shard
+  pub base_is : t.base ≡ Some base
+  pub name_is : name ≡ ShardIndex index shard base
+
 -- `index.latest` is written by an unsettled swap that has committed its root
 pub record Puts (f : Formats) (w : World) (k : ℕ) : Type 0 where
   pub t : Ticket
@@ -133,14 +155,18 @@ pub record Puts (f : Formats) (w : World) (k : ℕ) : Type 0 where
   pub raised : t.raised ≡ Some n
   pub written : Has t.noted (Root n)
 
-pub record Raises (f : Formats) (w : World) (k n : ℕ) : Type 0 where
+-- a ticket with an unsettled swap may raise once
+pub record MayRaise (f : Formats) (w : World) (k : ℕ) : Type 0 where
   pub t : Ticket
   pub out : IsOut w k t
   pub s : Swap
   pub is : swap f t ≡ Some s
   pub unsettled : t.settled ≡ false
-  pub present : t.term ≡ w.term
   pub once : t.raised ≡ None
+
+pub record Raises (f : Formats) (w : World) (k n : ℕ) : Type 0 where
+  pub may : MayRaise f w k
+  pub present : may.t.term ≡ w.term
   pub n_is : n ≡ w.pending
   pub room : w.pending < 2 ^ 63
 
@@ -183,6 +209,11 @@ pub record Dones (f : Formats) (part_size : ℕ) (w : World) (k : ℕ) (r : Shar
   pub s : ShardWork
   pub s_there : Has op.shards s
   pub state : s.state ≡ Out k
+  -- it drew the generation last, and committed the snapshot of the shard and the index under it
+  pub drew : Drew t r.generation
+  pub last : t.first + t.drawn ≡ suc r.generation
+  pub snap_noted : Has t.noted (ShardSnap r.index r.shard t.uuid)
+  pub index_noted : Has t.noted (ShardIndex r.index r.shard r.generation)
   pub done : Told image (λ blobs. DoneBy f part_size t s r)
 
 -- a unit fails: a shard's at any term, a finalization before its settle; what a stale master ticket tells ends it alone
@@ -201,11 +232,18 @@ pub record Finishes (w : World) (k : ℕ) : Type 0 where
   pub no_shard : IsShard t.work → ⊥
   pub done : (t.settled ≡ true) ⊎ (t.term ≢ w.term)
 
-pub record Drops (w : World) (k : ℕ) : Type 0 where
+pub record MayDrop (w : World) (k : ℕ) : Type 0 where
   pub t : Ticket
   pub out : IsOut w k t
   pub work : t.work ≡ Drop
-  pub present : t.term ≡ w.term
+
+pub record Drops (w : World) (k : ℕ) : Type 0 where
+  pub may : MayDrop w k
+  pub present : may.t.term ≡ w.term
+
+-- the name is that of a finalization's metadata
+abbrev pub IsMetadata : BlobName → Type 0
+IsMetadata name = (u : ℕ) × IsMetaOf u name
 
 -- ---- all steps
 
@@ -222,14 +260,14 @@ pub data Allows (f : Formats) (part_size : ℕ) (w : World) : ℕ → Step → R
   Accepting : (name : Bytes) (indices : List AskedIndex) (moment o : ℕ) (image : Option Image) → Accepts f w name indices moment o → SameBlobs w image → Allows f part_size w 0 (AskStep (Snapshot name indices moment)) (Accepted o) image
   GivingNothing : (image : Option Image) → (AnyReady w → ⊥) → SameBlobs w image → Allows f part_size w 0 TakeStep NothingReady image
   Giving : (k o : ℕ) (unit : Given) (image : Option Image) → k ≡ w.next_ticket → ((p : ℕ) → p < o → HasReady w p → ⊥) → Gives f w o unit → SameBlobs w image → Allows f part_size w 0 TakeStep (Gave k o unit) image
-  Drawing : (k n first : ℕ) (image : Option Image) → Draws w k n first → SameBlobs w image → Allows f part_size w k (DrawStep n) (DrawnFrom first) image
+  Drawing : (k n first : ℕ) (image : Option Image) → Draws f w k n first → SameBlobs w image → Allows f part_size w k (DrawStep n) (DrawnFrom first) image
   Beginning : (k : ℕ) (name : BlobName) (image : Option Image) → Commits f w k name → SameBlobs w image → Allows f part_size w k (BeginStep name) WasBegun image
-  BeginningLatest : (k : ℕ) (name : BlobName) (image : Option Image) → Puts f w k → name ≡ Latest → SameBlobs w image → Allows f part_size w k (BeginStep name) WasBegun image
+  BeginningLatest : (k : ℕ) (image : Option Image) → Puts f w k → SameBlobs w image → Allows f part_size w k (BeginStep Latest) WasBegun image
   Committing : (k : ℕ) (name : BlobName) (image : Option Image) (c : Commits f w k name) → Told image (Adds f w name c.bytes) → Allows f part_size w k (CommitStep name) WasDone image
   Finding : (k : ℕ) (name : BlobName) (image : Option Image) → Refinds f w k name → Told image (λ blobs. Present f w.blobs name × (blobs ≡ w.blobs)) → Allows f part_size w k (CommitStep name) WasThere image
-  Replacing : (k : ℕ) (image : Option Image) → Puts f w k → Told image (PutsLatest f w.blobs) → Allows f part_size w k LatestStep WasReplaced image
-  Fetching : (k : ℕ) (name : BlobName) (image : Option Image) (t : Ticket) → IsOut w k t → IsStored f name → Told image (λ blobs. (bytes : Bytes) × (fin.get w.blobs (f.names.text name) ≡ Some bytes) × (blobs ≡ w.blobs)) → Allows f part_size w k (FetchStep name) WasFetched image
-  Missing : (k : ℕ) (name : BlobName) (image : Option Image) (t : Ticket) → IsOut w k t → Told image (λ blobs. (fin.get w.blobs (f.names.text name) ≡ None) × (blobs ≡ w.blobs)) → Allows f part_size w k (FetchStep name) WasAbsent image
+  Replacing : (k : ℕ) (image : Option Image) (p : Puts f w k) → ReadsBack f.names Latest → Told image (λ blobs. blobs ≡ fin.insert w.blobs (f.names.text Latest) (latest_text p.n)) → Allows f part_size w k LatestStep WasReplaced image
+  Fetching : (k : ℕ) (name : BlobName) (image : Option Image) → Fetches f w k name → Told image (λ blobs. (bytes : Bytes) × (fin.get w.blobs (f.names.text name) ≡ Some bytes) × (blobs ≡ w.blobs)) → Allows f part_size w k (FetchStep name) WasFetched image
+  Missing : (k : ℕ) (name : BlobName) (image : Option Image) → Fetches f w k name → Told image (λ blobs. (fin.get w.blobs (f.names.text name) ≡ None) × (blobs ≡ w.blobs)) → Allows f part_size w k (FetchStep name) WasAbsent image
   Listing : (k : ℕ) (image : Option Image) (t : Ticket) → IsOut w k t → SameBlobs w image → Allows f part_size w k ListStep WasListed image
   Raising : (k n : ℕ) (image : Option Image) → Raises f w k n → SameBlobs w image → Allows f part_size w k RaiseStep (RaisedTo n) image
   Settling : (k : ℕ) (image : Option Image) → Settles f w k → SameBlobs w image → Allows f part_size w k SettleStep WasSettled image
@@ -245,19 +283,20 @@ pub data Allows (f : Formats) (part_size : ℕ) (w : World) : ℕ → Step → R
   Full : (name : Bytes) (indices : List AskedIndex) (moment : ℕ) (image : Option Image) → NoCleanup w → IsUnused w name → 1000 ≤ open_count w → SameBlobs w image → Allows f part_size w 0 (AskStep (Snapshot name indices moment)) (Refused (TooMany 1000)) image
   AskSpent : (name : Bytes) (indices : List AskedIndex) (moment : ℕ) (image : Option Image) → NoCleanup w → IsUnused w name → open_count w < 1000 → first_id (suc w.term) ≤ w.next_id + suc (new_names w indices) → SameBlobs w image
       → Allows f part_size w 0 (AskStep (Snapshot name indices moment)) (Refused (IdsSpent w.next_id)) image
-  DrawSpent : (k n : ℕ) (image : Option Image) → first_id (suc w.term) ≤ w.next_id + n → SameBlobs w image → Allows f part_size w k (DrawStep n) (Refused (IdsSpent w.next_id)) image
-  RaiseStale : (k : ℕ) (t : Ticket) (image : Option Image) → IsOut w k t → t.term ≢ w.term → SameBlobs w image → Allows f part_size w k RaiseStep (Refused (StaleTerm t.term w.term)) image
-  SettleStale : (k : ℕ) (t : Ticket) (image : Option Image) → IsOut w k t → t.term ≢ w.term → SameBlobs w image → Allows f part_size w k SettleStep (Refused (StaleTerm t.term w.term)) image
-  DropStale : (k : ℕ) (t : Ticket) (image : Option Image) → IsOut w k t → t.term ≢ w.term → SameBlobs w image → Allows f part_size w k DroppedStep (Refused (StaleTerm t.term w.term)) image
-  RaiseSpent : (k : ℕ) (image : Option Image) → 2 ^ 63 ≤ w.pending → SameBlobs w image → Allows f part_size w k RaiseStep (Refused (GenerationsSpent w.pending)) image
+  DrawSpent : (k n : ℕ) (image : Option Image) → MayDraw f w k n → first_id (suc w.term) ≤ w.next_id + n → SameBlobs w image → Allows f part_size w k (DrawStep n) (Refused (IdsSpent w.next_id)) image
+  RaiseStale : (k : ℕ) (image : Option Image) (may : MayRaise f w k) → may.t.term ≢ w.term → SameBlobs w image → Allows f part_size w k RaiseStep (Refused (StaleTerm may.t.term w.term)) image
+  SettleStale : (k n : ℕ) (t : Ticket) (s : Swap) (image : Option Image) → MaySettle f w k n t s → t.term ≢ w.term → SameBlobs w image → Allows f part_size w k SettleStep (Refused (StaleTerm t.term w.term)) image
+  DropStale : (k : ℕ) (image : Option Image) (may : MayDrop w k) → may.t.term ≢ w.term → SameBlobs w image → Allows f part_size w k DroppedStep (Refused (StaleTerm may.t.term w.term)) image
+  RaiseSpent : (k : ℕ) (image : Option Image) (may : MayRaise f w k) → may.t.term ≡ w.term → 2 ^ 63 ≤ w.pending → SameBlobs w image → Allows f part_size w k RaiseStep (Refused (GenerationsSpent w.pending)) image
   ElectSpent : (image : Option Image) → 2 ^ 63 ≤ suc w.term → SameBlobs w image → Allows f part_size w 0 ElectStep (Refused (TermsSpent w.term)) image
-  Taken : (k : ℕ) (name : BlobName) (image : Option Image) → Commits f w k name → Told image (λ blobs. Present f w.blobs name × (blobs ≡ w.blobs)) → Allows f part_size w k (CommitStep name) (Refused (NameTaken name)) image
+  Taken : (k : ℕ) (name : BlobName) (image : Option Image) → Commits f w k name → (IsMetadata name → ⊥) → Told image (λ blobs. Present f w.blobs name × (blobs ≡ w.blobs)) → Allows f part_size w k (CommitStep name) (Refused (NameTaken name)) image
   -- calls that fail: of a commit nothing or the whole blob is left, of a replacement nothing or the blob, of a record swap the old record or the new one
-  BeginFails : (k : ℕ) (name : BlobName) (image : Option Image) → SameBlobs w image → Allows f part_size w k (BeginStep name) (Refused DepotFault) image
+  BeginFails : (k : ℕ) (name : BlobName) (image : Option Image) → Commits f w k name → SameBlobs w image → Allows f part_size w k (BeginStep name) (Refused DepotFault) image
+  BeginLatestFails : (k : ℕ) (image : Option Image) → Puts f w k → SameBlobs w image → Allows f part_size w k (BeginStep Latest) (Refused DepotFault) image
   CommitFails : (k : ℕ) (name : BlobName) (image : Option Image) (c : Commits f w k name) → Told image (λ blobs. (blobs ≡ w.blobs) ⊎ Adds f w name c.bytes blobs) → Allows f part_size w k (CommitStep name) (Refused DepotFault) image
-  ReplaceFails : (k : ℕ) (image : Option Image) → Puts f w k → Told image (PutsLatest f w.blobs) → Allows f part_size w k LatestStep (Refused DepotFault) image
-  FetchFails : (k : ℕ) (name : BlobName) (image : Option Image) → SameBlobs w image → Allows f part_size w k (FetchStep name) (Refused DepotFault) image
-  ListFails : (k : ℕ) (image : Option Image) → SameBlobs w image → Allows f part_size w k ListStep (Refused DepotFault) image
+  ReplaceFails : (k : ℕ) (image : Option Image) (p : Puts f w k) → ReadsBack f.names Latest → Told image (λ blobs. (blobs ≡ w.blobs) ⊎ (blobs ≡ fin.insert w.blobs (f.names.text Latest) (latest_text p.n))) → Allows f part_size w k LatestStep (Refused DepotFault) image
+  FetchFails : (k : ℕ) (name : BlobName) (image : Option Image) → Fetches f w k name → SameBlobs w image → Allows f part_size w k (FetchStep name) (Refused DepotFault) image
+  ListFails : (k : ℕ) (image : Option Image) (t : Ticket) → IsOut w k t → SameBlobs w image → Allows f part_size w k ListStep (Refused DepotFault) image
   AskFails : (name : Bytes) (indices : List AskedIndex) (moment : ℕ) (image : Option Image) → Accepts f w name indices moment w.next_op → SameBlobs w image → Allows f part_size w 0 (AskStep (Snapshot name indices moment)) (Refused DepotFault) image
   RaiseFails : (k : ℕ) (image : Option Image) → Raises f w k w.pending → SameBlobs w image → Allows f part_size w k RaiseStep (Refused DepotFault) image
   SettleFails : (k : ℕ) (image : Option Image) → Settles f w k → SameBlobs w image → Allows f part_size w k SettleStep (Refused DepotFault) image

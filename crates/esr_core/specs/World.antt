@@ -23,7 +23,7 @@ pub record ShardWork : Type 0 where
   pub place : Bytes
   pub state : ShardState
 
--- an open snapshot. Clone, Delete, Cleanup and Restore become a `kind`
+-- an open snapshot or clone
 pub record Op : Type 0 where
   pub name : Bytes
   pub uuid : ℕ

@@ -90,16 +90,15 @@ pub fn each_history_is_lawful()
         → Law f (world_from f w log) (shelf_after shelf (committed f (world_from f w log).safe w log)) }
 {}
 
-/// `safe` never falls over a legal history, and a record swap that failed is the last that may have moved it.
+/// From any lawful world of a history on `safe` never falls, and from one on in which a record swap failed it stays.
 pub fn safe_never_falls()
-    ensures { (f : Formats) (part_size : ℕ) (image : Image) (shelf : List Shelved) (w : World) (log : List Moment) → Kept f image shelf → Opened f image w → IsLegal f part_size w log → AreTold log → AreHonest f w log
-        → Lasts f w (world_from f w log) }
+    ensures { (f : Formats) (part_size : ℕ) (shelf : List Shelved) (w : World) (log : List Moment) → Law f w shelf → IsLegal f part_size w log → AreTold log → AreHonest f w log → Lasts f w (world_from f w log) }
 {}
 
-/// Each image of a legal history is kept for the commands that count in it: also one that a failed call leaves, and so one that a crash in that call leaves.
+/// Each image of a legal history is kept for the commands of the whole history that count in it: also one that a failed call leaves, and so one that a crash in that call leaves.
 pub fn each_image_is_kept()
-    ensures { (f : Formats) (part_size : ℕ) (image : Image) (shelf : List Shelved) (w : World) (log : List Moment) (m : Moment) (i : Image) → Kept f image shelf → Opened f image w → m.image ≡ Some i → IsLegal f part_size w (log ++ m ∷ [])
-        → AreTold (log ++ m ∷ []) → AreHonest f w (log ++ m ∷ []) → Kept f i (shelf_after shelf (committed f (world_from f w (log ++ m ∷ [])).safe w (log ++ m ∷ []))) }
+    ensures { (f : Formats) (part_size : ℕ) (image : Image) (shelf : List Shelved) (w : World) (log rest : List Moment) (m : Moment) (i : Image) → Kept f image shelf → Opened f image w → m.image ≡ Some i → IsLegal f part_size w (log ++ m ∷ rest)
+        → AreTold (log ++ m ∷ rest) → AreHonest f w (log ++ m ∷ rest) → Kept f i (shelf_after shelf (committed f (world_from f w (log ++ m ∷ [])).safe w (log ++ m ∷ rest))) }
 {}
 
 /// A raise, settle or drop of an older term changes nothing.

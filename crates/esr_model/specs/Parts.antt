@@ -7,7 +7,7 @@ use Rattle.esr_model.specs.Values.{Bytes, FileEntry}
 abbrev pub part_count : ℕ → ℕ → ℕ
 part_count len size = if leb len size then 1 else (len + (size - 1)) / size
 
--- so many parts of a file, numbered from one on
+-- so many parts of a file, numbered from a number on
 abbrev pub parts_from : ℕ → ℕ → ℕ → ℕ → ℕ → List BlobName
 parts_from index shard file first zero = []
 parts_from index shard file first (suc n) = Part index shard file first ∷ parts_from index shard file (suc first) n
