@@ -137,15 +137,6 @@ pub record MaySettle (f : Formats) (w : World) (k n : ℕ) (t : Ticket) (swapped
   pub ready : (name : BlobName) (b : Bytes) → Has swapped.own (name, b) → Has t.noted name
   pub tried : t.tried_latest ≡ true
 
-pub record SettleStale (f : Formats) (w : World) (k n own now : ℕ) (new : World) : Type 0 where
-  pub t : Ticket
-  pub swapped : Swap
-  pub may : MaySettle f w k n t swapped
-  pub apart : t.term ≢ w.term
-  pub own_is : own ≡ t.term
-  pub now_is : now ≡ w.term
-  pub new_is : new ≡ w
-
 -- the next id is the first one of the new term
 pub record Elect (w : World) (new : World) : Type 0 where
   pub new_is : new ≡ record w { term = suc w.term; next_id = first_id (suc w.term) }
