@@ -1,0 +1,4 @@
+pub mod Indices
+pub mod Info
+pub mod Global
+pub mod Index

@@ -1,0 +1,5 @@
+pub mod Op
+pub mod Record
+pub mod Steps
+pub mod Reading
+pub mod Text

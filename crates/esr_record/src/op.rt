@@ -1,0 +1,82 @@
+//! The ops of a record.
+ghost use Rattle.std.specs.Prelude.{◌≡◌, IfOk};
+
+use esr_meta::indices_copy;
+use esr_names::{Id, Ids, IndexRefs, SnapName};
+use std::alloc::{AllocError, Global};
+
+/// The snapshot that an op makes: its indices in the command's order, its moment, name and uuid.
+#[derive(Debug, Drop)]
+pub struct Making {
+    pub indices: IndexRefs,
+    pub moment: u64,
+    pub name: SnapName,
+    pub uuid: Id,
+}
+
+/// What an op does.
+#[derive(Debug, Drop)]
+pub enum OpWork {
+    /// Makes a snapshot.
+    Create { info: Making },
+    /// Makes a snapshot out of the one with the uuid `source`.
+    Clone { info: Making, source: Id },
+    /// Deletes the snapshots with these uuids.
+    Delete { uuids: Ids },
+    /// Removes what no snapshot reaches.
+    Cleanup,
+}
+
+/// An open op, by its number.
+#[derive(Debug, Drop)]
+pub struct RecordOp {
+    pub op: u64,
+    pub work: OpWork,
+}
+
+impl Making {
+    /// A copy.
+    pub fn try_clone(&self, alloc: Global) -> Result<Making, AllocError>
+        ensures { IfOk result (λ m. m ≡ self.now) }
+    {
+        Ok(Making {
+            indices: indices_copy(alloc, &self.indices)?,
+            moment: self.moment,
+            name: self.name.try_clone(alloc)?,
+            uuid: self.uuid,
+        })
+    }
+}
+
+impl OpWork {
+    /// A copy.
+    pub fn try_clone(&self, alloc: Global) -> Result<OpWork, AllocError>
+        ensures { IfOk result (λ w. w ≡ self.now) }
+    {
+        match self {
+            OpWork::Create { info } => Ok(OpWork::Create {
+                info: info.try_clone(alloc)?,
+            }),
+            OpWork::Clone { info, source } => Ok(OpWork::Clone {
+                info: info.try_clone(alloc)?,
+                source: *source,
+            }),
+            OpWork::Delete { uuids } => Ok(OpWork::Delete {
+                uuids: Ids::from_slice(alloc, uuids.as_slice())?,
+            }),
+            OpWork::Cleanup => Ok(OpWork::Cleanup),
+        }
+    }
+}
+
+impl RecordOp {
+    /// A copy.
+    pub fn try_clone(&self, alloc: Global) -> Result<RecordOp, AllocError>
+        ensures { IfOk result (λ o. o ≡ self.now) }
+    {
+        Ok(RecordOp {
+            op: self.op,
+            work: self.work.try_clone(alloc)?,
+        })
+    }
+}

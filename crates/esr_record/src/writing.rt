@@ -1,0 +1,85 @@
+//! Writing a record.
+ghost use Rattle.std.specs.Prelude.{◌≡◌, map, IfOk, Ok};
+ghost use Rattle.serde_json.specs.Data.{array};
+ghost use Rattle.serde_json.specs.View.{view, items_of};
+ghost use Rattle.esr_meta.specs.Indices.{id_data};
+ghost use Rattle.esr_record.specs.Record.{IsRecord};
+ghost use Rattle.esr_record.specs.Reading.{record_from};
+ghost use Rattle.esr_record.specs.Text.{create_data, clone_data, op_data, record_data, record_text};
+
+use crate::{ClusterRecord, Making, OpWork, RecordOp};
+use esr_json::write;
+use esr_meta::{id_value, indices_value};
+use esr_names::{Id, Ids};
+use esr_seq::Bytes;
+use serde_json::{Value, json};
+use std::alloc::{AllocError, Global};
+
+fn create_value(alloc: Global, op: u64, info: &Making) -> Result<Value, AllocError>
+    ensures { IfOk result (λ v. view v ≡ create_data op info.now) }
+{
+    let indices = indices_value(alloc, &info.indices)?;
+    let uuid = id_value(alloc, info.uuid)?;
+    json!(in alloc; {"indices": indices, "kind": "create", "moment": info.moment, "name": info.name.as_str(), "op": op, "uuid": uuid})
+}
+
+fn clone_value(alloc: Global, op: u64, info: &Making, source: Id) -> Result<Value, AllocError>
+    ensures { IfOk result (λ v. view v ≡ clone_data op info.now source) }
+{
+    let indices = indices_value(alloc, &info.indices)?;
+    let source = id_value(alloc, source)?;
+    let uuid = id_value(alloc, info.uuid)?;
+    json!(in alloc; {"indices": indices, "kind": "clone", "moment": info.moment, "name": info.name.as_str(), "op": op, "source": source, "uuid": uuid})
+}
+
+fn uuids_value(alloc: Global, uuids: &Ids) -> Result<Value, AllocError>
+    ensures { IfOk result (λ v. view v ≡ array (items_of (map id_data uuids.now))) }
+{
+    let mut values = Vec::new(alloc);
+    for uuid in uuids.as_slice() {
+        values.push(id_value(alloc, *uuid)?)?;
+    }
+    Ok(Value::Array(values))
+}
+
+fn op_value(alloc: Global, op: &RecordOp) -> Result<Value, AllocError>
+    ensures { IfOk result (λ v. view v ≡ op_data op.now) }
+{
+    match &op.work {
+        OpWork::Create { info } => create_value(alloc, op.op, info),
+        OpWork::Clone { info, source } => clone_value(alloc, op.op, info, *source),
+        OpWork::Delete { uuids } => {
+            let uuids = uuids_value(alloc, uuids)?;
+            json!(in alloc; {"kind": "delete", "op": op.op, "uuids": uuids})
+        }
+        OpWork::Cleanup => json!(in alloc; {"kind": "cleanup", "op": op.op}),
+    }
+}
+
+fn ops_value(alloc: Global, ops: &[RecordOp]) -> Result<Value, AllocError>
+    ensures { IfOk result (λ v. view v ≡ array (items_of (map op_data ops.now))) }
+{
+    let mut values = Vec::new(alloc);
+    for op in ops {
+        values.push(op_value(alloc, op)?)?;
+    }
+    Ok(Value::Array(values))
+}
+
+#[tactic(auto, unfolding(crate::specs::Text::record_data))]
+fn record_value(alloc: Global, cluster: &ClusterRecord) -> Result<Value, AllocError>
+    ensures value { IfOk result (λ v. view v ≡ record_data cluster.now) }
+    ensures valid { IfOk result (λ _. IsRecord cluster.now) }
+{
+    let ops = ops_value(alloc, cluster.ops.as_slice())?;
+    json!(in alloc; {"ops": ops, "pending": cluster.pending, "safe": cluster.safe, "term": cluster.term})
+}
+
+/// The text of a record, which reads as it.
+pub fn record_text(alloc: Global, cluster: &ClusterRecord) -> Result<Bytes, AllocError>
+    ensures text { IfOk result (λ t. t ≡ record_text cluster.now) }
+    ensures reads { IfOk result (λ t. record_from t ≡ Ok cluster.now) }
+{
+    let value = record_value(alloc, cluster)?;
+    Ok(Bytes::from_vec(write(alloc, &value)?))
+}

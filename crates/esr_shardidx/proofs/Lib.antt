@@ -1,0 +1,11 @@
+pub mod Added
+pub mod Cuts
+pub mod EntryTexts
+pub mod Files
+pub mod Found
+pub mod IndexTexts
+pub mod Kept
+pub mod PlainTexts
+pub mod SnapTexts
+pub mod Tested
+pub mod Unrefused

@@ -1,0 +1,21 @@
+use Rattle.std.proofs.Common.{◌≡◌, ◌∙◌, false, List, [], ◌∷◌, ◌++◌, sym, ap}
+use Rattle.std.specs.List.{list_any}
+use Rattle.esr_names.specs.declared.ids.Id.{Id}
+use Rattle.esr_shardidx.specs.declared.entry.FileEntry.{FileEntry}
+use Rattle.esr_shardidx.specs.declared.index.SnapList.{SnapList}
+use Rattle.esr_shardidx.specs.Indices.{has_uuid, insert_files, list_of_snap}
+use Rattle.esr_shardidx.proofs.Added.{added}
+use Rattle.esr_shardidx.proofs.index.ShardIndex.with_snap.Goals as goal
+
+-- the index doesn't have the snapshot
+fresh : (c : goal.After-from_vec) → list_any (has_uuid c.args.snap.now.uuid) c.args.self.now.snapshots ≡ false
+fresh c =
+    sym (c.has_list.ensures ∙ ap (λ (u : Id). list_any (has_uuid u) c.snapshots.result.now) c.uuid.ensures ∙ ap (list_any (has_uuid c.args.snap.now.uuid)) c.snapshots.ensures)
+    ∙ c.if-has_list.false
+
+pub invariant_of-result : goal.invariant_of-result
+invariant_of-result c =
+    let all = added c.args.self.now c.args.snap.now c.files.ensures.whole c.files-2.ensures.whole (fresh c) in
+    let files : c.from_vec.result ≡ insert_files c.args.self.now.files c.args.snap.now.files = c.from_vec.ensures ∙ c.in_ok-insert_files.ensures.ok ∙ ap (λ (es : List FileEntry). insert_files es c.files-2.result.now) (c.in_ok-entries.ensures ∙ c.files.ensures.files) ∙ ap (insert_files c.args.self.now.files) c.files-2.ensures.files in
+    let lists : c.push.new.self ≡ c.args.self.now.snapshots ++ list_of_snap c.args.snap.now ∷ [] = c.in_ok-push.ensures.ok ∙ ap (λ (ls : List SnapList). ls ++ c.in_ok-list_of_snap.field-0 ∷ []) (c.in_ok-snapshots.ensures ∙ c.snapshots-2.ensures) ∙ ap (λ (l : SnapList). c.args.self.now.snapshots ++ l ∷ []) c.in_ok-list_of_snap.ensures in
+    rw (files, lists) all

@@ -1,0 +1,38 @@
+//! The entries of stored files.
+ghost use Rattle.std.specs.Prelude.{◌≡◌, IfOk};
+
+use crate::PhysicalName;
+use esr_hash::Print;
+use esr_names::Id;
+use esr_seq::Seq;
+use std::alloc::{AllocError, Global};
+
+/// A stored file of a shard.
+#[derive(Debug, Drop)]
+pub struct FileEntry {
+    /// The id under which its bytes are stored.
+    pub name: Id,
+    /// Its name where it was taken from.
+    pub physical: PhysicalName,
+    /// Its length, in bytes, below 2^60, and its digest.
+    pub print: Print,
+    /// The most bytes of one of its blobs, 1 to 2^30.
+    pub part_size: u64,
+}
+
+/// Entries in order.
+pub type FileEntries = Seq<FileEntry>;
+
+impl FileEntry {
+    /// A copy of the entry.
+    pub fn try_clone(&self, alloc: Global) -> Result<FileEntry, AllocError>
+        ensures { IfOk result (λ e. e ≡ self.now) }
+    {
+        Ok(FileEntry {
+            name: self.name,
+            physical: self.physical.try_clone(alloc)?,
+            print: self.print,
+            part_size: self.part_size,
+        })
+    }
+}
