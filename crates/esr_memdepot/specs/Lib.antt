@@ -1,0 +1,7 @@
+pub mod Laws
+pub mod MemDepot
+pub mod Meter
+pub mod Past
+pub mod Plan
+pub mod Sizes
+pub mod Stages
