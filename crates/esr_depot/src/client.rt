@@ -1,6 +1,6 @@
 //! A client of any container, which shows that the trait says enough: a blob of two pieces, and then the record.
 ghost use Rattle.std.specs.Prelude.{◌≡◌, ◌+◌, ◌^◌, ◌<◌, ◌≤◌, ◌++◌, ℕ, Some, None, length, IsErrOf};
-ghost use Rattle.esr_depot.specs.Image.{Image, with_blob, with_text};
+ghost use Rattle.esr_depot.specs.Image.{Image, with_blob, with_text, IsTaken};
 ghost use Rattle.esr_depot.specs.Look.{now};
 ghost use Rattle.esr_depot.specs.Calls.{up};
 ghost use Rattle.esr_depot.specs.Moments.{LeavesOnly};
@@ -41,6 +41,7 @@ pub fn put_and_record<D: Depot>(
     ensures done { (i : Image) → now (D.look depot.old) ≡ Some i → result ≡ Ok Commit.Done
         → now (D.look depot.new) ≡ Some (with_text (with_blob i name.now (first.now ++ second.now)) text.now) }
     ensures exists { result ≡ Ok Commit.Exists → now (D.look depot.new) ≡ now (D.look depot.old) }
+    ensures taken { result ≡ Ok Commit.Exists → IsTaken (now (D.look depot.old)) name.now }
     ensures any_moment { LeavesOnly (D.look depot.old) (D.look depot.new)
         (λ c. (i : Image) → now (D.look depot.old) ≡ Some i → IsPutOf i name.now (first.now ++ second.now) text.now c) }
     ensures depot_fault { IsErrOf result PutError.Depot → up (D.faults depot.old) ≤ D.faults depot.new }
