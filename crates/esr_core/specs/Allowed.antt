@@ -105,7 +105,7 @@ pub record MayDraw (f : Formats) (w : World) (k n : ℕ) : Type 0 where
   pub shard : IsShard t.work
   pub once : t.drawn ≡ 0
   pub some : 1 ≤ n
-  pub most : (op : Op) (s : ShardWork) → fin.get w.ops t.op ≡ Some op → Has op.shards s → s.state ≡ Out k → n ≤ suc (length (f.told s.place s.ref.name s.number))
+  pub most : (index number : ℕ) → t.work ≡ Shard index number → f.known t.place t.name number ≡ true → n ≤ suc (length (f.told t.place t.name number))
 
 pub record Draws (f : Formats) (w : World) (k n first : ℕ) : Type 0 where
   pub may : MayDraw f w k n
@@ -186,19 +186,21 @@ abbrev pub Based : Formats → Ticket → ℕ → ℕ → Option ℕ → ShardFi
 Based f t index shard None base = base ≡ no_files
 Based f t index shard (Some g) base = (bytes : Bytes) × Has t.read (ShardIndex index shard g, bytes) × (f.shard_index.read bytes ≡ Some base)
 
--- a shard is done: its ticket wrote the parts of the files that the base doesn't have, the snapshot of the shard and the
--- index under the last id that it drew; the files are those that the source tells
-pub record DoneBy (f : Formats) (part_size : ℕ) (t : Ticket) (s : ShardWork) (r : ShardResult) : Type 0 where
+-- A shard is done: its ticket wrote the parts of the files that the base doesn't have, the snapshot of the shard and the
+-- index under the last id that it drew. The files are those that the source tells, where it tells them.
+pub record DoneBy (f : Formats) (part_size : ℕ) (t : Ticket) (r : ShardResult) : Type 0 where
   pub size : 0 < part_size
   pub base : ShardFiles
   pub based : Based f t r.index r.shard t.base base
-  pub generation : r.generation ≡ id_after f base t.first (f.told s.place s.ref.name s.number)
+  pub files : List (Bytes × Bytes)
+  pub told : f.known t.place t.name r.shard ≡ true → files ≡ f.told t.place t.name r.shard
+  pub generation : r.generation ≡ id_after f base t.first files
   pub drew : t.first + t.drawn ≡ suc r.generation
-  pub wrote : (name : BlobName) (bytes : Bytes) → Has (shard_blobs f part_size base r.index r.shard t.uuid t.first (f.told s.place s.ref.name s.number)) (name, bytes) → Has t.wrote (name, bytes)
-  pub snap_back : ReadsBack f.shard_snap (record { uuid = t.uuid; files = entries_from f part_size base t.first (f.told s.place s.ref.name s.number) })
-  pub index_back : ReadsBack f.shard_index (with_snap base t.uuid (entries_from f part_size base t.first (f.told s.place s.ref.name s.number)))
-  pub files : r.files ≡ length (f.told s.place s.ref.name s.number)
-  pub bytes : r.bytes ≡ min (sum_by (λ (file : Bytes × Bytes). length file.1) (f.told s.place s.ref.name s.number)) (2 ^ 64 - 1)
+  pub wrote : (name : BlobName) (bytes : Bytes) → Has (shard_blobs f part_size base r.index r.shard t.uuid t.first files) (name, bytes) → Has t.wrote (name, bytes)
+  pub snap_back : ReadsBack f.shard_snap (record { uuid = t.uuid; files = entries_from f part_size base t.first files })
+  pub index_back : ReadsBack f.shard_index (with_snap base t.uuid (entries_from f part_size base t.first files))
+  pub count : r.files ≡ length files
+  pub bytes : r.bytes ≡ min (sum_by (λ (file : Bytes × Bytes). length file.1) files) (2 ^ 64 - 1)
 
 pub record Dones (f : Formats) (part_size : ℕ) (w : World) (k : ℕ) (r : ShardResult) (image : Option Image) : Type 0 where
   pub t : Ticket
@@ -209,12 +211,14 @@ pub record Dones (f : Formats) (part_size : ℕ) (w : World) (k : ℕ) (r : Shar
   pub s : ShardWork
   pub s_there : Has op.shards s
   pub state : s.state ≡ Out k
+  pub place_is : s.place ≡ t.place
+  pub name_is : s.ref.name ≡ t.name
   -- it drew the generation last, and committed the snapshot of the shard and the index under it
   pub drew : Drew t r.generation
   pub last : t.first + t.drawn ≡ suc r.generation
   pub snap_noted : Has t.noted (ShardSnap r.index r.shard t.uuid)
   pub index_noted : Has t.noted (ShardIndex r.index r.shard r.generation)
-  pub done : Told image (λ blobs. DoneBy f part_size t s r)
+  pub done : Told image (λ blobs. DoneBy f part_size t r)
 
 -- a unit fails: a shard's at any term, a finalization before its settle; what a stale master ticket tells ends it alone
 pub record Fails (w : World) (k : ℕ) : Type 0 where

@@ -61,6 +61,10 @@ abbrev pub AreHonest : Formats → World → List Moment → Type 0
 AreHonest f w [] = IsHonest f w.blobs
 AreHonest f w (m ∷ log) = IsHonest f w.blobs × AreHonest f (after f w m) log
 
+-- the sources tell all files
+abbrev pub AllKnown : Formats → Type 0
+AllKnown f = (place name : Bytes) (number : ℕ) → f.known place name number ≡ true
+
 -- the container tells its image at each moment
 abbrev pub AreTold : List Moment → Type 0
 AreTold [] = Unit {0}

@@ -9,6 +9,7 @@ pub mod Texts
 pub mod Queue
 pub mod Written
 pub mod Ids
+pub mod Tracked
 pub mod Turns
 pub mod Entry
 pub mod After

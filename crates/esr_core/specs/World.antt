@@ -61,6 +61,9 @@ pub record Ticket : Type 0 where
   pub op : ℕ
   -- of its snapshot
   pub uuid : ℕ
+  -- of a shard: the place of its files, and the name of its index
+  pub place : Bytes
+  pub name : Bytes
   pub term : ℕ
   -- copies made at `take`
   pub safe : ℕ

@@ -1,13 +1,13 @@
 //! The core's law, over definitions alone: each function's contract is a law, and its body is empty.
 #![tactic(auto)]
 
-ghost use Rattle.std.specs.Prelude.{◌≡◌, Bool, true, false, Option, Some, ℕ, ◌<◌, ◌≤◌, List, [], ◌∷◌, ◌++◌, ◌⊎◌};
-ghost use Rattle.esr_model.specs.Values.{Bytes, ReadsBack, Formats};
+ghost use Rattle.std.specs.Prelude.{◌≡◌, Bool, true, false, Option, Some, ℕ, suc, ◌<◌, ◌≤◌, List, [], ◌∷◌, ◌++◌, ◌⊎◌};
+ghost use Rattle.esr_model.specs.Values.{Bytes, RootIndex, RootData, ClusterRecord, ReadsBack, Formats};
 ghost use Rattle.esr_model.specs.Names.{BlobName, Root};
-ghost use Rattle.esr_model.specs.Image.{Has, Image, KeptBy, Present};
-ghost use Rattle.esr_model.specs.Kept.{Kept};
+ghost use Rattle.esr_model.specs.Image.{Has, Blobs, Image, KeptBy, Present};
+ghost use Rattle.esr_model.specs.Kept.{Kept, RootIds, first_id};
 ghost use Rattle.esr_model.specs.Shelf.{Shelved, Command, shelf_after};
-ghost use Rattle.esr_core.specs.World.{World, Op, ShardWork, Shard, Ticket, HeldIn, ledger_of, image_of, record_of, Opened};
+ghost use Rattle.esr_core.specs.World.{World, Op, ShardWork, Shard, Ticket, HeldIn, ledger_of, image_of, record_of, opened, Opened};
 ghost use Rattle.esr_core.specs.Swaps.{TicketLaw};
 ghost use Rattle.esr_core.specs.Generations.{Carried};
 ghost use Rattle.esr_core.specs.Written.{Written};
@@ -16,6 +16,7 @@ ghost use Rattle.esr_core.specs.Steps.{Raise, Remove};
 ghost use Rattle.esr_core.specs.Sound.{Sound};
 ghost use Rattle.esr_core.specs.Queue.{Lists, Sole, QueueIn};
 ghost use Rattle.esr_core.specs.Ids.{Law, DoomedIds, IdsIn, InTerm};
+ghost use Rattle.esr_core.specs.Tracked.{IsOneIndex, Tracked};
 ghost use Rattle.esr_core.specs.Ready.{IsOpen, AnyReady, Barrier, Idle, SwapIsOut};
 ghost use Rattle.std.specs.FinMap as fin;
 ghost use Rattle.std.specs.FinMap.{FinMap};
@@ -25,8 +26,8 @@ ghost use Rattle.esr_core.specs.Doomed.{Dooms};
 ghost use Rattle.esr_core.specs.Entry.{Moment, Refused, StaleTerm};
 ghost use Rattle.esr_core.specs.After.{after};
 ghost use Rattle.esr_core.specs.Example.{CanWrite, HasSnapshot};
-ghost use Rattle.esr_core.specs.Allowed.{SameBlobs};
-ghost use Rattle.esr_core.specs.History.{world_from, IsLegal, AreTold, AreHonest, committed, Lasts};
+ghost use Rattle.esr_core.specs.Allowed.{SameBlobs, Allowed};
+ghost use Rattle.esr_core.specs.History.{world_from, IsLegal, AllKnown, AreTold, AreHonest, committed, Lasts};
 
 /// A raise keeps the law, and the generation that it begins is that of no root that is there.
 pub fn raise_is_sound()
@@ -86,18 +87,18 @@ pub fn the_queue_is_apart()
 
 /// Over each legal history the law holds, for the shelf with the commands that count in its last image.
 pub fn each_history_is_lawful()
-    ensures { (f : Formats) (part_size : ℕ) (image : Image) (shelf : List Shelved) (w : World) (log : List Moment) → Kept f image shelf → Opened f image w → IsLegal f part_size w log → AreTold log → AreHonest f w log
+    ensures { (f : Formats) (part_size : ℕ) (image : Image) (shelf : List Shelved) (w : World) (log : List Moment) → AllKnown f → Kept f image shelf → Opened f image w → IsLegal f part_size w log → AreTold log → AreHonest f w log
         → Law f (world_from f w log) (shelf_after shelf (committed f (world_from f w log).safe w log)) }
 {}
 
 /// From any lawful world of a history on `safe` never falls, and from one on in which a record swap failed it stays.
 pub fn safe_never_falls()
-    ensures { (f : Formats) (part_size : ℕ) (shelf : List Shelved) (w : World) (log : List Moment) → Law f w shelf → IsLegal f part_size w log → AreTold log → AreHonest f w log → Lasts f w (world_from f w log) }
+    ensures { (f : Formats) (part_size : ℕ) (shelf : List Shelved) (w : World) (log : List Moment) → AllKnown f → Law f w shelf → IsLegal f part_size w log → AreTold log → AreHonest f w log → Lasts f w (world_from f w log) }
 {}
 
 /// Each image of a legal history is kept for the commands of the whole history that count in it: also one that a failed call leaves, and so one that a crash in that call leaves.
 pub fn each_image_is_kept()
-    ensures { (f : Formats) (part_size : ℕ) (image : Image) (shelf : List Shelved) (w : World) (log rest : List Moment) (m : Moment) (i : Image) → Kept f image shelf → Opened f image w → m.image ≡ Some i → IsLegal f part_size w (log ++ m ∷ rest)
+    ensures { (f : Formats) (part_size : ℕ) (image : Image) (shelf : List Shelved) (w : World) (log rest : List Moment) (m : Moment) (i : Image) → AllKnown f → Kept f image shelf → Opened f image w → m.image ≡ Some i → IsLegal f part_size w (log ++ m ∷ rest)
         → AreTold (log ++ m ∷ rest) → AreHonest f w (log ++ m ∷ rest) → Kept f i (shelf_after shelf (committed f (world_from f w (log ++ m ∷ [])).safe w (log ++ m ∷ rest))) }
 {}
 
@@ -154,4 +155,20 @@ pub fn ids_stay_below()
 /// The steps admit a whole snapshot: into an empty container one of no index can be asked, finalized and settled, and it is the one command that counts.
 pub fn a_snapshot_is_legal()
     ensures { (f : Formats) (part_size : ℕ) (name : Bytes) (moment : ℕ) → CanWrite f name moment → HasSnapshot f part_size name }
+{}
+
+/// The opened world is in order over any container: its root's ids are of terms up to the record's.
+pub fn opened_worlds_are_tracked()
+    ensures { (blobs : Blobs) (cluster : ClusterRecord) (root : RootData) → RootIds root (first_id (suc cluster.ledger.term))
+        → ((x y : RootIndex) → Has root.indices x → Has root.indices y → IsOneIndex x.name x.id y.name y.id) → Tracked (opened blobs cluster root) }
+{}
+
+/// Each step keeps the order of ops, tickets, names and ids, whatever the container tells.
+pub fn each_step_is_tracked()
+    ensures { (f : Formats) (part_size : ℕ) (w : World) (m : Moment) → Tracked w → Allowed f part_size w m → Tracked (after f w m) }
+{}
+
+/// And so does each legal history.
+pub fn each_history_is_tracked()
+    ensures { (f : Formats) (part_size : ℕ) (w : World) (log : List Moment) → Tracked w → IsLegal f part_size w log → Tracked (world_from f w log) }
 {}

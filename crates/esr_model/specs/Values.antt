@@ -1,6 +1,6 @@
 -- What the texts of a repository hold, and how they are read. The texts themselves, the digest and what the sources tell are parameters:
 -- the definitions and the law hold of any.
-use Rattle.std.specs.Prelude.{◌≡◌, ◌⊎◌, ℕ, List, [], ◌∷◌, Option, Some}
+use Rattle.std.specs.Prelude.{◌≡◌, ◌⊎◌, ℕ, Bool, List, [], ◌∷◌, Option, Some}
 use Rattle.esr_model.specs.Names.{BlobName}
 
 abbrev pub Bytes : Type 0
@@ -119,5 +119,6 @@ pub record Formats : Type 0 where
   -- what reads as a root lists each index once
   pub one_each : (bytes : Bytes) (r : RootData) → root.read bytes ≡ Some r → IsOneEach r.indices
   pub digest : Bytes → Bytes
-  -- the files that the sources tell for a place, an index name and a number
+  -- whether the sources tell the files for a place, an index name and a number, and which they are
+  pub known : Bytes → Bytes → ℕ → Bool
   pub told : Bytes → Bytes → ℕ → List (Bytes × Bytes)

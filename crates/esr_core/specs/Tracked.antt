@@ -1,0 +1,77 @@
+-- What holds of the open ops and their tickets over any container, also one that tells nothing: each unit that is out has
+-- its op, and names and ids are apart.
+use Rattle.std.specs.Prelude.{◌≡◌, ◌≢◌, ℕ, ◌+◌, ◌<◌, ◌≤◌, true, false, List, Option, Some, map}
+use Rattle.std.specs.Ordering.{nat_cmp}
+use Rattle.std.specs.FinMap.{FinMap}
+use Rattle.std.specs.FinMap as fin
+use Rattle.esr_model.specs.Values.{Bytes, Has, IndexRef, RootSnap, RootIndex, RootData, SnapInfo, ShardResult}
+use Rattle.esr_model.specs.Shelf.{Shelved}
+use Rattle.esr_model.specs.Kept.{RootIds}
+use Rattle.esr_model.specs.Places.{places}
+use Rattle.esr_core.specs.World.{World, Op, ShardWork, Out, Work, Shard, Finalize, Drop, Ticket, AllDone, info_of}
+use Rattle.esr_core.specs.Ready.{Goes, Stopped, IsShard, SwapIsOut}
+use Rattle.esr_core.specs.Ids.{OpIds, InTerm}
+
+-- a shard's ticket that is out has its op, and in it the shard that it works on, with the place of its files
+pub record ShardTracked (ops : FinMap nat_cmp Op) (k : ℕ) (t : Ticket) (index number : ℕ) : Type 0 where
+  pub op : Op
+  pub op_there : fin.get ops t.op ≡ Some op
+  pub uuid_is : t.uuid ≡ op.uuid
+  pub s : ShardWork
+  pub s_there : Has op.shards s
+  pub state : s.state ≡ Out k
+  pub index_is : s.ref.id ≡ index
+  pub number_is : s.number ≡ number
+  pub place_is : s.place ≡ t.place
+  pub name_is : s.ref.name ≡ t.name
+
+-- a finalization of the present term that is out and hasn't settled has its op, whose shards are done, and a copy of the safe root
+pub record FinalTracked (root : RootData) (ops : FinMap nat_cmp Op) (t : Ticket) (info : SnapInfo) (results : List ShardResult) : Type 0 where
+  pub op : Op
+  pub op_there : fin.get ops t.op ≡ Some op
+  pub done : AllDone op.shards results
+  pub goes : Goes op
+  pub uuid_is : t.uuid ≡ op.uuid
+  pub info_is : info ≡ info_of op results
+  pub root_is : t.root ≡ root
+
+-- a drop of the present term that is out: its op is stopped, and no ticket of its shards is out
+pub record DropTracked (ops : FinMap nat_cmp Op) (tickets : FinMap nat_cmp Ticket) (t : Ticket) : Type 0 where
+  pub stopped : (op : Op) → fin.get ops t.op ≡ Some op → Stopped op
+  pub idle : (k : ℕ) (u : Ticket) → fin.get tickets k ≡ Some u → u.out ≡ true → IsShard u.work → u.op ≢ t.op
+
+-- two references to indices have one id exactly where they have one name
+pub record IsOneIndex (a : Bytes) (i : ℕ) (b : Bytes) (j : ℕ) : Type 0 where
+  pub one_name : i ≡ j → a ≡ b
+  pub one_id : a ≡ b → i ≡ j
+
+-- the names and ids of a root and of the open ops
+pub record Named (root : RootData) (ops : FinMap nat_cmp Op) (next : ℕ) : Type 0 where
+  -- no open op has the name or uuid of a listed snapshot, or of another op
+  pub unlisted : (o : ℕ) (op : Op) (s : RootSnap) → fin.get ops o ≡ Some op → Has root.snapshots s → (s.name ≢ op.name) × (s.uuid ≢ op.uuid)
+  pub apart : (o p : ℕ) (a b : Op) → fin.get ops o ≡ Some a → fin.get ops p ≡ Some b → o ≢ p → (a.name ≢ b.name) × (a.uuid ≢ b.uuid)
+  -- its uuid is in no index of the root
+  pub unused : (o : ℕ) (op : Op) (x : RootIndex) → fin.get ops o ≡ Some op → Has root.indices x → Has x.snapshots op.uuid → ⊥
+  -- one id to each index name, its own
+  pub indices : (o p : ℕ) (a b : Op) (r q : IndexRef) → fin.get ops o ≡ Some a → fin.get ops p ≡ Some b → Has a.indices r → Has b.indices q → IsOneIndex r.name r.id q.name q.id
+  pub once : (o : ℕ) (op : Op) (r q : IndexRef) → fin.get ops o ≡ Some op → Has op.indices r → Has op.indices q → r.id ≡ q.id → r ≡ q
+  pub rooted : (o : ℕ) (op : Op) (r : IndexRef) (x : RootIndex) → fin.get ops o ≡ Some op → Has op.indices r → Has root.indices x → IsOneIndex r.name r.id x.name x.id
+  -- also among the indices of the root
+  pub root_indices : (x y : RootIndex) → Has root.indices x → Has root.indices y → IsOneIndex x.name x.id y.name y.id
+  -- its shards are those of its indices
+  pub shards : (o : ℕ) (op : Op) → fin.get ops o ≡ Some op → map (λ (s : ShardWork). (s.ref, s.number)) op.shards ≡ places op.indices
+  -- all ids lie below the next one
+  pub below : (o : ℕ) (op : Op) → fin.get ops o ≡ Some op → OpIds next op
+  pub root_below : RootIds root next
+
+pub record Tracked (w : World) : Type 0 where
+  pub numbers : (o : ℕ) (op : Op) → fin.get w.ops o ≡ Some op → o < w.next_op
+  pub tickets : (k : ℕ) (t : Ticket) → fin.get w.tickets k ≡ Some t → (k < w.next_ticket) × (t.term ≤ w.term) × (t.first + t.drawn ≤ w.next_id)
+  pub first_ticket : 1 ≤ w.next_ticket
+  pub shards : (k : ℕ) (t : Ticket) (index number : ℕ) → fin.get w.tickets k ≡ Some t → t.out ≡ true → t.work ≡ Shard index number → ShardTracked w.ops k t index number
+  pub finals : (k : ℕ) (t : Ticket) (info : SnapInfo) (results : List ShardResult) (made : Shelved) → fin.get w.tickets k ≡ Some t → t.out ≡ true → t.settled ≡ false → t.term ≡ w.term
+      → t.work ≡ Finalize info results made → FinalTracked w.root w.ops t info results
+  pub drops : (k : ℕ) (t : Ticket) → fin.get w.tickets k ≡ Some t → t.out ≡ true → t.term ≡ w.term → t.work ≡ Drop → DropTracked w.ops w.tickets t
+  pub one_swap : (j k : ℕ) → SwapIsOut w.tickets w.term j → SwapIsOut w.tickets w.term k → j ≡ k
+  pub named : Named w.root w.ops w.next_id
+  pub in_term : InTerm w
