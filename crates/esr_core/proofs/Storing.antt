@@ -289,9 +289,22 @@ files_stand f has i k size some base (file ∷ files) old next there =
         subst (λ o. ((entry_by f size next file o).physical ≡ file.0) × FileStands f has i k (entry_by f size next file o) file.1) (sym is) (physical, old e file (inl refl) m len digest)
 
 module _ (f : Formats) (size : ℕ) (w : World) (shelf : List Shelved) (l : Law f w shelf) (honest : IsHonest f w.blobs) (k : ℕ) (t : Ticket) (out : IsOut w k t) (r : ShardResult) (is : t.work ≡ Shard r.index r.shard)
-    (op : Op) (op_there : fin.get w.ops t.op ≡ Some op) (s : ShardWork) (s_there : Has op.shards s) (state : s.state ≡ Out k) (b : DoneBy f size t s r) where
+    (op : Op) (op_there : fin.get w.ops t.op ≡ Some op) (s : ShardWork) (s_there : Has op.shards s) (state : s.state ≡ Out k) (place_is : s.place ≡ t.place) (name_is : s.ref.name ≡ t.name) (b : DoneBy f size t r) (told_is : b.files ≡ f.told t.place t.name r.shard) where
   abbrev files : List (Bytes × Bytes)
-  files = f.told s.place s.ref.name s.number
+  files = b.files
+
+  number_is : s.number ≡ r.shard
+  number_is =
+      let held = l.lawful.sound.carried.held t.op op s k op_there s_there state in
+      let same : held.t ≡ t = some_same _ _ (sym held.there ∙ out.there) in
+      number_same _ _ _ _ (sym held.work ∙ ap (λ (x : Ticket). x.work) same ∙ is)
+    where
+      number_same : (a b c d : ℕ) → Shard a b ≡ Shard c d → b ≡ d
+      number_same a b c d e = cc
+
+  -- they are those that the source tells
+  files_told : files ≡ f.told s.place s.ref.name s.number
+  files_told = told_is ∙ (λ j. f.told (sym place_is j) (sym name_is j) (sym number_is j))
 
   abbrev entries : List FileEntry
   entries = entries_from f size b.base t.first files
@@ -339,7 +352,7 @@ module _ (f : Formats) (size : ℕ) (w : World) (shelf : List Shelved) (l : Law 
     | inl none ↦ absurd (subst (λ (h : ShardFiles). Has h.files e) (none_base none) m)
     | inr g ↦
         let (bytes, stands) = base_file g.0 g.1 e m in
-        let same : bytes ≡ file.1 = honest s.place s.ref.name s.number file r.index r.shard e bytes fm stands (stands.len ∙ len) (stands.digest ∙ digest) in
+        let same : bytes ≡ file.1 = honest t.place t.name r.shard file r.index r.shard e bytes (subst (λ fs. Has fs file) told_is fm) stands (stands.len ∙ len) (stands.digest ∙ digest) in
         subst (FileStands f (At f w.blobs) r.index r.shard e) same stands
   ]
 
@@ -378,6 +391,7 @@ module _ (f : Formats) (size : ℕ) (w : World) (shelf : List Shelved) (l : Law 
         s = s;
         s_there = s_there;
         state = state;
-        files = files_stand f (At f w.blobs) r.index r.shard size b.size b.base files old_file t.first (λ name bytes m. there name bytes (Has-left blobs _ (name, bytes) m));
+        files = subst (λ fs. AllPairs (λ (e : FileEntry) (file : Bytes × Bytes). (e.physical ≡ file.0) × FileStands f (At f w.blobs) r.index r.shard e file.1) entries fs) files_told
+            (files_stand f (At f w.blobs) r.index r.shard size b.size b.base files old_file t.first (λ name bytes m. there name bytes (Has-left blobs _ (name, bytes) m)));
         new_is = e;
       }
