@@ -1,6 +1,5 @@
 -- The op of a snapshot that is accepted: its ids and shards.
-use Rattle.std.proofs.Common.{◌≡◌, ◌≢◌, ◌⊎◌, ℕ, zero, suc, ◌+◌, ◌<◌, ◌≤◌, List, [], ◌∷◌, ◌++◌, Bool, true, false, true≢false, Option, Some, None, map, refl, sym, ap, ◌∙◌, subst, inl, inr, arith, nat_cmp}
-use Rattle.std.specs.Prelude.{if◌then◌else◌}
+use Rattle.std.proofs.Common.{◌≡◌, ◌⊎◌, ℕ, zero, suc, ◌+◌, ◌<◌, ◌≤◌, List, [], ◌∷◌, ◌++◌, true, false, true≢false, Option, Some, None, map, refl, sym, ap, ◌∙◌, subst, inl, inr, arith}
 use Rattle.std.specs.Cmp.{eq_by_cmp_equiv}
 use Rattle.std.specs.Cmp.Lexicographic.{nat_list_cmp_total}
 use Rattle.std.specs.FinMap as fin
@@ -10,14 +9,14 @@ use Rattle.esr_model.specs.Places.{numbered, places}
 use Rattle.esr_model.specs.Uploads.{same_bytes}
 use Rattle.esr_core.specs.World.{World, Op, ShardWork, Pending}
 use Rattle.esr_core.specs.Ids.{Law}
-use Rattle.esr_core.specs.Turns.{AskCreate, IndexId}
+use Rattle.esr_core.specs.Turns.{AskCreate}
 use Rattle.esr_core.specs.Entry.{AskedIndex, Snapshot}
 use Rattle.esr_core.specs.After.{or_else, root_index_id, index_id, open_index_id, known_id, ref_by, next_by, refs_from, new_names, pending_shards, all_pending, asked_op, asked}
 use Rattle.esr_core.specs.Allowed.{AreDistinct, Accepts}
 use Rattle.esr_core.proofs.Maps.{split, texts_same}
 use Rattle.esr_core.proofs.Reading.{some_same, none_some, Has-either}
 use Rattle.esr_core.proofs.Results.{choose_true, choose_false}
-use Rattle.esr_core.proofs.Recorded.{entry_got}
+use Rattle.esr_core.proofs.Recorded.{entry_got, got_entry}
 
 -- equal texts are one
 same_one : (a b : Bytes) → ((same_bytes a b ≡ true) × (a ≡ b)) ⊎ (same_bytes a b ≡ false)
@@ -52,7 +51,7 @@ open_found (p ∷ ops) name id e = elim (told (index_id p.1.indices name)) [
 ]
 
 -- a known id is that of an index of the root, or of an open op
-abbrev IsKnownId : World → IndexRef → Type 0
+abbrev pub IsKnownId : World → IndexRef → Type 0
 IsKnownId w r =
     ((x : RootIndex) × Has w.root.indices x × (x.name ≡ r.name) × (x.id ≡ r.id))
     ⊎ ((p : ℕ) × (q : Op) × (z : IndexRef) × (fin.get w.ops p ≡ Some q) × Has q.indices z × (z.name ≡ r.name) × (z.id ≡ r.id))
@@ -71,7 +70,7 @@ ref_name a (Some id) next = refl
 
 module _ (w : World) where
   -- an index has a known id, or one of those that are drawn
-  ref_ids : (asked : List AskedIndex) (next : ℕ) (r : IndexRef) → Has (refs_from w next asked) r → IsKnownId w r ⊎ ((next ≤ r.id) × (r.id < next + new_names w asked))
+  pub ref_ids : (asked : List AskedIndex) (next : ℕ) (r : IndexRef) → Has (refs_from w next asked) r → IsKnownId w r ⊎ ((next ≤ r.id) × (r.id < next + new_names w asked))
   ref_ids [] next r m = absurd m
   ref_ids (a ∷ asked) next r m = elim (told (known_id w a.name)) [
     | inr h ↦ by_known h.0 h.1 (subst (λ o. Has (ref_by a o next ∷ refs_from w (next_by o next) asked) r) h.1 m) (ref_ids asked next r)
@@ -101,7 +100,7 @@ module _ (w : World) where
   ref_names (a ∷ asked) next r (inr m) = let (b, n, e) = ref_names asked (next_by (known_id w a.name) next) r m in (b, inr n, e)
 
   -- one index to each name
-  one_name : (asked : List AskedIndex) (next : ℕ) → AreDistinct asked → (r q : IndexRef) → Has (refs_from w next asked) r → Has (refs_from w next asked) q → r.name ≡ q.name → r ≡ q
+  pub one_name : (asked : List AskedIndex) (next : ℕ) → AreDistinct asked → (r q : IndexRef) → Has (refs_from w next asked) r → Has (refs_from w next asked) q → r.name ≡ q.name → r ≡ q
   one_name [] next d r q m n e = absurd m
   one_name (a ∷ asked) next d r q (inl x) (inl y) e = sym x ∙ y
   one_name (a ∷ asked) next d r q (inl x) (inr n) e =
@@ -113,7 +112,7 @@ module _ (w : World) where
   one_name (a ∷ asked) next d r q (inr m) (inr n) e = one_name asked (next_by (known_id w a.name) next) d.1 r q m n e
 
   -- two that were drawn have two ids
-  one_new : ((r : IndexRef) → IsKnownId w r → r.id < w.next_id) → (asked : List AskedIndex) (next : ℕ) → w.next_id < next → (r q : IndexRef) → Has (refs_from w next asked) r → Has (refs_from w next asked) q → w.next_id < r.id → r.id ≡ q.id → r.name ≡ q.name
+  pub one_new : ((r : IndexRef) → IsKnownId w r → r.id < w.next_id) → (asked : List AskedIndex) (next : ℕ) → w.next_id < next → (r q : IndexRef) → Has (refs_from w next asked) r → Has (refs_from w next asked) q → w.next_id < r.id → r.id ≡ q.id → r.name ≡ q.name
   one_new below [] next up r q m n new e = absurd m
   one_new below (a ∷ asked) next up r q m n new e = elim (told (known_id w a.name)) [
     | inr h ↦ by_known h.0 h.1 (subst (λ o. Has (ref_by a o next ∷ refs_from w (next_by o next) asked) r) h.1 m) (subst (λ o. Has (ref_by a o next ∷ refs_from w (next_by o next) asked) q) h.1 n) (λ x y. one_new below asked next up r q x y new e)
@@ -152,7 +151,7 @@ module _ (w : World) where
   pending_places a r first zero = refl
   pending_places a r first (suc n) = ap (λ zs. (r, first) ∷ zs) (pending_places a r (suc first) n)
 
-  all_places : (asked : List AskedIndex) (next : ℕ) → map place_of (all_pending asked (refs_from w next asked)) ≡ places (refs_from w next asked)
+  pub all_places : (asked : List AskedIndex) (next : ℕ) → map place_of (all_pending asked (refs_from w next asked)) ≡ places (refs_from w next asked)
   all_places [] next = refl
   all_places (a ∷ asked) next =
       let r : IndexRef = ref_by a (known_id w a.name) next in
@@ -164,7 +163,7 @@ module _ (w : World) where
   in_pending a r first (suc n) s (inl e) = (ap (λ (x : ShardWork). x.state) (sym e), ap (λ (x : ShardWork). x.ref) (sym e), ap (λ (x : ShardWork). x.place) (sym e))
   in_pending a r first (suc n) s (inr m) = in_pending a r (suc first) n s m
 
-  in_all : (asked : List AskedIndex) (next : ℕ) (s : ShardWork) → Has (all_pending asked (refs_from w next asked)) s → (s.state ≡ Pending) × ((a : AskedIndex) × Has asked a × (s.ref.name ≡ a.name) × (s.place ≡ a.place))
+  pub in_all : (asked : List AskedIndex) (next : ℕ) (s : ShardWork) → Has (all_pending asked (refs_from w next asked)) s → (s.state ≡ Pending) × ((a : AskedIndex) × Has asked a × (s.ref.name ≡ a.name) × (s.place ≡ a.place))
   in_all [] next s m = absurd m
   in_all (a ∷ asked) next s m =
       let r : IndexRef = ref_by a (known_id w a.name) next in
@@ -174,12 +173,68 @@ module _ (w : World) where
       ]
 
 -- a name is asked once
-asked_one : (asked : List AskedIndex) → AreDistinct asked → (a b : AskedIndex) → Has asked a → Has asked b → a.name ≡ b.name → a ≡ b
+pub asked_one : (asked : List AskedIndex) → AreDistinct asked → (a b : AskedIndex) → Has asked a → Has asked b → a.name ≡ b.name → a ≡ b
 asked_one [] d a b m n e = absurd m
 asked_one (x ∷ asked) d a b (inl p) (inl q) e = sym p ∙ q
 asked_one (x ∷ asked) d a b (inl p) (inr n) e = absurd (d.0 b n (ap (λ (z : AskedIndex). z.name) p ∙ e))
 asked_one (x ∷ asked) d a b (inr m) (inl q) e = absurd (d.0 a m (ap (λ (z : AskedIndex). z.name) q ∙ sym e))
 asked_one (x ∷ asked) d a b (inr m) (inr n) e = asked_one asked d.1 a b m n e
+
+-- a shard stands once
+pub pending_one : (w : World) (asked : List AskedIndex) (next : ℕ) → AreDistinct asked → (s z : ShardWork) → Has (all_pending asked (refs_from w next asked)) s → Has (all_pending asked (refs_from w next asked)) z → s.ref ≡ z.ref → s.number ≡ z.number → s ≡ z
+pending_one w asked next d s z sm zm ref number =
+    let (s_state, (x, x_there, x_name, x_place)) = in_all w asked next s sm in
+    let (z_state, (y, y_there, y_name, y_place)) = in_all w asked next z zm in
+    let same : x ≡ y = asked_one asked d x y x_there y_there (sym x_name ∙ ap (λ (r : IndexRef). r.name) ref ∙ y_name) in
+    λ j. record { ref = ref j; number = number j; place = (x_place ∙ ap (λ (b : AskedIndex). b.place) same ∙ sym y_place) j; state = (s_state ∙ sym z_state) j }
+
+-- ---- names that are not known
+
+same_true : (a b : Bytes) → a ≡ b → same_bytes a b ≡ true
+same_true a b e = subst (λ x. same_bytes a x ≡ true) e ((eq_by_cmp_equiv nat_list_cmp_total).refl a)
+
+-- no value is found where neither look-up finds one
+neither : {A : Type 0} (a b : Option A) → or_else a b ≡ None → (a ≡ None) × (b ≡ None)
+neither None b e = (refl, e)
+neither (Some a) b e = absurd (none_some a (sym e))
+
+root_unknown : (xs : List RootIndex) (name : Bytes) → root_index_id xs name ≡ None → (x : RootIndex) → Has xs x → x.name ≡ name → ⊥
+root_unknown [] name e x m same = m
+root_unknown (y ∷ xs) name e x m same = elim (same_one y.name name) [
+  | inl h ↦ none_some y.id (sym e ∙ choose_true _ _ _ h.0)
+  | inr h ↦ elim m [ inl q ↦ true≢false (sym (same_true y.name name (ap (λ (z : RootIndex). z.name) q ∙ same)) ∙ h) | inr rest ↦ root_unknown xs name (sym (choose_false _ _ _ h) ∙ e) x rest same ]
+]
+
+index_unknown : (refs : List IndexRef) (name : Bytes) → index_id refs name ≡ None → (r : IndexRef) → Has refs r → r.name ≡ name → ⊥
+index_unknown [] name e r m same = m
+index_unknown (q ∷ refs) name e r m same = elim (same_one q.name name) [
+  | inl h ↦ none_some q.id (sym e ∙ choose_true _ _ _ h.0)
+  | inr h ↦ elim m [ inl p ↦ true≢false (sym (same_true q.name name (ap (λ (z : IndexRef). z.name) p ∙ same)) ∙ h) | inr rest ↦ index_unknown refs name (sym (choose_false _ _ _ h) ∙ e) r rest same ]
+]
+
+open_unknown : (ops : List (ℕ × Op)) (name : Bytes) → open_index_id ops name ≡ None → (p : ℕ) (q : Op) → Has ops (p, q) → (r : IndexRef) → Has q.indices r → r.name ≡ name → ⊥
+open_unknown [] name e p q m r rm same = m
+open_unknown (x ∷ ops) name e p q m r rm same =
+    let h = neither (index_id x.1.indices name) (open_index_id ops name) e in
+    elim m [
+      | inl is ↦ index_unknown x.1.indices name h.0 r (subst (λ (y : ℕ × Op). Has y.1.indices r) (sym is) rm) same
+      | inr rest ↦ open_unknown ops name h.1 p q rest r rm same
+    ]
+
+pub unknown_root : (w : World) (name : Bytes) → known_id w name ≡ None → (x : RootIndex) → Has w.root.indices x → x.name ≡ name → ⊥
+unknown_root w name e = root_unknown w.root.indices name (neither (root_index_id w.root.indices name) (open_index_id (fin.entries w.ops) name) e).0
+
+pub unknown_open : (w : World) (name : Bytes) → known_id w name ≡ None → (p : ℕ) (q : Op) → fin.get w.ops p ≡ Some q → (r : IndexRef) → Has q.indices r → r.name ≡ name → ⊥
+unknown_open w name e p q there = open_unknown (fin.entries w.ops) name (neither (root_index_id w.root.indices name) (open_index_id (fin.entries w.ops) name) e).1 p q (got_entry w.ops p q there)
+
+-- an index has a known id, or its name is new
+pub ref_known : (w : World) (asked : List AskedIndex) (next : ℕ) (r : IndexRef) → Has (refs_from w next asked) r → IsKnownId w r ⊎ (known_id w r.name ≡ None)
+ref_known w [] next r m = absurd m
+ref_known w (a ∷ asked) next r (inl same) = subst (λ (x : IndexRef). IsKnownId w x ⊎ (known_id w x.name ≡ None)) same (elim (told (known_id w a.name)) [
+  | inl none ↦ inr (ap (known_id w) (ref_name a (known_id w a.name) next) ∙ none)
+  | inr h ↦ inl (subst (λ o. IsKnownId w (ref_by a o next)) (sym h.1) (known_is w a h.0 h.1))
+])
+ref_known w (a ∷ asked) next r (inr m) = ref_known w asked (next_by (known_id w a.name) next) r m
 
 -- what is accepted is a snapshot with ids of its own
 pub accepted : (f : Formats) (w : World) (shelf : List Shelved) → Law f w shelf → (name : Bytes) (indices : List AskedIndex) (moment o : ℕ) → Accepts f w name indices moment o
@@ -193,11 +248,7 @@ accepted f w shelf l name indices moment o a =
       places = all_places w indices (suc w.next_id);
       one_name = one_name w indices (suc w.next_id) a.distinct;
       one_new = one_new w known_below indices (suc w.next_id) (omega arith);
-      distinct = λ s z sm zm ref number.
-          let (s_state, (x, x_there, x_name, x_place)) = in_all w indices (suc w.next_id) s sm in
-          let (z_state, (y, y_there, y_name, y_place)) = in_all w indices (suc w.next_id) z zm in
-          let same : x ≡ y = asked_one indices a.distinct x y x_there y_there (sym x_name ∙ ap (λ (r : IndexRef). r.name) ref ∙ y_name) in
-          λ j. record { ref = ref j; number = number j; place = (x_place ∙ ap (λ (b : AskedIndex). b.place) same ∙ sym y_place) j; state = (s_state ∙ sym z_state) j };
+      distinct = pending_one w indices (suc w.next_id) a.distinct;
       source = λ u e. absurd (none_some u e);
       uuid_is = refl;
       drawn = suc (new_names w indices);

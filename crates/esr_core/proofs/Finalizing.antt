@@ -1,16 +1,21 @@
 -- What is to be known of the root with a snapshot more.
-use Rattle.std.proofs.Common.{◌≡◌, ◌⊎◌, ℕ, zero, suc, pred, ◌+◌, ◌<◌, List, [], ◌∷◌, ◌++◌, Bool, true, false, true≢false, ◌==◌, Option, Some, None, map, refl, sym, ap, ◌∙◌, subst, inl, inr, arith}
+use Rattle.std.proofs.Common.{◌≡◌, ◌⊎◌, ℕ, zero, suc, pred, ◌+◌, ◌<◌, List, [], ◌∷◌, ◌++◌, Bool, true, false, true≢false, ◌==◌, Option, Some, None, map, refl, sym, ap, ◌∙◌, subst, inl, inr, arith, nat_cmp}
 use Rattle.std.proofs.lemmas.Bool.Decides.{eqb_tells}
-use Rattle.esr_model.specs.Places.{places, sorted_by, put_by}
+use Rattle.std.specs.declared.cmp.Ordering.{Ordering}
+use Rattle.std.specs.declared.cmp.Ordering.TheVariants.{Less, Equal, Greater}
+use Rattle.std.specs.Ordering.{eq_by_cmp, is_eq}
+use Rattle.std.specs.Cmp.{eq_by_cmp_equiv}
+use Rattle.std.specs.Cmp.Lexicographic.{slice_cmp, nat_list_cmp_total}
+use Rattle.esr_model.specs.Places.{places, by_order, sorted_by, put_by}
 use Rattle.esr_model.specs.Names.{BlobName}
 use Rattle.esr_model.specs.Values.{Bytes, IndexRef, RootIndex, RootData, SnapInfo, ShardResult, IsOneEach, Formats}
 use Rattle.esr_model.specs.Image.{Has, index_at, at_shard, at_shard_of}
 use Rattle.esr_model.specs.Finalize.{Finalizes, finalized_root, finalized_indices, named_first, larger, done_at, merged, ref_of, with_ref, has_id, new_indices}
-use Rattle.esr_core.specs.World.{Op, ShardWork, AllDone, info_of}
+use Rattle.esr_core.specs.World.{Op, ShardWork, Done, AllDone, info_of}
 use Rattle.esr_core.specs.Generations.{OpLaw}
 use Rattle.std.specs.Prelude.{if◌then◌else◌}
 use Rattle.esr_core.proofs.Reading.{some_same, none_some, Has-map, Has-mapped, Has-append, Has-left, Has-right, Has-either}
-use Rattle.esr_core.proofs.Ordered.{in_places, Has-sorted, sorted-Has, Has-put_by}
+use Rattle.esr_core.proofs.Ordered.{in_places, Has-sorted, sorted-Has}
 use Rattle.esr_model.specs.Image.{RootIs}
 use Rattle.esr_core.proofs.Results.{choose_true, choose_false, found_done}
 
@@ -142,18 +147,31 @@ has_there (y ∷ ys) x id m e = elim (eqb_tells y.id id) [
   | inr h ↦ elim m [ inl same ↦ absurd (h.1 (ap (λ (z : RootIndex). z.id) same ∙ e)) | inr rest ↦ choose_false _ _ _ h.0 ∙ has_there ys x id rest e ]
 ]
 
--- in an ordered list that has each index once a look-up finds what it finds in the list
-index_put : (x : RootIndex) (xs : List RootIndex) (id : ℕ) → ((y : RootIndex) → Has xs y → y.id ≡ x.id → y ≡ x) → index_at (put_by named_first x xs) id ≡ index_at (x ∷ xs) id
+-- of two indices of one name each comes first
+first_of_one : (x y : RootIndex) → x.name ≡ y.name → named_first x y ≡ true
+first_of_one x y e = tied (slice_cmp nat_cmp x.name y.name) (subst (λ n. eq_by_cmp (slice_cmp nat_cmp) x.name n ≡ true) e ((eq_by_cmp_equiv nat_list_cmp_total).refl x.name))
+  where
+    tied : (r : Ordering) → is_eq r ≡ true → by_order r true ≡ true
+    tied Less h = refl
+    tied Equal h = refl
+    tied Greater h = absurd (true≢false (sym h))
+
+-- one name to each id
+abbrev pub IsOneName : List RootIndex → Type 0
+IsOneName indices = (x y : RootIndex) → Has indices x → Has indices y → x.id ≡ y.id → x.name ≡ y.name
+
+-- in an ordered list that has one name to each id a look-up finds what it finds in the list
+index_put : (x : RootIndex) (xs : List RootIndex) (id : ℕ) → ((y : RootIndex) → Has xs y → y.id ≡ x.id → y.name ≡ x.name) → index_at (put_by named_first x xs) id ≡ index_at (x ∷ xs) id
 index_put x [] id one = refl
 index_put x (y ∷ ys) id one = elim (bool_told (named_first x y)) [
   | inl t ↦ ap (λ zs. index_at zs id) (choose_true _ _ _ t)
-  | inr t ↦ ap (λ zs. index_at zs id) (choose_false _ _ _ t) ∙ later (index_put x ys id (λ z m. one z (inr m)))
+  | inr t ↦ ap (λ zs. index_at zs id) (choose_false _ _ _ t) ∙ later t (index_put x ys id (λ z m. one z (inr m)))
 ]
   where
-    later : index_at (put_by named_first x ys) id ≡ index_at (x ∷ ys) id → index_at (y ∷ put_by named_first x ys) id ≡ index_at (x ∷ y ∷ ys) id
-    later rest = elim (eqb_tells y.id id) [
+    later : named_first x y ≡ false → index_at (put_by named_first x ys) id ≡ index_at (x ∷ ys) id → index_at (y ∷ put_by named_first x ys) id ≡ index_at (x ∷ y ∷ ys) id
+    later t rest = elim (eqb_tells y.id id) [
       | inl h ↦ elim (eqb_tells x.id id) [
-        | inl i ↦ choose_true _ _ _ h.0 ∙ ap Some (one y (inl refl) (h.1 ∙ sym i.1)) ∙ sym (choose_true _ _ _ i.0)
+        | inl i ↦ absurd (true≢false (sym (first_of_one x y (sym (one y (inl refl) (h.1 ∙ sym i.1)))) ∙ t))
         | inr i ↦ choose_true _ _ _ h.0 ∙ sym (choose_true _ _ _ h.0) ∙ sym (choose_false _ _ _ i.0)
       ]
       | inr h ↦ elim (eqb_tells x.id id) [
@@ -162,7 +180,7 @@ index_put x (y ∷ ys) id one = elim (bool_told (named_first x y)) [
       ]
     ]
 
-index_sorted : (xs : List RootIndex) → IsOneEach xs → (id : ℕ) → index_at (sorted_by named_first xs) id ≡ index_at xs id
+index_sorted : (xs : List RootIndex) → IsOneName xs → (id : ℕ) → index_at (sorted_by named_first xs) id ≡ index_at xs id
 index_sorted [] one id = refl
 index_sorted (x ∷ xs) one id =
     index_put x (sorted_by named_first xs) id (λ y m e. one y x (inr (Has-sorted named_first xs y m)) (inl refl) e) ∙ ap (λ o. if x.id == id then Some x else o) (index_sorted xs (λ a b am bm. one a b (inr am) (inr bm)) id)
@@ -217,11 +235,18 @@ new_generations info results old (r ∷ refs) id shard none some below = elim (e
       ]
 ]
 
-module _ (f : Formats) (has : BlobName → Bytes → Type 0) (root : RootData) (op : Op) (results : List ShardResult) (law : OpLaw f has root op) (one : IsOneEach root.indices) (done : AllDone op.shards results) where
+-- what a root and an op have to do with one another
+pub record Suits (root : RootData) (op : Op) : Type 0 where
+  pub places : map (λ (s : ShardWork). (s.ref, s.number)) op.shards ≡ places op.indices
+  pub results : (s : ShardWork) (r : ShardResult) → Has op.shards s → s.state ≡ Done r → (r.index ≡ s.ref.id) × (r.shard ≡ s.number)
+  pub one_id : (r q : IndexRef) → Has op.indices r → Has op.indices q → r.id ≡ q.id → r ≡ q
+  pub same_name : (r : IndexRef) (x : RootIndex) → Has op.indices r → Has root.indices x → r.id ≡ x.id → r.name ≡ x.name
+
+module _ (root : RootData) (op : Op) (results : List ShardResult) (law : Suits root op) (one : IsOneName root.indices) (done : AllDone op.shards results) where
   -- a result is of an index of the op, and of a shard that it has
   result_of : (id shard g : ℕ) → done_at results id shard ≡ Some g → (r : IndexRef) × Has op.indices r × (r.id ≡ id) × (shard < r.shards)
   result_of id shard g e =
-      let (s, m, (r, state, i, n, gen)) = found_done op.shards results done (λ s r m state. let d = law.done s r m state in (d.index_is, d.shard_is)) id shard g e in
+      let (s, m, (r, state, i, n, gen)) = found_done op.shards results done law.results id shard g e in
       let place : Has (places op.indices) (s.ref, s.number) = subst (λ xs. Has xs (s.ref, s.number)) law.places (Has-map (λ (z : ShardWork). (z.ref, z.number)) op.shards s m) in
       let (ref_is, below) = in_places op.indices (s.ref, s.number) place in
       (s.ref, ref_is, i, subst (λ k. k < s.ref.shards) n below)
@@ -254,8 +279,8 @@ module _ (f : Formats) (has : BlobName → Bytes → Type 0) (root : RootData) (
           (λ g is. let (q, m, j, b) = result_of id shard g (ap (λ k. done_at results k shard) (sym i) ∙ is) in subst (λ (z : IndexRef). shard < z.shards) (law.one_id q r m found.0 (j ∙ sym i ∙ sym found.1)) b)
           ∙ ap (λ k. larger (at_shard x.generations shard) (done_at results k shard)) i
 
-  -- each index is there once
-  all_one : IsOneEach (finalized_indices root (info_of op results) results)
+  -- each id has one name
+  all_one : IsOneName (finalized_indices root (info_of op results) results)
   all_one x y xm ym e =
       let g : RootIndex → RootIndex = λ x. with_ref (info_of op results) results x (ref_of op.indices x.id) in
       elim (Has-either (map g root.indices) (new_indices (info_of op results) results root.indices op.indices) x xm) [
@@ -263,8 +288,8 @@ module _ (f : Formats) (has : BlobName → Bytes → Type 0) (root : RootData) (
           | inl yo ↦
               let (a, am, ae) = Has-mapped g root.indices x xo in
               let (b, bm, be) = Has-mapped g root.indices y yo in
-              let same : a ≡ b = one a b am bm (sym (id_kept (info_of op results) results a (ref_of op.indices a.id)) ∙ ap (λ (z : RootIndex). z.id) ae ∙ e ∙ sym (ap (λ (z : RootIndex). z.id) be) ∙ id_kept (info_of op results) results b (ref_of op.indices b.id)) in
-              sym ae ∙ ap g same ∙ be
+              let same : a.name ≡ b.name = one a b am bm (sym (id_kept (info_of op results) results a (ref_of op.indices a.id)) ∙ ap (λ (z : RootIndex). z.id) ae ∙ e ∙ sym (ap (λ (z : RootIndex). z.id) be) ∙ id_kept (info_of op results) results b (ref_of op.indices b.id)) in
+              ap (λ (z : RootIndex). z.name) (sym ae) ∙ name_kept (info_of op results) results a (ref_of op.indices a.id) ∙ same ∙ sym (name_kept (info_of op results) results b (ref_of op.indices b.id)) ∙ ap (λ (z : RootIndex). z.name) be
           | inr yn ↦
               let (a, am, ae) = Has-mapped g root.indices x xo in
               let (r, rm, absent, re) = new_absent (info_of op results) results root.indices op.indices y yn in
@@ -279,7 +304,7 @@ module _ (f : Formats) (has : BlobName → Bytes → Type 0) (root : RootData) (
               let (r, rm, r_absent, re) = new_absent (info_of op results) results root.indices op.indices x xn in
               let (q, qm, q_absent, qe) = new_absent (info_of op results) results root.indices op.indices y yn in
               let same : r ≡ q = law.one_id r q rm qm (ap (λ (z : RootIndex). z.id) re ∙ e ∙ sym (ap (λ (z : RootIndex). z.id) qe)) in
-              sym re ∙ ap (fresh (info_of op results) results) same ∙ qe
+              ap (λ (z : RootIndex). z.name) (sym re) ∙ ap (λ (z : IndexRef). z.name) same ∙ ap (λ (z : RootIndex). z.name) qe
         ]
       ]
 
@@ -287,9 +312,9 @@ module _ (f : Formats) (has : BlobName → Bytes → Type 0) (root : RootData) (
   only a u (inl e) = sym e
   only a u (inr h) = absurd h
 
-  pub finalizes : Finalizes root (info_of op results) results (finalized_root root (info_of op results) results)
+  pub finalized_is : Finalizes root (info_of op results) results (finalized_root root (info_of op results) results)
   unfolding finalized_root
-  finalizes =
+  finalized_is =
       let info : SnapInfo = info_of op results in
       let g : RootIndex → RootIndex = λ x. with_ref info results x (ref_of op.indices x.id) in
       let news : List RootIndex = new_indices info results root.indices op.indices in
@@ -332,3 +357,8 @@ module _ (f : Formats) (has : BlobName → Bytes → Type 0) (root : RootData) (
         ];
         generations = λ id shard. ap (λ o. at_shard_of o shard) (index_sorted all all_one id) ∙ generations id shard;
       }
+
+pub finalizes : (f : Formats) (has : BlobName → Bytes → Type 0) (root : RootData) (op : Op) (results : List ShardResult) → OpLaw f has root op → IsOneEach root.indices → AllDone op.shards results
+    → Finalizes root (info_of op results) results (finalized_root root (info_of op results) results)
+finalizes f has root op results law one done =
+    finalized_is root op results (record { places = law.places; results = λ s r m state. let d = law.done s r m state in (d.index_is, d.shard_is); one_id = law.one_id; same_name = law.same_name }) (λ x y xm ym e. ap (λ (z : RootIndex). z.name) (one x y xm ym e)) done

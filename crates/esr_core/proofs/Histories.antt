@@ -1,17 +1,15 @@
 -- Over a legal history the law holds, for the shelf with the commands that count.
-use Rattle.std.proofs.Common.{◌≡◌, ◌≢◌, ◌⊎◌, ℕ, suc, ◌+◌, ◌<◌, ◌≤◌, List, [], ◌∷◌, ◌++◌, Bool, true, false, true≢false, Option, Some, None, map, refl, sym, ap, ◌∙◌, subst, inl, inr, arith, nat_cmp}
-use Rattle.std.specs.Prelude.{if◌then◌else◌}
-use Rattle.std.specs.FinMap as fin
+use Rattle.std.proofs.Common.{◌≡◌, ℕ, suc, ◌≤◌, List, [], ◌∷◌, ◌++◌, true, true≢false, Option, Some, None, refl, sym, ap, ◌∙◌, subst, inl, inr, arith}
 use Rattle.esr_model.specs.Values.{ReadsBack, ShardResult, Formats}
-use Rattle.esr_model.specs.Shelf.{Shelved, Command, apply, shelf_after}
-use Rattle.esr_model.specs.Image.{Image, Blobs}
+use Rattle.esr_model.specs.Shelf.{Shelved, Command, shelf_after}
+use Rattle.esr_model.specs.Image.{Image}
 use Rattle.esr_model.specs.Kept.{Kept}
-use Rattle.esr_core.specs.World.{World, Ticket, Swap, Done, marked, record_of, image_of, Opened}
-use Rattle.esr_core.specs.Steps.{completing, MaySettle}
+use Rattle.esr_core.specs.World.{World, Ticket, Swap, record_of, image_of}
+use Rattle.esr_core.specs.Steps.{MaySettle}
 use Rattle.esr_core.specs.Ids.{Law}
-use Rattle.esr_core.specs.Entry.{DoneStep, Reply, HasEnded, Refused, DeposedAt, StaleTerm, Moment}
+use Rattle.esr_core.specs.Entry.{DoneStep, HasEnded, Refused, StaleTerm, Moment}
 use Rattle.esr_core.specs.After.{answered, done_of, done_by, blobs_in, after}
-use Rattle.esr_core.specs.Allowed.{Allows, Allowed, IsDeposed, SameBlobs, Dones as DonesBy}
+use Rattle.esr_core.specs.Allowed.{Allowed, IsDeposed, SameBlobs, Dones as DonesBy}
 use Rattle.esr_core.specs.History.{world_from, IsLegal, AllKnown, AreTold, AreHonest, IsHonest, commands_at, committed, Lasts}
 use Rattle.esr_core.specs.Turns.{Turn, Stays, Commits, CommitFails, Finds, Raises, Latests, Fetches, SettlesFinal, SettlesDelete, Elects, TakesShard, TakesFinal, TakesDrop, TakesDelete, TakesCleanup, AsksCleanup, CleanDrops, DrawsShard, DrawsPlan, Dones, Ending, Fails, FailsDelete, Drops, AsksCreate, AsksDelete, Merges, Removing, Deposes, commands_of}
 use Rattle.esr_core.proofs.Reading.{some_same, none_some}
@@ -20,7 +18,7 @@ use Rattle.esr_core.proofs.Moments.{Turned, plain, turn_by}
 use Rattle.esr_core.proofs.Accepting.{accepted}
 use Rattle.esr_core.proofs.Storing.{done_found}
 use Rattle.esr_core.proofs.Laws.{kept_of}
-use Rattle.esr_core.proofs.Lists.{opening_law, shelf_after-append}
+use Rattle.esr_core.proofs.Lists.{shelf_after-append}
 
 -- `safe` never falls
 settled_above : (f : Formats) (w : World) (shelf : List Shelved) → Law f w shelf → (k n : ℕ) (t : Ticket) (s : Swap) → MaySettle f w k n t s → t.term ≡ w.term → w.safe ≤ n

@@ -52,3 +52,9 @@ pub mod Accepting
 pub mod Moments
 pub mod Histories
 pub mod Example
+pub mod Naming
+pub mod Tracking
+pub mod TrackingOps
+pub mod TrackingGiven
+pub mod TrackingEnds
+pub mod TrackingSteps

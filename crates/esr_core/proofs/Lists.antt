@@ -1,19 +1,17 @@
 -- Over each list of turns, and from what opening makes.
-use Rattle.std.proofs.Common.{◌≡◌, ℕ, suc, ◌<◌, true, false, true≢false, List, [], ◌∷◌, ◌++◌, Some, None, refl, sym, ap, ◌∙◌, subst, nat_cmp, inl, inr, arith, ◌+◌}
-use Rattle.std.specs.Cmp.{nat_cmp_total}
-use Rattle.std.specs.FinMap.{FinMap}
+use Rattle.std.proofs.Common.{◌≡◌, ℕ, suc, ◌<◌, false, true≢false, List, [], ◌∷◌, ◌++◌, Some, refl, sym, ap, ◌∙◌, subst, inl, inr, arith, ◌+◌}
 use Rattle.std.specs.FinMap as fin
-use Rattle.esr_model.specs.Values.{Bytes, Has, RootData, RecordWork, Creating, Cloning, DeletingOf, Cleaning, ClusterRecord, Formats}
+use Rattle.esr_model.specs.Values.{Has, RootData, RecordWork, Creating, Cloning, DeletingOf, Cleaning, ClusterRecord, Formats}
 use Rattle.esr_model.specs.Image.{Image, RootIs}
 use Rattle.esr_model.specs.Kept.{first_id, IdsBelow, RootIds, WorkIds}
 use Rattle.esr_model.specs.Shelf.{Shelved, Command, apply, shelf_after}
 use Rattle.esr_model.specs.Image.{Blobs, At, Present, KeptAt}
 use Rattle.esr_model.specs.Kept.{Kept}
 use Rattle.esr_model.specs.Names.{BlobName}
-use Rattle.esr_core.specs.World.{World, Deletion, kept_deletes, numbered_deletes, no_record, no_root, opened, Opened, OpenedEmpty, OpenedRecord, image_of}
+use Rattle.esr_core.specs.World.{World, Deletion, kept_deletes, numbered_deletes, no_record, no_root, opened, Opened, OpenedEmpty, OpenedRecord}
 use Rattle.esr_model.specs.Image.{RootIs}
-use Rattle.esr_core.specs.Queue.{Queue, QueueIn, Lawful}
-use Rattle.esr_core.specs.Turns.{Turn, Turns, NoTurn, OneMore, commands_of}
+use Rattle.esr_core.specs.Queue.{Lawful}
+use Rattle.esr_core.specs.Turns.{Turns, NoTurn, OneMore, commands_of}
 use Rattle.esr_core.proofs.Opening.{opening_sound, nothing}
 use Rattle.esr_core.proofs.Reading.{none_some, some_same}
 use Rattle.esr_core.proofs.Queues.{was_in}
@@ -21,7 +19,6 @@ use Rattle.std.specs.Prelude.{length}
 use Rattle.esr_core.proofs.Turning.{turn_law}
 use Rattle.esr_core.specs.Ids.{Law}
 use Rattle.esr_model.specs.Kept.{IdsBelow, RootIds}
-use Rattle.esr_core.proofs.Laws.{kept_of}
 
 pub shelf_after-append : (shelf : List Shelved) (xs ys : List Command) → shelf_after shelf (xs ++ ys) ≡ shelf_after (shelf_after shelf xs) ys
 shelf_after-append shelf [] ys = refl
@@ -33,7 +30,7 @@ turns_lawful f w last shelf cs l (OneMore mid new ds before d turn) =
     subst (Law f new) (sym (shelf_after-append shelf ds (commands_of f mid new turn))) (turn_law f mid new (shelf_after shelf ds) (turns_lawful f w mid shelf ds l before) d turn)
 
 -- the deletes that opening numbers
-numbered_from : (n : ℕ) (list : List (List ℕ)) (d : ℕ) (x : Deletion) → fin.get (numbered_deletes n list) d ≡ Some x → (d < n + length list) × (x.clean ≡ false) × ((u : ℕ) → Has x.uuids u → (us : List ℕ) × Has list us × Has us u)
+pub numbered_from : (n : ℕ) (list : List (List ℕ)) (d : ℕ) (x : Deletion) → fin.get (numbered_deletes n list) d ≡ Some x → (d < n + length list) × (x.clean ≡ false) × ((u : ℕ) → Has x.uuids u → (us : List ℕ) × Has list us × Has us u)
 numbered_from n [] d x e = absurd (nothing d x e)
 numbered_from n (us ∷ rest) d x e = elim (was_in (numbered_deletes (suc n) rest) n (record { uuids = us; clean = false; failed = false }) d x e) [
   | inl z ↦ let same : d ≡ n = z.0 in (omega (arith, same), ap (λ (y : Deletion). y.clean) (sym z.1), λ u m. (us, inl refl, subst (λ (y : Deletion). Has y.uuids u) (sym z.1) m))

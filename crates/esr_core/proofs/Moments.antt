@@ -1,24 +1,24 @@
 -- Each moment of a legal history is a turn of the law.
-use Rattle.std.proofs.Common.{◌≡◌, ◌≢◌, ◌⊎◌, ℕ, suc, ◌+◌, ◌^◌, ◌<◌, ◌≤◌, List, [], ◌∷◌, Bool, true, false, true≢false, Option, Some, None, refl, sym, ap, ◌∙◌, subst, inl, inr, arith, nat_cmp}
+use Rattle.std.proofs.Common.{◌≡◌, ◌≢◌, ◌⊎◌, ℕ, suc, ◌+◌, ◌<◌, ◌≤◌, List, [], Bool, true, false, Option, Some, None, refl, sym, ap, ◌∙◌, subst, inl, inr, arith}
 use Rattle.std.specs.Prelude.{if◌then◌else◌, ◌&&◌, ◌==◌, nat_lt}
 use Rattle.std.proofs.lemmas.Bool.Decides.{eqb_tells}
 use Rattle.std.proofs.lemmas.Bool.{lt-ltb, le-ltb}
 use Rattle.std.specs.Cmp.Lexicographic.{nat_list_cmp_total}
 use Rattle.std.specs.FinMap as fin
 use Rattle.esr_model.specs.Names.{BlobName, Root, Latest, Snap, Meta, IndexMeta, ShardSnap, ShardIndex, File, Part, TestMaster, TestNode}
-use Rattle.esr_model.specs.Values.{Bytes, Has, SnapInfo, ShardResult, Formats}
-use Rattle.esr_model.specs.Shelf.{Shelved, Command}
+use Rattle.esr_model.specs.Values.{Bytes, ShardResult, Formats}
+use Rattle.esr_model.specs.Shelf.{Shelved}
 use Rattle.esr_model.specs.Kept.{first_id}
 use Rattle.esr_model.specs.Image.{Blobs, Image, At, Present}
-use Rattle.esr_core.specs.World.{World, Op, ShardWork, Work, Shard, Finalize, Deleting, Drop, Ticket, Swap, swap, record_of}
+use Rattle.esr_core.specs.World.{World, Op, Work, Shard, Finalize, Deleting, Drop, Ticket}
 use Rattle.esr_core.specs.Ready.{IsShard, IsMaster}
-use Rattle.esr_core.specs.Steps.{IsOut, PutsLatest, TryLatest, Ends, Elect, Raise, MaySettle, with_ticket, writing, noting, reading, settled, shard_ticket}
+use Rattle.esr_core.specs.Steps.{IsOut, PutsLatest, Raise, with_ticket, noting, settled}
 use Rattle.esr_core.specs.Ids.{Law}
 use Rattle.esr_core.specs.Entry.{Asked, Snapshot, Given, GivenShard, GivenFinalize, GivenDrop, Why, Step, AskStep, TakeStep, DrawStep, BeginStep, CommitStep, LatestStep, FetchStep, ListStep, RaiseStep, SettleStep, DoneStep, FailedStep, FinishStep, DroppedStep, ElectStep, LookStep, Refusal, DepotFault, Reply, WasSettled, HasEnded, Refused, Entry, Moment}
-use Rattle.esr_core.specs.After.{asked, asked_op, taken_by, taken_shard, with_given, change, committing, fetching, told_blob, settled_of, settled_by, failed_of, failed_by, is_stale, dropped_of, done_step, has_text, fallen, is_latest, tried, blobs_in, after}
+use Rattle.esr_core.specs.After.{asked, asked_op, taken_by, taken_shard, with_given, change, committing, fetching, told_blob, settled_of, settled_by, failed_of, failed_by, is_stale, dropped_of, is_latest, tried, blobs_in, after}
 use Rattle.esr_core.specs.Allowed as allowed
 use Rattle.esr_core.specs.Allowed.{latest_text, Told, SameBlobs, Adds, Accepts, Gives, GivesShard, GivesFinalize, Draws, Commits, Refinds, Puts, Raises, Settles, Fails, Finishes, Drops, Dones, Allows}
-use Rattle.esr_core.specs.History.{counts, is_settle, command_of, command_by, commands_at, IsHonest}
+use Rattle.esr_core.specs.History.{counts, is_settle, command_of, command_by, commands_at}
 use Rattle.esr_core.specs.Turns.{AskCreate, AsksCreate, plain_ticket, SettleFinal, Failed, Dropped, Turn, Stays, Latests, Fetches, Raises as RaisesTurn, Finds, SettlesFinal, Elects, TakesShard, TakesFinal, TakesDrop, DrawsShard, Ending, Fails as FailsTurn, Drops as DropsTurn, Deposes, commands_of}
 use Rattle.esr_core.specs.Turns as turns
 use Rattle.esr_core.specs.Entry as entry
@@ -156,7 +156,7 @@ module _ (f : Formats) (w : World) where
   settled_is : (k : ℕ) (s : Settles f w k) (blobs : Blobs) → record (settled_of f w k (fin.get w.tickets k)) { blobs = blobs } ≡ record (settled w k s.t s.n s.s.root) { deletes = fin.remove w.deletes s.t.op; blobs = blobs }
   settled_is k s blobs = (λ j. record (settled_of f w k (s.may.out.there j)) { blobs = blobs }) ∙ (λ j. record (settled_by f w k s.t (s.may.is j) (s.may.raised j)) { blobs = blobs })
 
-  settled_plain : (k : ℕ) (s : Settles f w k) → settled_of f w k (fin.get w.tickets k) ≡ record (settled w k s.t s.n s.s.root) { deletes = fin.remove w.deletes s.t.op }
+  pub settled_plain : (k : ℕ) (s : Settles f w k) → settled_of f w k (fin.get w.tickets k) ≡ record (settled w k s.t s.n s.s.root) { deletes = fin.remove w.deletes s.t.op }
   settled_plain k s = (λ j. settled_of f w k (s.may.out.there j)) ∙ (λ j. settled_by f w k s.t (s.may.is j) (s.may.raised j))
 
   abbrev settle_final : (k : ℕ) (s : Settles f w k) (new : World) → new ≡ record (settled w k s.t s.n s.s.root) { deletes = fin.remove w.deletes s.t.op } → Turn f w new
@@ -205,19 +205,19 @@ module _ (f : Formats) (w : World) where
 
   -- ---- failed
 
-  shard_stale : (t : Ticket) (work : Work) → IsShard work → is_stale w t work ≡ false
+  pub shard_stale : (t : Ticket) (work : Work) → IsShard work → is_stale w t work ≡ false
   shard_stale t (Shard i n) h = refl
   shard_stale t (Finalize info rs made) h = absurd h
   shard_stale t (Deleting uuids plan) h = absurd h
   shard_stale t Drop h = absurd h
 
-  master_stale : (t : Ticket) (work : Work) → IsMaster work → is_stale w t work ≡ (if t.term == w.term then false else true)
+  pub master_stale : (t : Ticket) (work : Work) → IsMaster work → is_stale w t work ≡ (if t.term == w.term then false else true)
   master_stale t (Shard i n) h = absurd h
   master_stale t (Finalize info rs made) h = refl
   master_stale t (Deleting uuids plan) h = refl
   master_stale t Drop h = absurd h
 
-  no_shard : (work : Work) → IsMaster work → IsShard work → ⊥
+  pub no_shard : (work : Work) → IsMaster work → IsShard work → ⊥
   no_shard (Shard i n) m h = m
   no_shard (Finalize info rs made) m h = h
   no_shard (Deleting uuids plan) m h = h
@@ -276,7 +276,7 @@ blobs_told : (w : World) (i : Image) (image : Option Image) → image ≡ Some i
 blobs_told w i None e = absurd (cc)
 blobs_told w i (Some x) e = ap (λ (y : Image). y.blobs) (some_same _ _ e)
 
-not_latest : (name : BlobName) → name ≢ Latest → is_latest name ≡ false
+pub not_latest : (name : BlobName) → name ≢ Latest → is_latest name ≡ false
 not_latest (Root n) h = refl
 not_latest Latest h = absurd (h refl)
 not_latest (Snap u) h = refl
@@ -300,7 +300,7 @@ begin_fails f w k name image no_latest same =
 fault_stays : (f : Formats) (w : World) (who : ℕ) (step : Step) (image : Option Image) → SameBlobs w image → is_settle step ≡ false → Turned f w who step (Refused DepotFault) (record w { blobs = blobs_in image w.blobs })
 fault_stays f w who step image same no_settle = plain f w who step (Refused DepotFault) _ (Stays _ (λ j. record w { blobs = blobs_same w image same j })) no_settle refl
 
-abbrev moment : ℕ → Step → Reply → Option Image → Moment
+abbrev pub moment : ℕ → Step → Reply → Option Image → Moment
 moment who step reply image = record { entry = record { who = who; step = step; reply = reply }; image = image }
 
 -- a told condition, of the image that is told

@@ -1,5 +1,5 @@
 -- What the cluster record lists is open, and its ids lie below the next one.
-use Rattle.std.proofs.Common.{◌≡◌, ◌≢◌, ◌⊎◌, ℕ, suc, ◌<◌, Bool, true, false, true≢false, cond, List, [], ◌∷◌, ◌++◌, Option, Some, None, map, refl, sym, ap, ◌∙◌, subst, inl, inr, nat_cmp}
+use Rattle.std.proofs.Common.{◌≡◌, ◌⊎◌, ℕ, ◌<◌, Bool, true, false, true≢false, cond, List, [], ◌∷◌, ◌++◌, Option, Some, None, map, refl, sym, ap, ◌∙◌, subst, inl, inr, nat_cmp}
 use Rattle.std.specs.Prelude.{T, ◌&&◌, if◌then◌else◌}
 use Rattle.std.specs.declared.cmp.Ordering.{Ordering}
 use Rattle.std.specs.declared.cmp.Ordering.TheVariants.{Less, Equal, Greater}
@@ -8,7 +8,7 @@ use Rattle.std.specs.Cmp.{nat_cmp_total, eq_by_cmp_equiv}
 use Rattle.std.specs.FinMap.Entries.{find, is_sorted, below_all}
 use Rattle.std.specs.FinMap.{FinMap, nat_cmp-IsAntisymmetric}
 use Rattle.std.specs.FinMap as fin
-use Rattle.esr_model.specs.Values.{Bytes, Has, IndexRef, RecordWork, Creating, Cloning, DeletingOf, Cleaning, Formats}
+use Rattle.esr_model.specs.Values.{Has, RecordWork, DeletingOf, Cleaning, Formats}
 use Rattle.esr_model.specs.Shelf.{Shelved}
 use Rattle.esr_model.specs.Kept.{WorkIds}
 use Rattle.esr_core.specs.World.{World, Op, Deletion, work_by, work_of, deletion_work, record_ops}
@@ -60,6 +60,9 @@ module _ {X : Type 0} where
         inl (λ i. (sym same i, value i))
     | inr other ↦ inr (found_member k v es (sym (ap (λ b. cond b (Some x.1) (find nat_cmp k es)) other.1) ∙ e))
   ]
+
+  pub got_entry : (m : FinMap nat_cmp X) (k : ℕ) (v : X) → fin.get m k ≡ Some v → Has (fin.entries m) (k, v)
+  got_entry m k v e = found_member k v (fin.entries m) (sym (fin.get-entries m k) ∙ e)
 
 -- an op of the record is an open one
 pub recorded_is : (ops : FinMap nat_cmp Op) (deletes : FinMap nat_cmp Deletion) (number : ℕ) (work : RecordWork) → Has (record_ops ops deletes) (number, work)

@@ -1,22 +1,21 @@
 -- What a shard's ticket wrote is the shard: its parts are the files, its index has the base's snapshots and its own.
-use Rattle.std.proofs.Common.{◌≡◌, ◌≢◌, ◌⊎◌, ℕ, zero, suc, ◌+◌, ◌-◌, ◌*◌, ◌/◌, ◌<◌, ◌≤◌, List, [], ◌∷◌, ◌++◌, length, Bool, true, false, true≢false, Option, Some, None, map, take, drop, refl, sym, ap, ◌∙◌, subst, inl, inr, arith, nat_cmp}
-use Rattle.std.specs.Prelude.{if◌then◌else◌, ◌&&◌, ◌==◌, leb}
+use Rattle.std.proofs.Common.{◌≡◌, ◌⊎◌, ℕ, zero, suc, ◌+◌, ◌-◌, ◌*◌, ◌/◌, ◌<◌, ◌≤◌, List, [], ◌∷◌, ◌++◌, length, Bool, true, false, true≢false, Option, Some, None, map, take, drop, refl, sym, ap, ◌∙◌, subst, inl, inr, arith}
+use Rattle.std.specs.Prelude.{if◌then◌else◌, ◌&&◌, leb}
 use Rattle.std.proofs.lemmas.Bool.Decides.{eqb_tells}
-use Rattle.std.proofs.lemmas.Bool.{eqb-true, leb-true, le-leb}
+use Rattle.std.proofs.lemmas.Bool.{eqb-true, le-leb}
 use Rattle.std.proofs.lemmas.List.{take-append-drop, length-take-le, length-drop}
 use Rattle.std.proofs.Math.Nat.{div-mul-le_self, le-div_iff_mul-le}
-use Rattle.std.specs.Cmp.{eq_by_cmp_equiv}
 use Rattle.std.specs.Cmp.Lexicographic.{nat_list_cmp_total}
 use Rattle.std.specs.FinMap as fin
-use Rattle.esr_model.specs.Names.{BlobName, ShardSnap, ShardIndex, File, Part}
-use Rattle.esr_model.specs.Values.{Bytes, Has, FileEntry, SnapList, ShardFiles, ShardSnapshot, ShardResult, Formats}
+use Rattle.esr_model.specs.Names.{BlobName, ShardIndex}
+use Rattle.esr_model.specs.Values.{Bytes, Has, FileEntry, SnapList, ShardFiles, ShardResult, Formats}
 use Rattle.esr_model.specs.Shelf.{Shelved}
 use Rattle.esr_model.specs.Parts.{part_count, parts_from, part_names, AreFull}
 use Rattle.esr_model.specs.Places.{put_by}
-use Rattle.esr_model.specs.Image.{Image, Blobs, AllPairs, At, Reads, FileStands, IndexStands, Lists, concat}
+use Rattle.esr_model.specs.Image.{AllPairs, At, Reads, FileStands, concat}
 use Rattle.esr_model.specs.Uploads.{same_bytes, matches, reused, reused_file, entry_by, next_by, entries_from, id_after, pieces, pairs, file_blobs, blobs_by, new_blobs, has_entry, id_first, with_entries, with_snap, no_files, shard_blobs}
 use Rattle.esr_core.specs.World.{World, Op, ShardWork, Out, Done, Shard, Ticket, HeldIn, marked}
-use Rattle.esr_core.specs.Generations.{Base, Carries, ShardLaw}
+use Rattle.esr_core.specs.Generations.{Base}
 use Rattle.esr_core.specs.Ready.{IsShard}
 use Rattle.esr_core.specs.Steps.{IsOut, Drew, Extends, ExtendsBase, completing}
 use Rattle.esr_core.specs.Turns.{InBase, DoneFound}

@@ -1,6 +1,6 @@
 -- What holds of the open ops and their tickets over any container, also one that tells nothing: each unit that is out has
 -- its op, and names and ids are apart.
-use Rattle.std.specs.Prelude.{◌≡◌, ◌≢◌, ℕ, ◌+◌, ◌<◌, ◌≤◌, true, false, List, Option, Some, map}
+use Rattle.std.specs.Prelude.{◌≡◌, ◌≢◌, ℕ, ◌+◌, ◌<◌, ◌≤◌, true, false, List, Some, map}
 use Rattle.std.specs.Ordering.{nat_cmp}
 use Rattle.std.specs.FinMap.{FinMap}
 use Rattle.std.specs.FinMap as fin
@@ -8,7 +8,8 @@ use Rattle.esr_model.specs.Values.{Bytes, Has, IndexRef, RootSnap, RootIndex, Ro
 use Rattle.esr_model.specs.Shelf.{Shelved}
 use Rattle.esr_model.specs.Kept.{RootIds}
 use Rattle.esr_model.specs.Places.{places}
-use Rattle.esr_core.specs.World.{World, Op, ShardWork, Out, Work, Shard, Finalize, Drop, Ticket, AllDone, info_of}
+use Rattle.esr_core.specs.World.{World, Op, Deletion, ShardWork, Out, Done, Shard, Finalize, Drop, Ticket, AllDone, info_of}
+use Rattle.esr_core.specs.Generations.{IsHeldBy}
 use Rattle.esr_core.specs.Ready.{Goes, Stopped, IsShard, SwapIsOut}
 use Rattle.esr_core.specs.Ids.{OpIds, InTerm}
 
@@ -60,15 +61,24 @@ pub record Named (root : RootData) (ops : FinMap nat_cmp Op) (next : ℕ) : Type
   pub root_indices : (x y : RootIndex) → Has root.indices x → Has root.indices y → IsOneIndex x.name x.id y.name y.id
   -- its shards are those of its indices
   pub shards : (o : ℕ) (op : Op) → fin.get ops o ≡ Some op → map (λ (s : ShardWork). (s.ref, s.number)) op.shards ≡ places op.indices
+  -- each of them stands once, and one that is done has a result of its own
+  pub distinct : (o : ℕ) (op : Op) (s z : ShardWork) → fin.get ops o ≡ Some op → Has op.shards s → Has op.shards z → s.ref.id ≡ z.ref.id → s.number ≡ z.number → s ≡ z
+  pub results : (o : ℕ) (op : Op) (s : ShardWork) (r : ShardResult) → fin.get ops o ≡ Some op → Has op.shards s → s.state ≡ Done r → (r.index ≡ s.ref.id) × (r.shard ≡ s.number)
   -- all ids lie below the next one
   pub below : (o : ℕ) (op : Op) → fin.get ops o ≡ Some op → OpIds next op
   pub root_below : RootIds root next
 
 pub record Tracked (w : World) : Type 0 where
   pub numbers : (o : ℕ) (op : Op) → fin.get w.ops o ≡ Some op → o < w.next_op
+  pub delete_numbers : (d : ℕ) (x : Deletion) → fin.get w.deletes d ≡ Some x → d < w.next_op
+  pub apart : (o : ℕ) (op : Op) (x : Deletion) → fin.get w.ops o ≡ Some op → fin.get w.deletes o ≡ Some x → ⊥
   pub tickets : (k : ℕ) (t : Ticket) → fin.get w.tickets k ≡ Some t → (k < w.next_ticket) × (t.term ≤ w.term) × (t.first + t.drawn ≤ w.next_id)
+  -- its op is or was open
+  pub begun : (k : ℕ) (t : Ticket) → fin.get w.tickets k ≡ Some t → t.op < w.next_op
   pub first_ticket : 1 ≤ w.next_ticket
   pub shards : (k : ℕ) (t : Ticket) (index number : ℕ) → fin.get w.tickets k ≡ Some t → t.out ≡ true → t.work ≡ Shard index number → ShardTracked w.ops k t index number
+  -- and each shard that is out has its ticket
+  pub held : (o : ℕ) (op : Op) (s : ShardWork) (k : ℕ) → fin.get w.ops o ≡ Some op → Has op.shards s → s.state ≡ Out k → IsHeldBy w.tickets o s k
   pub finals : (k : ℕ) (t : Ticket) (info : SnapInfo) (results : List ShardResult) (made : Shelved) → fin.get w.tickets k ≡ Some t → t.out ≡ true → t.settled ≡ false → t.term ≡ w.term
       → t.work ≡ Finalize info results made → FinalTracked w.root w.ops t info results
   pub drops : (k : ℕ) (t : Ticket) → fin.get w.tickets k ≡ Some t → t.out ≡ true → t.term ≡ w.term → t.work ≡ Drop → DropTracked w.ops w.tickets t

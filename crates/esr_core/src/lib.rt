@@ -156,3 +156,19 @@ pub fn ids_stay_below()
 pub fn a_snapshot_is_legal()
     ensures { (f : Formats) (part_size : ℕ) (name : Bytes) (moment : ℕ) → CanWrite f name moment → HasSnapshot f part_size name }
 {}
+
+/// The opened world is in order over any container: its root's ids are of terms up to the record's.
+pub fn opened_worlds_are_tracked()
+    ensures { (blobs : Blobs) (cluster : ClusterRecord) (root : RootData) → RootIds root (first_id (suc cluster.ledger.term))
+        → ((x y : RootIndex) → Has root.indices x → Has root.indices y → IsOneIndex x.name x.id y.name y.id) → Tracked (opened blobs cluster root) }
+{}
+
+/// Each step keeps the order of ops, tickets, names and ids, whatever the container tells.
+pub fn each_step_is_tracked()
+    ensures { (f : Formats) (part_size : ℕ) (w : World) (m : Moment) → Tracked w → Allowed f part_size w m → Tracked (after f w m) }
+{}
+
+/// And so does each legal history.
+pub fn each_history_is_tracked()
+    ensures { (f : Formats) (part_size : ℕ) (w : World) (log : List Moment) → Tracked w → IsLegal f part_size w log → Tracked (world_from f w log) }
+{}

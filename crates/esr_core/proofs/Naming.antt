@@ -1,0 +1,326 @@
+-- The names and ids of a root and of the open ops, after each kind of change.
+use Rattle.std.proofs.Common.{◌≡◌, ◌≢◌, ◌⊎◌, ℕ, suc, ◌+◌, ◌<◌, ◌≤◌, List, [], ◌∷◌, Some, None, map, refl, sym, ap, ◌∙◌, subst, inl, inr, arith}
+use Rattle.std.specs.FinMap as fin
+use Rattle.esr_model.specs.Values.{Bytes, Has, IndexRef, RootSnap, RootIndex, RootData, ShardResult}
+use Rattle.esr_model.specs.Places.{places}
+use Rattle.esr_model.specs.Kept.{RootIds}
+use Rattle.esr_model.specs.Finalize.{Finalizes, done_at, finalized_root}
+use Rattle.esr_core.specs.World.{World, Op, ShardWork, Done, AllDone, info_of}
+use Rattle.esr_core.specs.Ids.{OpIds}
+use Rattle.esr_core.specs.Entry.{AskedIndex}
+use Rattle.esr_core.specs.After.{known_id, refs_from, new_names, all_pending, asked_op}
+use Rattle.esr_core.specs.Allowed.{AreDistinct, IsUnused}
+use Rattle.esr_core.specs.Tracked.{IsOneIndex, Named}
+use Rattle.esr_core.proofs.Reading.{Has-append, Has-mapped}
+use Rattle.esr_core.proofs.Results.{found_done}
+use Rattle.esr_core.proofs.Staging.{larger_is}
+use Rattle.esr_core.proofs.Ordered.{shard_ref}
+use Rattle.esr_core.proofs.Finalizing.{Suits, finalized_is}
+use Rattle.esr_core.proofs.Queues.{Ops, was_in, left_in}
+use Rattle.esr_core.proofs.Evolving.{pending_done}
+use Rattle.esr_core.proofs.Below.{root_up}
+use Rattle.esr_core.proofs.Accepting.{IsKnownId, ref_known, ref_ids, one_name, one_new, all_places, in_all, pending_one, unknown_root, unknown_open}
+
+one_sym : (a b : Bytes) (i j : ℕ) → IsOneIndex a i b j → IsOneIndex b j a i
+one_sym a b i j h = record { one_name = λ e. sym (h.one_name (sym e)); one_id = λ e. sym (h.one_id (sym e)) }
+
+one_at : (a b c d : Bytes) (i j k l : ℕ) → IsOneIndex a i b j → a ≡ c → i ≡ k → b ≡ d → j ≡ l → IsOneIndex c k d l
+one_at a b c d i j k l h p q r s = record { one_name = λ e. sym p ∙ h.one_name (q ∙ e ∙ sym s) ∙ r; one_id = λ e. sym q ∙ h.one_id (p ∙ e ∙ sym r) ∙ s }
+
+-- ---- an op as one that was, in all but the states of its shards
+
+pub record Alike (next : ℕ) (old now : Op) : Type 0 where
+  pub name : now.name ≡ old.name
+  pub uuid : now.uuid ≡ old.uuid
+  pub indices : now.indices ≡ old.indices
+  pub g : ShardWork → ShardWork
+  pub shards : now.shards ≡ map g old.shards
+  pub ref : (s : ShardWork) → (g s).ref ≡ s.ref
+  pub number : (s : ShardWork) → (g s).number ≡ s.number
+  pub done : (s : ShardWork) (r : ShardResult) → Has old.shards s → (g s).state ≡ Done r → (s.state ≡ Done r) ⊎ ((r.index ≡ s.ref.id) × (r.shard ≡ s.number) × (r.generation < next))
+
+map_same : (xs : List ShardWork) → map (λ (s : ShardWork). s) xs ≡ xs
+map_same [] = refl
+map_same (x ∷ xs) = ap (λ ys. x ∷ ys) (map_same xs)
+
+pub alike_same : (next : ℕ) (op : Op) → Alike next op op
+alike_same next op = record { name = refl; uuid = refl; indices = refl; g = λ s. s; shards = sym (map_same op.shards); ref = λ s. refl; number = λ s. refl; done = λ s r m e. inl e }
+
+map_places : (g : ShardWork → ShardWork) → ((s : ShardWork) → (g s).ref ≡ s.ref) → ((s : ShardWork) → (g s).number ≡ s.number) → (ss : List ShardWork)
+    → map {B = IndexRef × ℕ} (λ (s : ShardWork). (s.ref, s.number)) (map g ss) ≡ map {B = IndexRef × ℕ} (λ (s : ShardWork). (s.ref, s.number)) ss
+map_places g ref number [] = refl
+map_places g ref number (s ∷ ss) = λ i. (ref s i, number s i) ∷ map_places g ref number ss i
+
+-- ops of which each is alike to one that was
+module _ (root : RootData) (ops now : Ops) (next : ℕ) (n : Named root ops next) (back : (o : ℕ) (op : Op) → fin.get now o ≡ Some op → (old : Op) × (fin.get ops o ≡ Some old) × Alike next old op) where
+  pub named_from : Named root now next
+  named_from =
+      record {
+        unlisted = λ o op s e m. let (old, there, a) = back o op e in let h = n.unlisted o old s there m in ((λ q. h.0 (q ∙ a.name)), (λ q. h.1 (q ∙ a.uuid)));
+        apart = λ o p x y e h away.
+            let (a, at, al) = back o x e in
+            let (b, bt, bl) = back p y h in
+            let z = n.apart o p a b at bt away in ((λ q. z.0 (sym al.name ∙ q ∙ bl.name)), (λ q. z.1 (sym al.uuid ∙ q ∙ bl.uuid)));
+        unused = λ o op x e m has. let (old, there, a) = back o op e in n.unused o old x there m (subst (Has x.snapshots) a.uuid has);
+        indices = λ o p x y r q e h rm qm.
+            let (a, at, al) = back o x e in
+            let (b, bt, bl) = back p y h in
+            n.indices o p a b r q at bt (subst (λ l. Has l r) al.indices rm) (subst (λ l. Has l q) bl.indices qm);
+        once = λ o op r q e rm qm same. let (old, there, a) = back o op e in n.once o old r q there (subst (λ l. Has l r) a.indices rm) (subst (λ l. Has l q) a.indices qm) same;
+        rooted = λ o op r x e rm xm. let (old, there, a) = back o op e in n.rooted o old r x there (subst (λ l. Has l r) a.indices rm) xm;
+        root_indices = n.root_indices;
+        shards = λ o op e.
+            let (old, there, a) = back o op e in
+            ap (map {B = IndexRef × ℕ} (λ (s : ShardWork). (s.ref, s.number))) a.shards ∙ map_places a.g a.ref a.number old.shards ∙ n.shards o old there ∙ ap places (sym a.indices);
+        distinct = λ o op s z e sm zm i k.
+            let (old, there, a) = back o op e in
+            let (x, xm, xe) = Has-mapped a.g old.shards s (subst (λ l. Has l s) a.shards sm) in
+            let (y, ym, ye) = Has-mapped a.g old.shards z (subst (λ l. Has l z) a.shards zm) in
+            let same : x ≡ y = n.distinct o old x y there xm ym
+            (sym (ap (λ (v : IndexRef). v.id) (a.ref x)) ∙ ap (λ (v : ShardWork). v.ref.id) xe ∙ i ∙ sym (ap (λ (v : ShardWork). v.ref.id) ye) ∙ ap (λ (v : IndexRef). v.id) (a.ref y))
+            (sym (a.number x) ∙ ap (λ (v : ShardWork). v.number) xe ∙ k ∙ sym (ap (λ (v : ShardWork). v.number) ye) ∙ a.number y) in
+            sym xe ∙ ap a.g same ∙ ye;
+        results = λ o op s r e m state.
+            let (old, there, a) = back o op e in
+            let (x, xm, xe) = Has-mapped a.g old.shards s (subst (λ l. Has l s) a.shards m) in
+            let id : x.ref.id ≡ s.ref.id = sym (ap (λ (v : IndexRef). v.id) (a.ref x)) ∙ ap (λ (v : ShardWork). v.ref.id) xe in
+            let number : x.number ≡ s.number = sym (a.number x) ∙ ap (λ (v : ShardWork). v.number) xe in
+            elim (a.done x r xm (ap (λ (v : ShardWork). v.state) xe ∙ state)) [ inl was ↦ let h = n.results o old x r there xm was in (h.0 ∙ id, h.1 ∙ number) | inr z ↦ (z.0 ∙ id, z.1 ∙ number) ];
+        below = λ o op e.
+            let (old, there, a) = back o op e in
+            let h = n.below o old there in
+            record {
+              uuid = subst (λ u. u < next) (sym a.uuid) h.uuid;
+              indices = λ r m. h.indices r (subst (λ l. Has l r) a.indices m);
+              done = λ s r m state. let (x, xm, xe) = Has-mapped a.g old.shards s (subst (λ l. Has l s) a.shards m) in elim (a.done x r xm (ap (λ (v : ShardWork). v.state) xe ∙ state)) [ inl was ↦ h.done x r xm was | inr z ↦ z.2 ];
+            };
+        root_below = n.root_below;
+      }
+
+-- ids drawn
+pub named_up : (root : RootData) (ops : Ops) (c d : ℕ) → c ≤ d → Named root ops c → Named root ops d
+named_up root ops c d le n =
+    record {
+      unlisted = n.unlisted;
+      apart = n.apart;
+      unused = n.unused;
+      indices = n.indices;
+      once = n.once;
+      rooted = n.rooted;
+      root_indices = n.root_indices;
+      shards = n.shards;
+      distinct = n.distinct;
+      results = n.results;
+      below = λ o op e. let h = n.below o op e in record { uuid = up op.uuid h.uuid; indices = λ r m. up r.id (h.indices r m); done = λ s r m state. up r.generation (h.done s r m state) };
+      root_below = root_up root c d le n.root_below;
+    }
+  where
+    up : (x : ℕ) → x < c → x < d
+    up x h = omega (arith, le, h)
+
+-- an op that leaves
+pub named_left : (root : RootData) (ops : Ops) (next o : ℕ) → Named root ops next → Named root (fin.remove ops o) next
+named_left root ops next o n = named_from root ops (fin.remove ops o) next n (λ p q e. (q, (left_in ops o p q e).1, alike_same next q))
+
+-- the root with the snapshot of an op that leaves
+module _ (root : RootData) (ops : Ops) (next : ℕ) (n : Named root ops next) (o : ℕ) (op : Op) (there : fin.get ops o ≡ Some op) (results : List ShardResult) (done : AllDone op.shards results) where
+  suits : Suits root op
+  suits =
+      record {
+        places = n.shards o op there;
+        results = λ s r m e. n.results o op s r there m e;
+        one_id = λ r q rm qm e. n.once o op r q there rm qm e;
+        same_name = λ r x rm xm e. (n.rooted o op r x there rm xm).one_name e;
+      }
+
+  fins : Finalizes root (info_of op results) results (finalized_root root (info_of op results) results)
+  fins = finalized_is root op results suits (λ x y xm ym e. (n.root_indices x y xm ym).one_name e) done
+
+  others : Named root (fin.remove ops o) next
+  others = named_left root ops next o n
+
+  -- an index of the new root is as one of the old root or of the op
+  new_rooted : (a : Bytes) (i : ℕ) → ((x : RootIndex) → Has root.indices x → IsOneIndex a i x.name x.id) → ((r : IndexRef) → Has op.indices r → IsOneIndex a i r.name r.id)
+      → (y : RootIndex) → Has (finalized_root root (info_of op results) results).indices y → IsOneIndex a i y.name y.id
+  new_rooted a i of_root of_op y m = elim (fins.names y m) [
+    | inl h ↦ one_at a h.0.name a y.name i h.0.id i y.id (of_root h.0 h.1) refl refl h.2 h.3
+    | inr h ↦ one_at a h.0.name a y.name i h.0.id i y.id (of_op h.0 h.1) refl refl h.2 h.3
+  ]
+
+  result_below : (i k g : ℕ) → done_at results i k ≡ Some g → g < next
+  result_below i k g e =
+      let (s, m, (r, state, is, ns, gen)) = found_done op.shards results done suits.results i k g e in
+      subst (λ z. z < next) gen ((n.below o op there).done s r m state)
+
+  of_old : (x : RootIndex) → Has root.indices x → (y : RootIndex) → Has (finalized_root root (info_of op results) results).indices y → IsOneIndex x.name x.id y.name y.id
+  of_old x m = new_rooted x.name x.id (λ z zm. n.root_indices x z m zm) (λ r rm. one_sym r.name x.name r.id x.id (n.rooted o op r x there rm m))
+
+  of_new : (r : IndexRef) → Has op.indices r → (y : RootIndex) → Has (finalized_root root (info_of op results) results).indices y → IsOneIndex r.name r.id y.name y.id
+  of_new r m = new_rooted r.name r.id (λ z zm. n.rooted o op r z there m zm) (λ q qm. n.indices o o op op r q there there m qm)
+
+  all_one : (x y : RootIndex) → Has (finalized_root root (info_of op results) results).indices x → Has (finalized_root root (info_of op results) results).indices y → IsOneIndex x.name x.id y.name y.id
+  all_one x y xm ym = one_sym y.name x.name y.id x.id
+      (new_rooted y.name y.id (λ z zm. one_sym z.name y.name z.id y.id (of_old z zm y ym)) (λ r rm. one_sym r.name y.name r.id y.id (of_new r rm y ym)) x xm)
+
+  root_ids : RootIds (finalized_root root (info_of op results) results) next
+  root_ids =
+      record {
+        generations = λ i k g gen. elim (larger_is _ (done_at results i k) g (sym (fins.generations i k) ∙ gen)) [ inl e ↦ n.root_below.generations i k g e | inr e ↦ result_below i k g e ];
+        snapshots = λ s m. elim (Has-append root.snapshots _ s (subst (λ xs. Has xs s) fins.snapshots m)) [ inl old ↦ n.root_below.snapshots s old | inr e ↦ subst (λ (y : RootSnap). y.uuid < next) e (n.below o op there).uuid ];
+        ids = λ y m. elim (fins.names y m) [ inl h ↦ subst (λ z. z < next) h.3 (n.root_below.ids h.0 h.1) | inr h ↦ subst (λ z. z < next) h.3 ((n.below o op there).indices h.0 h.1) ];
+        uuids = λ y u m has. elim (fins.from y m u has) [ inl h ↦ subst (λ z. z < next) (sym h.0) (n.below o op there).uuid | inr h ↦ n.root_below.uuids h.0 u h.1 h.4 ];
+        one_name = λ x y xm ym e. (all_one x y xm ym).one_name e;
+      }
+
+  pub named_root : Named (finalized_root root (info_of op results) results) (fin.remove ops o) next
+  named_root =
+      record {
+        unlisted = λ p a s e m.
+            let (away, was) = left_in ops o p a e in
+            elim (Has-append root.snapshots _ s (subst (λ xs. Has xs s) fins.snapshots m)) [
+              | inl old ↦ n.unlisted p a s was old
+              | inr same ↦ let h = n.apart o p op a there was (λ q. away (sym q)) in ((λ q. h.0 (ap (λ (y : RootSnap). y.name) same ∙ q)), (λ q. h.1 (ap (λ (y : RootSnap). y.uuid) same ∙ q)))
+            ];
+        apart = others.apart;
+        unused = λ p a y e m has.
+            let (away, was) = left_in ops o p a e in
+            elim (fins.from y m a.uuid has) [ inl h ↦ (n.apart p o a op was there away).1 h.0 | inr h ↦ n.unused p a h.0 was h.1 h.4 ];
+        indices = others.indices;
+        once = others.once;
+        rooted = λ p a r y e rm ym.
+            let was = (left_in ops o p a e).1 in
+            new_rooted r.name r.id (λ x xm. n.rooted p a r x was rm xm) (λ q qm. n.indices p o a op r q was there rm qm) y ym;
+        root_indices = all_one;
+        shards = others.shards;
+        distinct = others.distinct;
+        results = others.results;
+        below = others.below;
+        root_below = root_ids;
+      }
+
+-- ---- an op that is accepted
+
+module _ (w : World) (n : Named w.root w.ops w.next_id) (name : Bytes) (indices : List AskedIndex) (moment : ℕ) (apart : AreDistinct indices) (unused : IsUnused w name) where
+  abbrev op : Op
+  op = asked_op w name indices moment
+
+  abbrev refs : List IndexRef
+  refs = refs_from w (suc w.next_id) indices
+
+  known_below : (r : IndexRef) → IsKnownId w r → r.id < w.next_id
+  known_below r (inl k) = subst (λ x. x < w.next_id) k.3 (n.root_below.ids k.0 k.1)
+  known_below r (inr k) = let (p, q, z, there, zm, zn, zi) = k in subst (λ x. x < w.next_id) zi ((n.below p q there).indices z zm)
+
+  -- its id is known, or its name is new and its id drawn
+  kind : (r : IndexRef) → Has (refs_from w (suc w.next_id) indices) r → IsKnownId w r ⊎ ((w.next_id < r.id) × (known_id w r.name ≡ None))
+  kind r m = elim (ref_known w indices (suc w.next_id) r m) [
+    | inl k ↦ inl k
+    | inr none ↦ elim (ref_ids w indices (suc w.next_id) r m) [ inl k ↦ inl k | inr z ↦ let up : suc w.next_id ≤ r.id = z.0 in inr (omega (arith, up), none) ]
+  ]
+
+  new_root : (r : IndexRef) (x : RootIndex) → Has (refs_from w (suc w.next_id) indices) r → Has w.root.indices x → IsOneIndex r.name r.id x.name x.id
+  new_root r x m xm = elim (kind r m) [
+    | inl (inl k) ↦ one_at k.0.name x.name r.name x.name k.0.id x.id r.id x.id (n.root_indices k.0 x k.1 xm) k.2 k.3 refl refl
+    | inl (inr k) ↦ let (p, q, z, there, zm, zn, zi) = k in one_at z.name x.name r.name x.name z.id x.id r.id x.id (n.rooted p q z x there zm xm) zn zi refl refl
+    | inr k ↦ record {
+      one_name = λ e. absurd (let b : x.id < w.next_id = n.root_below.ids x xm in let up : w.next_id < r.id = k.0 in omega (arith, b, up, e));
+      one_id = λ e. absurd (unknown_root w r.name k.1 x xm (sym e));
+    }
+  ]
+
+  new_open : (r : IndexRef) (p : ℕ) (q : Op) (z : IndexRef) → Has (refs_from w (suc w.next_id) indices) r → fin.get w.ops p ≡ Some q → Has q.indices z → IsOneIndex r.name r.id z.name z.id
+  new_open r p q z m there zm = elim (kind r m) [
+    | inl (inl k) ↦ one_at k.0.name z.name r.name z.name k.0.id z.id r.id z.id (one_sym z.name k.0.name z.id k.0.id (n.rooted p q z k.0 there zm k.1)) k.2 k.3 refl refl
+    | inl (inr k) ↦ let (s, t, y, yt, ym, yn, yi) = k in one_at y.name z.name r.name z.name y.id z.id r.id z.id (n.indices s p t q y z yt there ym zm) yn yi refl refl
+    | inr k ↦ record {
+      one_name = λ e. absurd (let b : z.id < w.next_id = (n.below p q there).indices z zm in let up : w.next_id < r.id = k.0 in omega (arith, b, up, e));
+      one_id = λ e. absurd (unknown_open w r.name k.1 p q there z zm (sym e));
+    }
+  ]
+
+  new_new : (r q : IndexRef) → Has (refs_from w (suc w.next_id) indices) r → Has (refs_from w (suc w.next_id) indices) q → IsOneIndex r.name r.id q.name q.id
+  new_new r q rm qm =
+      record {
+        one_name = λ e. elim (kind r rm) [
+          | inl (inl k) ↦ sym (k.2) ∙ sym ((new_root q k.0 qm k.1).one_name (sym e ∙ sym k.3))
+          | inl (inr k) ↦ let (s, t, y, yt, ym, yn, yi) = k in sym yn ∙ sym ((new_open q s t y qm yt ym).one_name (sym e ∙ sym yi))
+          | inr k ↦ one_new w known_below indices (suc w.next_id) (omega arith) r q rm qm k.0 e
+        ];
+        one_id = λ e. ap (λ (x : IndexRef). x.id) (one_name w indices (suc w.next_id) apart r q rm qm e);
+      }
+
+  once : (r q : IndexRef) → Has (refs_from w (suc w.next_id) indices) r → Has (refs_from w (suc w.next_id) indices) q → r.id ≡ q.id → r ≡ q
+  once r q rm qm e = one_name w indices (suc w.next_id) apart r q rm qm ((new_new r q rm qm).one_name e)
+
+  mine : OpIds (w.next_id + suc (new_names w indices)) (asked_op w name indices moment)
+  mine =
+      record {
+        uuid = omega arith;
+        indices = λ r m. elim (ref_ids w indices (suc w.next_id) r m) [ inl k ↦ let b : r.id < w.next_id = known_below r k in omega (arith, b) | inr z ↦ let b : r.id < suc w.next_id + new_names w indices = z.1 in omega (arith, b) ];
+        done = λ s r m e. absurd (pending_done (sym (in_all w indices (suc w.next_id) s m).0 ∙ e));
+      }
+
+  pub named_asked : Named w.root (fin.insert w.ops w.next_op (asked_op w name indices moment)) (w.next_id + suc (new_names w indices))
+  named_asked =
+      let more : Named w.root w.ops (w.next_id + suc (new_names w indices)) = named_up w.root w.ops w.next_id (w.next_id + suc (new_names w indices)) (omega arith) n in
+      record {
+        unlisted = λ o a s e m. elim (was_in w.ops w.next_op op o a e) [
+          | inl h ↦ subst (λ (y : Op). (s.name ≢ y.name) × (s.uuid ≢ y.uuid)) h.1 ((λ q. unused s.uuid (inl (s, m, q, refl))), (λ q. let b : s.uuid < w.next_id = n.root_below.snapshots s m in let same : s.uuid ≡ w.next_id = q in omega (arith, b, same)))
+          | inr h ↦ n.unlisted o a s h.1 m
+        ];
+        apart = λ o p a b e h away. elim (was_in w.ops w.next_op op o a e) [
+          | inl x ↦ elim (was_in w.ops w.next_op op p b h) [
+            | inl y ↦ absurd (away (x.0 ∙ sym y.0))
+            | inr y ↦ subst (λ (z : Op). (z.name ≢ b.name) × (z.uuid ≢ b.uuid)) x.1 ((λ q. open_name p b y.1 (sym q)), (λ q. open_uuid p b y.1 (sym q)))
+          ]
+          | inr x ↦ elim (was_in w.ops w.next_op op p b h) [
+            | inl y ↦ subst (λ (z : Op). (a.name ≢ z.name) × (a.uuid ≢ z.uuid)) y.1 (open_name o a x.1, open_uuid o a x.1)
+            | inr y ↦ n.apart o p a b x.1 y.1 away
+          ]
+        ];
+        unused = λ o a x e m has. elim (was_in w.ops w.next_op op o a e) [
+          | inl h ↦ let b : w.next_id < w.next_id = n.root_below.uuids x w.next_id m (subst (λ (y : Op). Has x.snapshots y.uuid) (sym h.1) has) in omega (arith, b)
+          | inr h ↦ n.unused o a x h.1 m has
+        ];
+        indices = λ o p a b r q e h rm qm. elim (was_in w.ops w.next_op op o a e) [
+          | inl x ↦ elim (was_in w.ops w.next_op op p b h) [
+            | inl y ↦ new_new r q (subst (λ (z : Op). Has z.indices r) (sym x.1) rm) (subst (λ (z : Op). Has z.indices q) (sym y.1) qm)
+            | inr y ↦ new_open r p b q (subst (λ (z : Op). Has z.indices r) (sym x.1) rm) y.1 qm
+          ]
+          | inr x ↦ elim (was_in w.ops w.next_op op p b h) [
+            | inl y ↦ one_sym q.name r.name q.id r.id (new_open q o a r (subst (λ (z : Op). Has z.indices q) (sym y.1) qm) x.1 rm)
+            | inr y ↦ n.indices o p a b r q x.1 y.1 rm qm
+          ]
+        ];
+        once = λ o a r q e rm qm same. elim (was_in w.ops w.next_op op o a e) [
+          | inl h ↦ once r q (subst (λ (z : Op). Has z.indices r) (sym h.1) rm) (subst (λ (z : Op). Has z.indices q) (sym h.1) qm) same
+          | inr h ↦ n.once o a r q h.1 rm qm same
+        ];
+        rooted = λ o a r x e rm xm. elim (was_in w.ops w.next_op op o a e) [ inl h ↦ new_root r x (subst (λ (z : Op). Has z.indices r) (sym h.1) rm) xm | inr h ↦ n.rooted o a r x h.1 rm xm ];
+        root_indices = n.root_indices;
+        shards = λ o a e. elim (was_in w.ops w.next_op op o a e) [
+          | inl h ↦ subst (λ (z : Op). map (λ (s : ShardWork). (s.ref, s.number)) z.shards ≡ places z.indices) h.1 (all_places w indices (suc w.next_id))
+          | inr h ↦ n.shards o a h.1
+        ];
+        distinct = λ o a s z e sm zm i k. elim (was_in w.ops w.next_op op o a e) [
+          | inl h ↦ one_shard s z (subst (λ (y : Op). Has y.shards s) (sym h.1) sm) (subst (λ (y : Op). Has y.shards z) (sym h.1) zm) i k
+          | inr h ↦ n.distinct o a s z h.1 sm zm i k
+        ];
+        results = λ o a s r e m state. elim (was_in w.ops w.next_op op o a e) [
+          | inl h ↦ absurd (pending_done (sym (in_all w indices (suc w.next_id) s (subst (λ (y : Op). Has y.shards s) (sym h.1) m)).0 ∙ state))
+          | inr h ↦ n.results o a s r h.1 m state
+        ];
+        below = λ o a e. elim (was_in w.ops w.next_op op o a e) [ inl h ↦ subst (OpIds (w.next_id + suc (new_names w indices))) h.1 mine | inr h ↦ more.below o a h.1 ];
+        root_below = more.root_below;
+      }
+    where
+      open_name : (p : ℕ) (b : Op) → fin.get w.ops p ≡ Some b → b.name ≡ name → ⊥
+      open_name p b there q = unused b.uuid (inr (p, b, there, q, refl))
+
+      open_uuid : (p : ℕ) (b : Op) → fin.get w.ops p ≡ Some b → b.uuid ≡ w.next_id → ⊥
+      open_uuid p b there q = let h : b.uuid < w.next_id = (n.below p b there).uuid in omega (arith, h, q)
+
+      one_shard : (s z : ShardWork) → Has (all_pending indices (refs_from w (suc w.next_id) indices)) s → Has (all_pending indices (refs_from w (suc w.next_id) indices)) z → s.ref.id ≡ z.ref.id → s.number ≡ z.number → s ≡ z
+      one_shard s z sm zm i k =
+          let made : Op = asked_op w name indices moment in
+          pending_one w indices (suc w.next_id) apart s z sm zm (once s.ref z.ref (shard_ref made s sm (all_places w indices (suc w.next_id))) (shard_ref made z zm (all_places w indices (suc w.next_id))) i) k

@@ -1,0 +1,219 @@
+-- What each change of tickets, ids and the term leaves of the order of a world.
+use Rattle.std.proofs.Common.{◌≡◌, ◌⊎◌, ℕ, suc, ◌+◌, ◌<◌, ◌≤◌, List, Bool, true, false, Some, refl, sym, ap, ◌∙◌, subst, inl, inr, arith}
+use Rattle.std.specs.FinMap as fin
+use Rattle.esr_model.specs.Names.{BlobName}
+use Rattle.esr_model.specs.Values.{SnapInfo, ShardResult}
+use Rattle.esr_model.specs.Shelf.{Shelved}
+use Rattle.esr_model.specs.Kept.{first_id}
+use Rattle.esr_model.specs.Image.{Blobs}
+use Rattle.esr_core.specs.World.{World, Finalize, Drop, Ticket}
+use Rattle.esr_core.specs.Ready.{IsShard, IsMaster, SwapIsOut}
+use Rattle.esr_core.specs.Tracked.{ShardTracked, FinalTracked, DropTracked, Tracked}
+use Rattle.esr_core.proofs.Reading.{some_same}
+use Rattle.esr_core.proofs.Queues.{Ops, Tickets, was_in, same_in, other_in, split_at}
+use Rattle.esr_core.proofs.Naming.{named_up}
+
+-- what isn't read of a world
+pub tracked_aside : (w : World) → Tracked w → (blobs : Blobs) (safe pending : ℕ) (completed : List ℕ) (doomed : List BlobName) (deposed : Bool)
+    → Tracked (record w { blobs = blobs; safe = safe; pending = pending; completed = completed; doomed = doomed; deposed = deposed })
+tracked_aside w l blobs safe pending completed doomed deposed =
+    record {
+      numbers = l.numbers;
+      delete_numbers = l.delete_numbers;
+      apart = l.apart;
+      tickets = l.tickets;
+      begun = l.begun;
+      first_ticket = l.first_ticket;
+      shards = l.shards;
+      held = l.held;
+      finals = l.finals;
+      drops = l.drops;
+      one_swap = l.one_swap;
+      named = l.named;
+      in_term = record { from = l.in_term.from; below = l.in_term.below };
+    }
+
+-- ---- a ticket given anew
+
+pub record Follows (t v : Ticket) : Type 0 where
+  pub work : v.work ≡ t.work
+  pub op : v.op ≡ t.op
+  pub uuid : v.uuid ≡ t.uuid
+  pub place : v.place ≡ t.place
+  pub name : v.name ≡ t.name
+  pub term : v.term ≡ t.term
+  pub root : v.root ≡ t.root
+  pub out : v.out ≡ true → t.out ≡ true
+  pub settled : v.settled ≡ false → t.settled ≡ false
+  -- a shard's stays out
+  pub shard : IsShard t.work → t.out ≡ true → v.out ≡ true
+
+pub follows_same : (t : Ticket) → Follows t t
+follows_same t = record { work = refl; op = refl; uuid = refl; place = refl; name = refl; term = refl; root = refl; out = λ e. e; settled = λ e. e; shard = λ s e. e }
+
+shard_follows : (ops : Ops) (j : ℕ) (t v : Ticket) (i n : ℕ) → Follows t v → ShardTracked ops j t i n → ShardTracked ops j v i n
+shard_follows ops j t v i n f h =
+    record {
+      op = h.op;
+      op_there = ap (fin.get ops) f.op ∙ h.op_there;
+      uuid_is = f.uuid ∙ h.uuid_is;
+      s = h.s;
+      s_there = h.s_there;
+      state = h.state;
+      index_is = h.index_is;
+      number_is = h.number_is;
+      place_is = h.place_is ∙ sym f.place;
+      name_is = h.name_is ∙ sym f.name;
+    }
+
+module _ (w : World) (l : Tracked w) (k : ℕ) (t v : Ticket) (there : fin.get w.tickets k ≡ Some t) (like : Follows t v) (drawn : v.first + v.drawn ≤ w.next_id) where
+  abbrev tickets : Tickets
+  tickets = fin.insert w.tickets k v
+
+  -- each ticket follows one that was
+  was : (j : ℕ) (u : Ticket) → fin.get (fin.insert w.tickets k v) j ≡ Some u → (x : Ticket) × (fin.get w.tickets j ≡ Some x) × Follows x u
+  was j u e = elim (was_in w.tickets k v j u e) [ inl h ↦ (t, ap (fin.get w.tickets) h.0 ∙ there, subst (Follows t) h.1 like) | inr h ↦ (u, h.1, follows_same u) ]
+
+  held_by : (o j : ℕ) → (h : Ticket) → fin.get w.tickets j ≡ Some h → IsShard h.work → h.out ≡ true → (u : Ticket) × (fin.get (fin.insert w.tickets k v) j ≡ Some u) × Follows h u × (u.out ≡ true)
+  held_by o j h e shard out = elim (split_at j k) [
+    | inl same ↦
+        let one : t ≡ h = some_same _ _ (sym there ∙ ap (fin.get w.tickets) (sym same) ∙ e) in
+        let f : Follows h v = subst (λ x. Follows x v) one like in
+        (v, ap (fin.get (fin.insert w.tickets k v)) same ∙ same_in w.tickets k v, f, f.shard shard out)
+    | inr away ↦ (h, other_in w.tickets k v j away ∙ e, follows_same h, out)
+  ]
+
+  swap_was : (j : ℕ) → SwapIsOut (fin.insert w.tickets k v) w.term j → SwapIsOut w.tickets w.term j
+  swap_was j h = let (x, xt, f) = was j h.t h.there in record { t = x; there = xt; out = f.out h.out; unsettled = f.settled h.unsettled; present = sym f.term ∙ h.present; swaps = subst IsMaster f.work h.swaps }
+
+  pub tracked_ticket : Tracked (record w { tickets = fin.insert w.tickets k v })
+  tracked_ticket =
+      record {
+        numbers = l.numbers;
+        delete_numbers = l.delete_numbers;
+        apart = l.apart;
+        tickets = λ j u e. elim (was_in w.tickets k v j u e) [
+          | inl h ↦
+              let x = l.tickets k t there in
+              subst (λ (y : Ticket). (j < w.next_ticket) × (y.term ≤ w.term) × (y.first + y.drawn ≤ w.next_id)) h.1 (subst (λ i. i < w.next_ticket) (sym h.0) x.0, subst (λ y. y ≤ w.term) (sym like.term) x.1, drawn)
+          | inr h ↦ l.tickets j u h.1
+        ];
+        begun = λ j u e. let (x, xt, f) = was j u e in subst (λ y. y < w.next_op) (sym f.op) (l.begun j x xt);
+        first_ticket = l.first_ticket;
+        shards = λ j u i n e out is. let (x, xt, f) = was j u e in shard_follows w.ops j x u i n f (l.shards j x i n xt (f.out out) (sym f.work ∙ is));
+        held = λ o op s j e m state.
+            let h = l.held o op s j e m state in
+            let (u, ut, f, out) = held_by o j h.t h.there (subst IsShard (sym h.work) tt) h.out in
+            record { t = u; there = ut; out = out; op_is = f.op ∙ h.op_is; work = f.work ∙ h.work };
+        finals = λ j u info rs made e out uns pres is.
+            let (x, xt, f) = was j u e in
+            let h = l.finals j x info rs made xt (f.out out) (f.settled uns) (sym f.term ∙ pres) (sym f.work ∙ is) in
+            record { op = h.op; op_there = ap (fin.get w.ops) f.op ∙ h.op_there; done = h.done; goes = h.goes; uuid_is = f.uuid ∙ h.uuid_is; info_is = h.info_is; root_is = f.root ∙ h.root_is };
+        drops = λ j u e out pres is.
+            let (x, xt, f) = was j u e in
+            let h = l.drops j x xt (f.out out) (sym f.term ∙ pres) (sym f.work ∙ is) in
+            record {
+              stopped = λ op ot. h.stopped op (ap (fin.get w.ops) (sym f.op) ∙ ot);
+              idle = λ i y e out shard same. let (z, zt, g) = was i y e in h.idle i z zt (g.out out) (subst IsShard g.work shard) (sym g.op ∙ same ∙ f.op);
+            };
+        one_swap = λ i j a b. l.one_swap i j (swap_was i a) (swap_was j b);
+        named = l.named;
+        in_term = record { from = l.in_term.from; below = l.in_term.below };
+      }
+
+-- ---- a new ticket, of no shard
+
+module _ (w : World) (l : Tracked w) (v : Ticket) (term : v.term ≤ w.term) (drawn : v.first + v.drawn ≤ w.next_id) (begun : v.op < w.next_op) (no_shard : IsShard v.work → ⊥)
+    (final : (info : SnapInfo) (results : List ShardResult) (made : Shelved) → v.work ≡ Finalize info results made → FinalTracked w.root w.ops v info results)
+    (drop : v.work ≡ Drop → DropTracked w.ops w.tickets v) (alone : IsMaster v.work → (k : ℕ) → SwapIsOut w.tickets w.term k → ⊥) where
+  stays : (j : ℕ) (u : Ticket) → fin.get w.tickets j ≡ Some u → fin.get (fin.insert w.tickets w.next_ticket v) j ≡ Some u
+  stays j u e = other_in w.tickets w.next_ticket v j (λ q. let b : j < w.next_ticket = (l.tickets j u e).0 in omega (arith, b, q)) ∙ e
+
+  idle_on : (u : Ticket) → DropTracked w.ops w.tickets u → DropTracked w.ops (fin.insert w.tickets w.next_ticket v) u
+  idle_on u d =
+      record {
+        stopped = d.stopped;
+        idle = λ i y e out shard. elim (was_in w.tickets w.next_ticket v i y e) [ inl h ↦ absurd (no_shard (subst (λ (z : Ticket). IsShard z.work) (sym h.1) shard)) | inr h ↦ d.idle i y h.1 out shard ];
+      }
+
+  swap_is : (j : ℕ) → SwapIsOut (fin.insert w.tickets w.next_ticket v) w.term j → ((j ≡ w.next_ticket) × IsMaster v.work) ⊎ SwapIsOut w.tickets w.term j
+  swap_is j s = elim (was_in w.tickets w.next_ticket v j s.t s.there) [
+    | inl h ↦ inl (h.0, subst (λ (z : Ticket). IsMaster z.work) (sym h.1) s.swaps)
+    | inr h ↦ inr (record { t = s.t; there = h.1; out = s.out; unsettled = s.unsettled; present = s.present; swaps = s.swaps })
+  ]
+
+  pub tracked_new : Tracked (record w { tickets = fin.insert w.tickets w.next_ticket v; next_ticket = suc w.next_ticket })
+  tracked_new =
+      record {
+        numbers = l.numbers;
+        delete_numbers = l.delete_numbers;
+        apart = l.apart;
+        tickets = λ j u e. elim (was_in w.tickets w.next_ticket v j u e) [
+          | inl h ↦ let same : j ≡ w.next_ticket = h.0 in subst (λ (y : Ticket). (j < suc w.next_ticket) × (y.term ≤ w.term) × (y.first + y.drawn ≤ w.next_id)) h.1 (omega (arith, same), term, drawn)
+          | inr h ↦ let x = l.tickets j u h.1 in let b : j < w.next_ticket = x.0 in (omega (arith, b), x.1, x.2)
+        ];
+        begun = λ j u e. elim (was_in w.tickets w.next_ticket v j u e) [ inl h ↦ subst (λ (y : Ticket). y.op < w.next_op) h.1 begun | inr h ↦ l.begun j u h.1 ];
+        first_ticket = omega arith;
+        shards = λ j u i n e out is. elim (was_in w.tickets w.next_ticket v j u e) [
+          | inl h ↦ absurd (no_shard (subst IsShard (sym (ap (λ (y : Ticket). y.work) h.1 ∙ is)) tt))
+          | inr h ↦ l.shards j u i n h.1 out is
+        ];
+        held = λ o op s j e m state. let h = l.held o op s j e m state in record { t = h.t; there = stays j h.t h.there; out = h.out; op_is = h.op_is; work = h.work };
+        finals = λ j u info rs made e out uns pres is. elim (was_in w.tickets w.next_ticket v j u e) [
+          | inl h ↦ subst (λ (y : Ticket). FinalTracked w.root w.ops y info rs) h.1 (final info rs made (ap (λ (y : Ticket). y.work) h.1 ∙ is))
+          | inr h ↦ l.finals j u info rs made h.1 out uns pres is
+        ];
+        drops = λ j u e out pres is. elim (was_in w.tickets w.next_ticket v j u e) [
+          | inl h ↦ subst (DropTracked w.ops (fin.insert w.tickets w.next_ticket v)) h.1 (idle_on v (drop (ap (λ (y : Ticket). y.work) h.1 ∙ is)))
+          | inr h ↦ idle_on u (l.drops j u h.1 out pres is)
+        ];
+        one_swap = λ i j a b. elim (swap_is i a) [
+          | inl x ↦ elim (swap_is j b) [ inl y ↦ x.0 ∙ sym y.0 | inr y ↦ absurd (alone x.1 j y) ]
+          | inr x ↦ elim (swap_is j b) [ inl y ↦ absurd (alone y.1 i x) | inr y ↦ l.one_swap i j x y ]
+        ];
+        named = l.named;
+        in_term = record { from = l.in_term.from; below = l.in_term.below };
+      }
+
+-- ---- ids and terms
+
+-- ids drawn
+pub tracked_drawn : (w : World) → Tracked w → (n : ℕ) → w.next_id + n < first_id (suc w.term) → Tracked (record w { next_id = w.next_id + n })
+tracked_drawn w l n fits =
+    record {
+      numbers = l.numbers;
+      delete_numbers = l.delete_numbers;
+      apart = l.apart;
+      tickets = λ k t e. let x = l.tickets k t e in let b : t.first + t.drawn ≤ w.next_id = x.2 in (x.0, x.1, omega (arith, b));
+      begun = l.begun;
+      first_ticket = l.first_ticket;
+      shards = l.shards;
+      held = l.held;
+      finals = l.finals;
+      drops = l.drops;
+      one_swap = l.one_swap;
+      named = named_up w.root w.ops w.next_id (w.next_id + n) (omega arith) l.named;
+      in_term = record { from = let b : first_id w.term ≤ w.next_id = l.in_term.from in omega (arith, b); below = fits };
+    }
+
+-- a new term: no ticket is of it
+pub tracked_elect : (w : World) → Tracked w → Tracked (record w { term = suc w.term; next_id = first_id (suc w.term) })
+tracked_elect w l =
+    record {
+      numbers = l.numbers;
+      delete_numbers = l.delete_numbers;
+      apart = l.apart;
+      tickets = λ k t e. let x = l.tickets k t e in let a : t.term ≤ w.term = x.1 in let b : t.first + t.drawn ≤ w.next_id = x.2 in let c : w.next_id < first_id (suc w.term) = l.in_term.below in (x.0, omega (arith, a), omega (arith, b, c));
+      begun = l.begun;
+      first_ticket = l.first_ticket;
+      shards = l.shards;
+      held = l.held;
+      finals = λ k t info rs made e out uns pres is. absurd (older k t e pres);
+      drops = λ k t e out pres is. absurd (older k t e pres);
+      one_swap = λ i j a b. absurd (older i a.t a.there a.present);
+      named = named_up w.root w.ops w.next_id (first_id (suc w.term)) (let c : w.next_id < first_id (suc w.term) = l.in_term.below in omega (arith, c)) l.named;
+      in_term = record { from = omega arith; below = omega arith };
+    }
+  where
+    older : (k : ℕ) (t : Ticket) → fin.get w.tickets k ≡ Some t → t.term ≡ suc w.term → ⊥
+    older k t e pres = let a : t.term ≤ w.term = (l.tickets k t e).1 in omega (arith, a, pres)

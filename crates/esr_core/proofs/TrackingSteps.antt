@@ -1,0 +1,373 @@
+-- Each step keeps the order of ops, tickets, names and ids, whatever the container tells.
+use Rattle.std.proofs.Common.{◌≡◌, ◌≢◌, ◌⊎◌, ℕ, suc, ◌+◌, ◌<◌, ◌≤◌, List, [], ◌∷◌, Bool, true, false, true≢false, Option, Some, None, map, refl, sym, ap, ◌∙◌, subst, inl, inr, arith}
+use Rattle.std.specs.Prelude.{if◌then◌else◌, length}
+use Rattle.std.proofs.lemmas.Bool.Decides.{eqb_tells}
+use Rattle.std.specs.FinMap as fin
+use Rattle.esr_model.specs.Names.{BlobName}
+use Rattle.esr_model.specs.Values.{Bytes, Has, RootIndex, RootData, SnapInfo, ShardResult, ClusterRecord, Formats}
+use Rattle.esr_model.specs.Shelf.{Shelved}
+use Rattle.esr_model.specs.Kept.{RootIds, first_id}
+use Rattle.esr_model.specs.Finalize.{finalized_root}
+use Rattle.esr_model.specs.Image.{Image, Blobs}
+use Rattle.esr_core.specs.World.{World, Op, ShardWork, Out, Done, Work, Shard, Finalize, Deleting, Drop, Ticket, Swap, AllDone, swap_of, marked, info_of, shelved_of, kept_deletes, opened}
+use Rattle.esr_core.specs.Ready.{Stopped, IsShard, IsMaster, ReadyDrop}
+use Rattle.esr_core.specs.Steps.{with_ticket, completing, final_ticket}
+use Rattle.esr_core.specs.Turns.{plain_ticket, fails}
+use Rattle.esr_core.specs.Entry.{AskedIndex, Snapshot, Given, GivenShard, GivenFinalize, GivenDrop, Step, Reply, Moment}
+use Rattle.esr_core.specs.After.{asked, asked_op, taken_by, taken_shard, with_given, change, committing, fetching, told_blob, done_of, done_by, failed_of, failed_by, is_stale, settled_of, dropped_of, tried, answered, blobs_in, after}
+use Rattle.esr_core.specs.Allowed as allowed
+use Rattle.esr_core.specs.Allowed.{Accepts, Gives, Settles, Fails, Drops, Dones, Allows, Allowed}
+use Rattle.esr_core.specs.History.{world_from, IsLegal}
+use Rattle.esr_core.specs.Tracked.{IsOneIndex, FinalTracked, Named, Tracked}
+use Rattle.esr_core.proofs.Reading.{some_same}
+use Rattle.esr_core.proofs.Results.{done_same, done_out}
+use Rattle.esr_core.proofs.Marked.{marked_is, marked_ref, marked_number}
+use Rattle.esr_core.proofs.Opening.{nothing}
+use Rattle.esr_core.proofs.Lists.{numbered_from}
+use Rattle.esr_core.proofs.Queues.{was_in}
+use Rattle.esr_core.proofs.Evolving.{out_same, pending_out, out_done, up_out, up_done, failed_is, failed_grows}
+use Rattle.esr_core.proofs.Moments.{moment, not_latest, shard_stale, master_stale, no_shard, settled_plain}
+use Rattle.esr_core.proofs.Naming.{named_left, named_root}
+use Rattle.esr_core.proofs.Tracking.{Follows, tracked_aside, tracked_ticket, tracked_new, tracked_drawn, tracked_elect}
+use Rattle.esr_core.proofs.TrackingOps.{goes_not_stopped, final_apart, tracked_asked, tracked_left}
+use Rattle.esr_core.proofs.TrackingGiven.{tracked_given}
+use Rattle.esr_core.proofs.TrackingEnds.{GoesOnPast, tracked_went}
+
+-- other blobs
+kept : (w : World) → Tracked w → (blobs : Blobs) → Tracked (record w { blobs = blobs })
+kept w l blobs = tracked_aside w l blobs w.safe w.pending w.completed w.doomed w.deposed
+
+-- a record swap that failed
+falls : (w up : World) → Tracked w → Tracked up → (b : Bool) (blobs : Blobs) → Tracked (record (if b then up else w) { deposed = true; blobs = blobs })
+falls w up l u true blobs = tracked_aside up u blobs up.safe up.pending up.completed up.doomed true
+falls w up l u false blobs = tracked_aside w l blobs w.safe w.pending w.completed w.doomed true
+
+-- a ticket that goes on with its own work
+quiet : (t : Ticket) (noted : List BlobName) (wrote read : List (BlobName × Bytes)) (raised : Option ℕ) (tried : Bool) (first drawn : ℕ) → Follows t (record t { noted = noted; wrote = wrote; read = read; raised = raised; tried_latest = tried; first = first; drawn = drawn })
+quiet t noted wrote read raised tried first drawn = record { work = refl; op = refl; uuid = refl; place = refl; name = refl; term = refl; root = refl; out = λ e. e; settled = λ e. e; shard = λ s e. e }
+
+-- one that ends, of no shard
+ended : (t : Ticket) → (IsShard t.work → ⊥) → Follows t (record t { out = false })
+ended t other = record { work = refl; op = refl; uuid = refl; place = refl; name = refl; term = refl; root = refl; out = λ e. absurd (true≢false (sym e)); settled = λ e. e; shard = λ s e. absurd (other s) }
+
+-- one that settles
+settles : (t : Ticket) → Follows t (record t { settled = true })
+settles t = record { work = refl; op = refl; uuid = refl; place = refl; name = refl; term = refl; root = refl; out = λ e. e; settled = λ e. absurd (true≢false e); shard = λ s e. e }
+
+shard_of : (work : Work) → IsShard work → (i : ℕ) × (n : ℕ) × (work ≡ Shard i n)
+shard_of (Shard i n) h = (i, n, refl)
+shard_of (Finalize info results made) h = absurd h
+shard_of (Deleting uuids plan) h = absurd h
+shard_of Drop h = absurd h
+
+module _ (f : Formats) (size : ℕ) (w : World) (l : Tracked w) where
+  changed : (k : ℕ) (t : Ticket) → fin.get w.tickets k ≡ Some t → (g : Ticket → Ticket) → Follows t (g t) → (g t).first + (g t).drawn ≤ w.next_id → Tracked (change w k g)
+  changed k t there g like drawn = subst (λ o. Tracked (with_given w k g o)) (sym there) (tracked_ticket w l k t (g t) there like drawn)
+
+  drew : (k : ℕ) (t : Ticket) → fin.get w.tickets k ≡ Some t → t.first + t.drawn ≤ w.next_id
+  drew k t there = (l.tickets k t there).2
+
+  -- ---- ask
+
+  asks : (name : Bytes) (indices : List AskedIndex) (time o : ℕ) → Accepts f w name indices time o → Tracked (asked w (Snapshot name indices time))
+  asks name indices time o a =
+      let v : World = record w { ops = fin.insert w.ops w.next_op (asked_op w name indices time); next_op = suc w.next_op; next_id = (asked w (Snapshot name indices time)).next_id } in
+      tracked_aside v (tracked_asked w l name indices time a.distinct a.unused a.fits) w.blobs w.safe w.pending (completing w.completed w.next_op (asked_op w name indices time).shards) w.doomed w.deposed
+
+  -- ---- take
+
+  final_same : (a b : SnapInfo) (rs qs : List ShardResult) (m n : Shelved) → Finalize a rs m ≡ Finalize b qs n → (a ≡ b) × (rs ≡ qs)
+  final_same a b rs qs m n e = (cc, cc)
+
+  final_drop : (a : SnapInfo) (rs : List ShardResult) (m : Shelved) → Finalize a rs m ≡ Drop → ⊥
+  final_drop a rs m e = cc
+
+  drop_final : (a : SnapInfo) (rs : List ShardResult) (m : Shelved) → Drop ≡ Finalize a rs m → ⊥
+  drop_final a rs m e = cc
+
+  gives_drop : (o : ℕ) → ReadyDrop w o → Tracked (record w { tickets = fin.insert w.tickets w.next_ticket (plain_ticket w o Drop); next_ticket = suc w.next_ticket })
+  gives_drop o ready =
+      tracked_new w l (plain_ticket w o Drop) (omega arith) (omega arith) (elim ready.stopped [ inl z ↦ l.numbers o z.0 z.1 | inr z ↦ l.delete_numbers o z.0 z.1 ]) (λ h. h)
+      (λ info rs made e. absurd (drop_final info rs made e))
+      (λ e. record {
+        stopped = λ op there. elim ready.stopped [ inl z ↦ subst Stopped (some_same _ _ (sym z.1 ∙ there)) z.2 | inr z ↦ absurd (l.apart o op z.0 there z.1) ];
+        idle = λ k u there out shard same. ready.idle k (record { t = u; there = there; out = out; op_is = same; counts = inl shard });
+      })
+      (λ h. absurd h)
+
+  gives : (o : ℕ) (unit : Given) → Gives f w o unit → Tracked (taken_by f w o unit (fin.get w.ops o))
+  gives o (GivenShard index number base) g =
+      subst (λ x. Tracked (taken_by f w o (GivenShard index number base) x)) (sym g.ready.op_there) (subst (λ x. Tracked (taken_shard w o g.op base x)) (sym g.found) (tracked_given w l o g.op g.s base g.ready))
+  gives o (GivenFinalize info results) g =
+      subst (λ x. Tracked (taken_by f w o (GivenFinalize info results) x)) (sym g.ready.op_there)
+      (tracked_new w l (final_ticket f w o g.op results) (omega arith) (omega arith) (l.numbers o g.op g.ready.op_there) (λ h. h)
+      (λ b rs made e.
+      let same = final_same (info_of g.op results) b results rs (shelved_of f g.op) made e in
+      record {
+        op = g.op;
+        op_there = g.ready.op_there;
+        done = subst (AllDone g.op.shards) same.1 g.ready.done;
+        goes = g.ready.goes;
+        uuid_is = refl;
+        info_is = sym same.0 ∙ ap (info_of g.op) same.1;
+        root_is = refl;
+      })
+      (λ e. absurd (final_drop (info_of g.op results) results (shelved_of f g.op) e))
+      (λ h k s. g.ready.no_swap k s))
+  gives o GivenDrop g = dropping (fin.get w.ops o)
+    where
+      dropping : (found : Option Op) → Tracked (taken_by f w o GivenDrop found)
+      dropping None = gives_drop o g
+      dropping (Some op) = gives_drop o g
+
+  -- ---- blobs
+
+  commits : (k : ℕ) (t : Ticket) → fin.get w.tickets k ≡ Some t → (name : BlobName) (o : Option Bytes) → Tracked (change w k (committing name o))
+  commits k t there name None = changed k t there (committing name None) (quiet t (name ∷ t.noted) t.wrote t.read t.raised t.tried_latest t.first t.drawn) (drew k t there)
+  commits k t there name (Some bytes) = changed k t there (committing name (Some bytes)) (quiet t (name ∷ t.noted) ((name, bytes) ∷ t.wrote) t.read t.raised t.tried_latest t.first t.drawn) (drew k t there)
+
+  fetches : (k : ℕ) (t : Ticket) → fin.get w.tickets k ≡ Some t → (name : BlobName) (o : Option Bytes) → Tracked (change w k (fetching name o))
+  fetches k t there name None = changed k t there (fetching name None) (quiet t t.noted t.wrote t.read t.raised t.tried_latest t.first t.drawn) (drew k t there)
+  fetches k t there name (Some bytes) = changed k t there (fetching name (Some bytes)) (quiet t t.noted t.wrote ((name, bytes) ∷ t.read) t.raised t.tried_latest t.first t.drawn) (drew k t there)
+
+  tries : (k : ℕ) (t : Ticket) → fin.get w.tickets k ≡ Some t → Tracked (tried w k)
+  tries k t there = changed k t there (λ (x : Ticket). record x { tried_latest = true }) (quiet t t.noted t.wrote t.read t.raised true t.first t.drawn) (drew k t there)
+
+  raises : (k : ℕ) (t : Ticket) → fin.get w.tickets k ≡ Some t → Tracked (record (change w k (λ (x : Ticket). record x { raised = Some w.pending })) { pending = suc w.pending })
+  raises k t there =
+      let v : World = change w k (λ (x : Ticket). record x { raised = Some w.pending }) in
+      tracked_aside v (changed k t there (λ (x : Ticket). record x { raised = Some w.pending }) (quiet t t.noted t.wrote t.read (Some w.pending) t.tried_latest t.first t.drawn) (drew k t there)) v.blobs v.safe (suc w.pending) v.completed v.doomed v.deposed
+
+  draws : (k n : ℕ) (t : Ticket) → fin.get w.tickets k ≡ Some t → w.next_id + n < first_id (suc w.term) → Tracked (record (change w k (λ (x : Ticket). record x { first = w.next_id; drawn = n })) { next_id = w.next_id + n })
+  draws k n t there fits =
+      subst (λ o. Tracked (record (with_given w k (λ (x : Ticket). record x { first = w.next_id; drawn = n }) o) { next_id = w.next_id + n })) (sym there)
+      (tracked_ticket (record w { next_id = w.next_id + n }) (tracked_drawn w l n fits) k t (record t { first = w.next_id; drawn = n }) there (quiet t t.noted t.wrote t.read t.raised t.tried_latest w.next_id n) (omega arith))
+
+  -- ---- done and failed
+
+  marks : (k : ℕ) (r : ShardResult) → GoesOnPast k (marked k (Done r))
+  marks k r =
+      record {
+        ref = marked_ref k (Done r);
+        number = marked_number k (Done r);
+        stays = λ s j e away. elim (marked_is k (Done r) s) [ inl h ↦ absurd (away (out_same (sym e ∙ h.state))) | inr h ↦ h.is ];
+        outs = λ s j e. elim (marked_is k (Done r) s) [
+          | inl h ↦ absurd (out_done (sym e ∙ ap (λ (x : ShardWork). x.state) h.is))
+          | inr h ↦ (h.is, λ q. h.not_held (sym (ap (λ (x : ShardWork). x.state) h.is) ∙ e ∙ ap Out q))
+        ];
+      }
+
+  does : (k : ℕ) (r : ShardResult) (image : Option Image) → Dones f size w k r image → Tracked (done_of w k r (fin.get w.tickets k))
+  does k r image d =
+      let shards : List ShardWork = map (marked k (Done r)) d.op.shards in
+      let v : World = record w { ops = fin.insert w.ops d.t.op (record d.op { shards = shards }); tickets = fin.insert w.tickets k (record d.t { out = false }) } in
+      subst (λ x. Tracked (done_of w k r x)) (sym d.out.there) (subst (λ x. Tracked (done_by w k r d.t x)) (sym d.op_there)
+      (tracked_aside v (tracked_went w l k d.t d.out d.op d.op_there (marked k (Done r)) d.op.failed (λ e. e) (marks k r) marked_done aside) w.blobs w.safe w.pending (completing w.completed d.t.op shards) w.doomed w.deposed))
+    where
+      shard_same : {a b i j : ℕ} → Shard a b ≡ Shard i j → (a ≡ i) × (b ≡ j)
+      shard_same e = (cc, cc)
+
+      marked_done : (s : ShardWork) (q : ShardResult) → Has d.op.shards s → (marked k (Done r) s).state ≡ Done q → (s.state ≡ Done q) ⊎ ((q.index ≡ s.ref.id) × (q.shard ≡ s.number) × (q.generation < w.next_id))
+      marked_done s q m e = elim (marked_is k (Done r) s) [
+        | inr h ↦ inl (sym (ap (λ (x : ShardWork). x.state) h.is) ∙ e)
+        | inl h ↦
+            let x = l.held d.t.op d.op s k d.op_there m h.state in
+            let work : Shard s.ref.id s.number ≡ Shard r.index r.shard = sym x.work ∙ ap (λ (y : Ticket). y.work) (some_same _ _ (sym x.there ∙ d.out.there)) ∙ d.is in
+            let same = shard_same work in
+            let one : r ≡ q = done_same _ _ (sym (ap (λ (y : ShardWork). y.state) h.is) ∙ e) in
+            let below : r.generation < w.next_id = (let a : r.generation < d.t.first + d.t.drawn = d.drew.below in let b : d.t.first + d.t.drawn ≤ w.next_id = drew k d.t d.out.there in omega (arith, a, b)) in
+            inr (subst (λ (y : ShardResult). (y.index ≡ s.ref.id) × (y.shard ≡ s.number) × (y.generation < w.next_id)) one (sym same.0, sym same.1, below))
+      ]
+
+      aside : (j : ℕ) (u : Ticket) (info : SnapInfo) (results : List ShardResult) (made : Shelved) → j ≢ k → fin.get w.tickets j ≡ Some u → u.out ≡ true → u.settled ≡ false → u.term ≡ w.term → u.work ≡ Finalize info results made → u.op ≢ d.t.op
+      aside j u info results made away e out uns pres is =
+          final_apart w l d.op d.s d.s_there (λ q state. done_out q k (sym state ∙ d.state)) d.t.op d.op_there u info results (l.finals j u info results made e out uns pres is)
+
+  gives_up : (k : ℕ) → GoesOnPast k (fails k)
+  gives_up k =
+      record {
+        ref = λ s. (failed_grows k s).ref;
+        number = λ s. (failed_grows k s).number;
+        stays = λ s j e away. elim (failed_is k s) [ inl h ↦ absurd (elim h.0 [ inl p ↦ pending_out (sym p ∙ e) | inr q ↦ away (out_same (sym e ∙ q)) ]) | inr h ↦ h.2 ];
+        outs = λ s j e. elim (failed_is k s) [
+          | inl h ↦ absurd (up_out (sym (ap (λ (x : ShardWork). x.state) h.1) ∙ e))
+          | inr h ↦ (h.2, λ q. h.1 (sym (ap (λ (x : ShardWork). x.state) h.2) ∙ e ∙ ap Out q))
+        ];
+      }
+
+  -- the op of a unit fails, where no other finalization of it is out
+  fails_op : (k : ℕ) (c : Fails w k) → fin.get w.ops c.t.op ≡ Some c.op
+      → ((j : ℕ) (u : Ticket) (info : SnapInfo) (results : List ShardResult) (made : Shelved) → j ≢ k → fin.get w.tickets j ≡ Some u → u.out ≡ true → u.settled ≡ false → u.term ≡ w.term → u.work ≡ Finalize info results made → u.op ≢ c.t.op)
+      → Tracked (failed_by w k c.t (fin.get w.ops c.t.op))
+  fails_op k c there aside =
+      subst (λ x. Tracked (failed_by w k c.t x)) (sym there) (tracked_went w l k c.t c.out c.op there (fails k) true (λ e. refl) (gives_up k) (λ s r m e. inl (failed_done s r e)) aside)
+    where
+      failed_done : (s : ShardWork) (r : ShardResult) → (fails k s).state ≡ Done r → s.state ≡ Done r
+      failed_done s r e = elim (failed_is k s) [ inr h ↦ sym (ap (λ (y : ShardWork). y.state) h.2) ∙ e | inl h ↦ absurd (up_done (sym (ap (λ (y : ShardWork). y.state) h.1) ∙ e)) ]
+
+  fails_by : (k : ℕ) (c : Fails w k) → (b : Bool) → is_stale w c.t c.t.work ≡ b → Tracked (if b then with_ticket w k (record c.t { out = false }) else failed_by w k c.t (fin.get w.ops c.t.op)) → Tracked (failed_of w k (fin.get w.tickets k))
+  fails_by k c b is h =
+      subst (λ x. Tracked (failed_of w k x)) (sym c.out.there) (subst (λ x. Tracked (if x then with_ticket w k (record c.t { out = false }) else failed_by w k c.t (fin.get w.ops c.t.op))) (sym is) h)
+
+  fails_step : (k : ℕ) → Fails w k → Tracked (failed_of w k (fin.get w.tickets k))
+  fails_step k c = elim c.unit [
+    | inl shard ↦ fails_by k c false (shard_stale f w c.t c.t.work shard) (fails_op k c (c.op_there (inl shard)) (of_shard shard))
+    | inr master ↦ elim (eqb_tells c.t.term w.term) [
+      | inl e ↦ fails_by k c false (master_stale f w c.t c.t.work master ∙ ap (λ (b : Bool). if b then false else true) e.0) (fails_op k c (c.op_there (inr e.1)) (of_master master e.1))
+      | inr e ↦ fails_by k c true (master_stale f w c.t c.t.work master ∙ ap (λ (b : Bool). if b then false else true) e.0)
+          (tracked_ticket w l k c.t (record c.t { out = false }) c.out.there (ended c.t (no_shard f w c.t.work master)) (drew k c.t c.out.there))
+    ]
+  ]
+    where
+      of_shard : IsShard c.t.work → (j : ℕ) (u : Ticket) (info : SnapInfo) (results : List ShardResult) (made : Shelved) → j ≢ k → fin.get w.tickets j ≡ Some u → u.out ≡ true → u.settled ≡ false → u.term ≡ w.term → u.work ≡ Finalize info results made → u.op ≢ c.t.op
+      of_shard shard j u info results made away e out uns pres is =
+          let (i, n, work) = shard_of c.t.work shard in
+          let x = l.shards k c.t i n c.out.there c.out.out work in
+          final_apart w l x.op x.s x.s_there (λ q state. done_out q k (sym state ∙ x.state)) c.t.op x.op_there u info results (l.finals j u info results made e out uns pres is)
+
+      of_master : IsMaster c.t.work → c.t.term ≡ w.term → (j : ℕ) (u : Ticket) (info : SnapInfo) (results : List ShardResult) (made : Shelved) → j ≢ k → fin.get w.tickets j ≡ Some u → u.out ≡ true → u.settled ≡ false → u.term ≡ w.term → u.work ≡ Finalize info results made → u.op ≢ c.t.op
+      of_master master present j u info results made away e out uns pres is =
+          absurd (away (l.one_swap j k (record { t = u; there = e; out = out; unsettled = uns; present = pres; swaps = subst IsMaster (sym is) tt }) (record { t = c.t; there = c.out.there; out = c.out.out; unsettled = c.unsettled; present = present; swaps = master })))
+
+  -- ---- settled and dropped
+
+  settles_step : (k : ℕ) → Settles f w k → Tracked (settled_of f w k (fin.get w.tickets k))
+  settles_step k s =
+      let v : World = record w { tickets = fin.insert w.tickets k (record s.t { settled = true }) } in
+      let x : World = record v { root = s.s.root; ops = fin.remove w.ops s.t.op; deletes = fin.remove w.deletes s.t.op } in
+      subst Tracked (sym (settled_plain f w k s))
+      (tracked_aside x (tracked_left v (tracked_ticket w l k s.t (record s.t { settled = true }) s.may.out.there (settles s.t) (drew k s.t s.may.out.there)) s.t.op s.s.root named shards finals) w.blobs (suc s.n) w.pending w.completed w.doomed w.deposed)
+    where
+      it : FinalTracked w.root w.ops s.t s.info s.results
+      it = l.finals k s.t s.info s.results s.made s.may.out.there s.may.out.out s.may.unsettled s.present s.work
+
+      root_is : s.s.root ≡ finalized_root w.root (info_of it.op s.results) s.results
+      root_is = sym (ap (λ (y : Swap). y.root) (some_same _ _ (sym (ap (λ y. swap_of f y s.t.root) s.work) ∙ s.may.is))) ∙ (λ j. finalized_root (it.root_is j) (it.info_is j) s.results)
+
+      named : Named s.s.root (fin.remove w.ops s.t.op) w.next_id
+      named = subst (λ r. Named r (fin.remove w.ops s.t.op) w.next_id) (sym root_is) (named_root w.root w.ops w.next_id l.named s.t.op it.op it.op_there s.results it.done)
+
+      shards : (j : ℕ) (u : Ticket) → fin.get (fin.insert w.tickets k (record s.t { settled = true })) j ≡ Some u → u.out ≡ true → IsShard u.work → u.op ≢ s.t.op
+      shards j u e out shard same = elim (was_in w.tickets k (record s.t { settled = true }) j u e) [
+        | inl h ↦ subst IsShard (ap (λ (y : Ticket). y.work) (sym h.1) ∙ s.work) shard
+        | inr h ↦
+            let (i, n, work) = shard_of u.work shard in
+            let y = l.shards j u i n h.1 out work in
+            final_apart w l y.op y.s y.s_there (λ q state. done_out q j (sym state ∙ y.state)) u.op y.op_there s.t s.info s.results it (sym same)
+      ]
+
+      finals : (j : ℕ) (u : Ticket) (info : SnapInfo) (results : List ShardResult) (made : Shelved) → fin.get (fin.insert w.tickets k (record s.t { settled = true })) j ≡ Some u → u.out ≡ true → u.settled ≡ false → u.term ≡ w.term → u.work ≡ Finalize info results made
+          → (u.op ≢ s.t.op) × (s.s.root ≡ w.root)
+      finals j u info results made e out uns pres is = elim (was_in w.tickets k (record s.t { settled = true }) j u e) [
+        | inl h ↦ absurd (true≢false (ap (λ (y : Ticket). y.settled) h.1 ∙ uns))
+        | inr h ↦ absurd (h.0 (l.one_swap j k (record { t = u; there = h.1; out = out; unsettled = uns; present = pres; swaps = subst IsMaster (sym is) tt })
+            (record { t = s.t; there = s.may.out.there; out = s.may.out.out; unsettled = s.may.unsettled; present = s.present; swaps = subst IsMaster (sym s.work) tt })))
+      ]
+
+  drops_step : (k : ℕ) → Drops w k → Tracked (dropped_of w k (fin.get w.tickets k))
+  drops_step k d =
+      let v : World = record w { tickets = fin.insert w.tickets k (record d.may.t { out = false }) } in
+      subst (λ x. Tracked (dropped_of w k x)) (sym d.may.out.there)
+      (tracked_left v (tracked_ticket w l k d.may.t (record d.may.t { out = false }) d.may.out.there (ended d.may.t (λ h. subst IsShard d.may.work h)) (drew k d.may.t d.may.out.there)) d.may.t.op w.root (named_left w.root w.ops w.next_id d.may.t.op l.named) shards finals)
+    where
+      out_was : (j : ℕ) (u : Ticket) → fin.get (fin.insert w.tickets k (record d.may.t { out = false })) j ≡ Some u → u.out ≡ true → fin.get w.tickets j ≡ Some u
+      out_was j u e out = elim (was_in w.tickets k (record d.may.t { out = false }) j u e) [ inl h ↦ absurd (true≢false (sym out ∙ ap (λ (y : Ticket). y.out) (sym h.1))) | inr h ↦ h.1 ]
+
+      shards : (j : ℕ) (u : Ticket) → fin.get (fin.insert w.tickets k (record d.may.t { out = false })) j ≡ Some u → u.out ≡ true → IsShard u.work → u.op ≢ d.may.t.op
+      shards j u e out shard = (l.drops k d.may.t d.may.out.there d.may.out.out d.present d.may.work).idle j u (out_was j u e out) out shard
+
+      finals : (j : ℕ) (u : Ticket) (info : SnapInfo) (results : List ShardResult) (made : Shelved) → fin.get (fin.insert w.tickets k (record d.may.t { out = false })) j ≡ Some u → u.out ≡ true → u.settled ≡ false → u.term ≡ w.term → u.work ≡ Finalize info results made
+          → (u.op ≢ d.may.t.op) × (w.root ≡ w.root)
+      finals j u info results made e out uns pres is =
+          let y = l.finals j u info results made (out_was j u e out) out uns pres is in
+          let x = l.drops k d.may.t d.may.out.there d.may.out.out d.present d.may.work in
+          ((λ same. goes_not_stopped y.op y.goes (x.stopped y.op (ap (fin.get w.ops) (sym same) ∙ y.op_there))), refl)
+
+  -- ---- each answer
+
+  tracked_by : (who : ℕ) (step : Step) (reply : Reply) (image : Option Image) → Allows f size w who step reply image → Tracked (after f w (moment who step reply image))
+  tracked_by who step reply image (allowed.Accepting name indices time o im acc same) = kept _ (asks name indices time o acc) (blobs_in im w.blobs)
+  tracked_by who step reply image (allowed.GivingNothing im none same) = kept w l (blobs_in im w.blobs)
+  tracked_by who step reply image (allowed.Giving k o unit im is lowest g same) = kept _ (gives o unit g) (blobs_in im w.blobs)
+  tracked_by who step reply image (allowed.Drawing k n first im d same) = kept _ (draws k n d.may.t d.may.out.there d.fits) (blobs_in im w.blobs)
+  tracked_by who step reply image (allowed.Beginning k name im c same) = kept w l (blobs_in im w.blobs)
+  tracked_by who step reply image (allowed.BeginningLatest k im c same) = kept w l (blobs_in im w.blobs)
+  tracked_by who step reply image (allowed.Committing k name im c adds) = kept _ (commits k c.t c.out.there name (told_blob f im name)) (blobs_in im w.blobs)
+  tracked_by who step reply image (allowed.Finding k name im c found) = kept _ (commits k c.t c.out.there name None) (blobs_in im w.blobs)
+  tracked_by who step reply image (allowed.Replacing k im c named puts) = kept _ (tries k c.t c.out.there) (blobs_in im w.blobs)
+  tracked_by who step reply image (allowed.Fetching k name im g found) = kept _ (fetches k g.t g.out.there name (told_blob f im name)) (blobs_in im w.blobs)
+  tracked_by who step reply image (allowed.Missing k name im g found) = kept w l (blobs_in im w.blobs)
+  tracked_by who step reply image (allowed.Listing k im t out same) = kept w l (blobs_in im w.blobs)
+  tracked_by who step reply image (allowed.Raising k n im r same) = kept _ (raises k r.may.t r.may.out.there) (blobs_in im w.blobs)
+  tracked_by who step reply image (allowed.Settling k im s same) = kept _ (settles_step k s) (blobs_in im w.blobs)
+  tracked_by who step reply image (allowed.Doing k r im d same) = kept _ (does k r im d) (blobs_in im w.blobs)
+  tracked_by who step reply image (allowed.Failing k why im c same) = kept _ (fails_step k c) (blobs_in im w.blobs)
+  tracked_by who step reply image (allowed.Finishing k im c same) = kept _ (changed k c.t c.out.there (λ (t : Ticket). record t { out = false }) (ended c.t c.no_shard) (drew k c.t c.out.there)) (blobs_in im w.blobs)
+  tracked_by who step reply image (allowed.Dropping k im c same) = kept _ (drops_step k c) (blobs_in im w.blobs)
+  tracked_by who step reply image (allowed.Electing im room same) = kept _ (tracked_elect w l) (blobs_in im w.blobs)
+  tracked_by who step reply image (allowed.Looking im same) = kept w l (blobs_in im w.blobs)
+  tracked_by who step reply image (allowed.Cleaning c d x im there clean same) = kept w l (blobs_in im w.blobs)
+  tracked_by who step reply image (allowed.Used name indices time uuid im clear is same) = kept w l (blobs_in im w.blobs)
+  tracked_by who step reply image (allowed.Full name indices time im clear unused full same) = kept w l (blobs_in im w.blobs)
+  tracked_by who step reply image (allowed.AskSpent name indices time im clear unused room spent same) = kept w l (blobs_in im w.blobs)
+  tracked_by who step reply image (allowed.DrawSpent k n im may spent same) = kept w l (blobs_in im w.blobs)
+  tracked_by who step reply image (allowed.RaiseStale k im may apart same) = kept w l (blobs_in im w.blobs)
+  tracked_by who step reply image (allowed.SettleStale k n t s im may apart same) = kept w l (blobs_in im w.blobs)
+  tracked_by who step reply image (allowed.DropStale k im may apart same) = kept w l (blobs_in im w.blobs)
+  tracked_by who step reply image (allowed.RaiseSpent k im may present spent same) = kept w l (blobs_in im w.blobs)
+  tracked_by who step reply image (allowed.ElectSpent im spent same) = kept w l (blobs_in im w.blobs)
+  tracked_by who step reply image (allowed.Taken k name im c aside found) = kept w l (blobs_in im w.blobs)
+  tracked_by who step reply image (allowed.BeginFails k name im c same) = subst (λ (b : Bool). Tracked (record (if b then tried w k else w) { blobs = blobs_in im w.blobs })) (sym (not_latest name c.named.1)) (kept w l (blobs_in im w.blobs))
+  tracked_by who step reply image (allowed.BeginLatestFails k im c same) = kept _ (tries k c.t c.out.there) (blobs_in im w.blobs)
+  tracked_by who step reply image (allowed.CommitFails k name im c leaves) = kept w l (blobs_in im w.blobs)
+  tracked_by who step reply image (allowed.ReplaceFails k im c named puts) = kept _ (tries k c.t c.out.there) (blobs_in im w.blobs)
+  tracked_by who step reply image (allowed.FetchFails k name im g same) = kept w l (blobs_in im w.blobs)
+  tracked_by who step reply image (allowed.ListFails k im t out same) = kept w l (blobs_in im w.blobs)
+  tracked_by who step reply image (allowed.AskFails name indices time im acc same) = falls w _ l (asks name indices time w.next_op acc) _ (blobs_in im w.blobs)
+  tracked_by who step reply image (allowed.RaiseFails k im r same) = falls w _ l (raises k r.may.t r.may.out.there) _ (blobs_in im w.blobs)
+  tracked_by who step reply image (allowed.SettleFails k im s same) = falls w _ l (settles_step k s) _ (blobs_in im w.blobs)
+  tracked_by who step reply image (allowed.DropFails k im c same) = falls w _ l (drops_step k c) _ (blobs_in im w.blobs)
+  tracked_by who step reply image (allowed.ElectFails im room same) = falls w _ l (tracked_elect w l) _ (blobs_in im w.blobs)
+
+pub tracked_step : (f : Formats) (size : ℕ) (w : World) (m : Moment) → Tracked w → Allowed f size w m → Tracked (after f w m)
+tracked_step f size w m l a = elim a.answered [
+  | inl alive ↦ tracked_by f size w l m.entry.who m.entry.step m.entry.reply m.image alive.1
+  | inr dead ↦ subst (λ reply. Tracked (record (answered f w m.entry.who m.entry.step reply m.image) { blobs = blobs_in m.image w.blobs })) (sym dead.refused) (kept w l (blobs_in m.image w.blobs))
+]
+
+pub tracked_history : (f : Formats) (size : ℕ) (log : List Moment) (w : World) → Tracked w → IsLegal f size w log → Tracked (world_from f w log)
+tracked_history f size [] w l legal = l
+tracked_history f size (m ∷ log) w l legal = tracked_history f size log (after f w m) (tracked_step f size w m l legal.0) legal.1
+
+-- the world that opening makes
+pub tracked_opened : (blobs : Blobs) (cluster : ClusterRecord) (root : RootData) → RootIds root (first_id (suc cluster.ledger.term))
+    → ((x y : RootIndex) → Has root.indices x → Has root.indices y → IsOneIndex x.name x.id y.name y.id) → Tracked (opened blobs cluster root)
+tracked_opened blobs cluster root ids one =
+    record {
+      numbers = λ o op e. absurd (nothing o op e);
+      delete_numbers = λ d x e. let (below, clean, from) = numbered_from 1 (kept_deletes cluster.ops) d x e in let b : d < 1 + length (kept_deletes cluster.ops) = below in omega (arith, b);
+      apart = λ o op x e. absurd (nothing o op e);
+      tickets = λ k t e. absurd (nothing k t e);
+      begun = λ k t e. absurd (nothing k t e);
+      first_ticket = omega arith;
+      shards = λ k t i n e. absurd (nothing k t e);
+      held = λ o op s j e. absurd (nothing o op e);
+      finals = λ k t info rs made e. absurd (nothing k t e);
+      drops = λ k t e. absurd (nothing k t e);
+      one_swap = λ i j a. absurd (nothing i a.t a.there);
+      named = record {
+        unlisted = λ o op s e. absurd (nothing o op e);
+        apart = λ o p a b e. absurd (nothing o a e);
+        unused = λ o op x e. absurd (nothing o op e);
+        indices = λ o p a b r q e. absurd (nothing o a e);
+        once = λ o op r q e. absurd (nothing o op e);
+        rooted = λ o op r x e. absurd (nothing o op e);
+        root_indices = one;
+        shards = λ o op e. absurd (nothing o op e);
+        distinct = λ o op s z e. absurd (nothing o op e);
+        results = λ o op s r e. absurd (nothing o op e);
+        below = λ o op e. absurd (nothing o op e);
+        root_below = ids;
+      };
+      in_term = record { from = omega arith; below = omega arith };
+    }
