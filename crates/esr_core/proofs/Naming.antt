@@ -204,9 +204,6 @@ module _ (w : World) (n : Named w.root w.ops w.next_id) (name : Bytes) (indices 
   abbrev op : Op
   op = asked_op w name indices moment
 
-  abbrev refs : List IndexRef
-  refs = refs_from w (suc w.next_id) indices
-
   known_below : (r : IndexRef) → IsKnownId w r → r.id < w.next_id
   known_below r (inl k) = subst (λ x. x < w.next_id) k.3 (n.root_below.ids k.0 k.1)
   known_below r (inr k) = let (p, q, z, there, zm, zn, zi) = k in subst (λ x. x < w.next_id) zi ((n.below p q there).indices z zm)

@@ -10,7 +10,7 @@ use Rattle.esr_core.specs.World.{World, Finalize, Drop, Ticket}
 use Rattle.esr_core.specs.Ready.{IsShard, IsMaster, SwapIsOut}
 use Rattle.esr_core.specs.Tracked.{ShardTracked, FinalTracked, DropTracked, Tracked}
 use Rattle.esr_core.proofs.Reading.{some_same}
-use Rattle.esr_core.proofs.Queues.{Ops, Tickets, was_in, same_in, other_in, split_at}
+use Rattle.esr_core.proofs.Queues.{Ops, was_in, same_in, other_in, split_at}
 use Rattle.esr_core.proofs.Naming.{named_up}
 
 -- what isn't read of a world
@@ -67,9 +67,6 @@ shard_follows ops j t v i n f h =
     }
 
 module _ (w : World) (l : Tracked w) (k : ℕ) (t v : Ticket) (there : fin.get w.tickets k ≡ Some t) (like : Follows t v) (drawn : v.first + v.drawn ≤ w.next_id) where
-  abbrev tickets : Tickets
-  tickets = fin.insert w.tickets k v
-
   -- each ticket follows one that was
   was : (j : ℕ) (u : Ticket) → fin.get (fin.insert w.tickets k v) j ≡ Some u → (x : Ticket) × (fin.get w.tickets j ≡ Some x) × Follows x u
   was j u e = elim (was_in w.tickets k v j u e) [ inl h ↦ (t, ap (fin.get w.tickets) h.0 ∙ there, subst (Follows t) h.1 like) | inr h ↦ (u, h.1, follows_same u) ]
