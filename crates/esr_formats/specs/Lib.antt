@@ -1,0 +1,12 @@
+pub mod Ids
+pub mod Kinds
+pub mod Names
+pub mod Refs
+pub mod Roots
+pub mod OneEach
+pub mod Infos
+pub mod Globals
+pub mod IndexMetas
+pub mod Shards
+pub mod Clusters
+pub mod Formats
