@@ -58,3 +58,4 @@ pub mod TrackingOps
 pub mod TrackingGiven
 pub mod TrackingEnds
 pub mod TrackingSteps
+pub mod Recording

@@ -24,7 +24,7 @@ ghost use Rattle.std.specs.Ordering.{nat_cmp};
 ghost use Rattle.esr_core.specs.Turns.{Turn, Turns, commands_of};
 ghost use Rattle.esr_core.specs.Doomed.{Dooms};
 ghost use Rattle.esr_core.specs.Entry.{Moment, Refused, StaleTerm};
-ghost use Rattle.esr_core.specs.After.{after};
+ghost use Rattle.esr_core.specs.After.{swaps_record, after};
 ghost use Rattle.esr_core.specs.Example.{CanWrite, HasSnapshot};
 ghost use Rattle.esr_core.specs.Allowed.{SameBlobs, Allowed};
 ghost use Rattle.esr_core.specs.History.{world_from, IsLegal, AllKnown, AreTold, AreHonest, committed, Lasts};
@@ -171,4 +171,9 @@ pub fn each_step_is_tracked()
 /// And so does each legal history.
 pub fn each_history_is_tracked()
     ensures { (f : Formats) (part_size : ℕ) (w : World) (log : List Moment) → Tracked w → IsLegal f part_size w log → Tracked (world_from f w log) }
+{}
+
+/// A step that doesn't swap the record leaves it, whatever it answers and whatever the container tells.
+pub fn the_record_stays()
+    ensures { (f : Formats) (w : World) (m : Moment) → swaps_record m.entry.step ≡ false → record_of (after f w m) ≡ record_of w }
 {}
