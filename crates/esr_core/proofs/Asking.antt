@@ -1,21 +1,19 @@
 -- A command that is accepted keeps the law.
-use Rattle.std.proofs.Common.{◌≡◌, ◌≢◌, ◌⊎◌, ℕ, suc, ◌<◌, List, [], ◌∷◌, Bool, true, false, true≢false, Option, Some, None, map, refl, sym, ap, ◌∙◌, subst, inl, inr, arith, nat_cmp}
-use Rattle.std.specs.FinMap.{FinMap}
+use Rattle.std.proofs.Common.{◌≡◌, ◌⊎◌, ℕ, ◌<◌, List, [], true, false, true≢false, Option, Some, None, refl, sym, ap, ◌∙◌, subst, inl, inr, arith}
 use Rattle.std.specs.FinMap as fin
 use Rattle.esr_model.specs.Names.{BlobName}
-use Rattle.esr_model.specs.Values.{Bytes, IndexRef, RootData, SnapInfo, ShardResult, Formats}
+use Rattle.esr_model.specs.Values.{Bytes, IndexRef, RootData, Formats}
 use Rattle.esr_model.specs.Shelf.{Shelved}
 use Rattle.esr_model.specs.Image.{Has}
-use Rattle.esr_core.specs.World.{World, Op, Deletion, ShardWork, Pending, Out, Done, GivenUp, Shard, Finalize, Deleting, Drop, Ticket, AllDone, HeldIn, info_of, shelved_of}
-use Rattle.esr_core.specs.Ready.{IsMaster, Stopped, SwapIsOut}
+use Rattle.esr_core.specs.World.{World, Op, ShardWork, Out, Ticket, AllDone, HeldIn, info_of, shelved_of}
+use Rattle.esr_core.specs.Ready.{Stopped}
 use Rattle.esr_core.specs.Steps.{completing}
 use Rattle.esr_core.specs.Turns.{AskCreate, AskCleanup, IsApart, AskDelete, MergeDelete, Aborts}
-use Rattle.esr_core.specs.Generations.{DoneAt, IsLive, Carries, Base, OpLaw, ShardLaw, FinalLaw, Together, Carried}
-use Rattle.esr_core.specs.Sound.{Sound}
-use Rattle.esr_core.specs.Queue.{Queue, QueueIn, Lawful}
+use Rattle.esr_core.specs.Generations.{DoneAt, IsLive, Carries, Base, OpLaw, Together, Carried}
+use Rattle.esr_core.specs.Queue.{Queue, Lawful}
 use Rattle.esr_core.proofs.Reading.{some_same}
 use Rattle.esr_core.proofs.Ordered.{shard_ref}
-use Rattle.esr_core.proofs.Queues.{Ops, Deletes, was_in, same_in, other_in, split_at, Evolves, queue_ops, queued_back, queue_add, queue_add_delete, queue_delete}
+use Rattle.esr_core.proofs.Queues.{Ops, was_in, other_in, Evolves, queue_ops, queued_back, queue_add, queue_add_delete, queue_delete}
 use Rattle.esr_core.proofs.Evolving.{pending_out, pending_done, completing_has, completing_more, completing_was, results_of}
 
 -- ops of which each is as one that was, in all that shards read, and no more is done

@@ -1,21 +1,18 @@
 -- Ids stay below the counter.
-use Rattle.std.proofs.Common.{◌≡◌, ◌≢◌, ◌⊎◌, ℕ, suc, ◌+◌, ◌<◌, ◌≤◌, List, [], ◌∷◌, ◌++◌, Bool, true, false, true≢false, Option, Some, None, map, refl, sym, ap, ◌∙◌, subst, inl, inr, arith, nat_cmp, le_refl}
-use Rattle.std.specs.FinMap.{FinMap}
+use Rattle.std.proofs.Common.{◌≡◌, ◌⊎◌, ℕ, ◌+◌, ◌<◌, ◌≤◌, List, ◌++◌, true, Option, Some, None, refl, sym, ap, ◌∙◌, subst, inl, inr, arith}
 use Rattle.std.specs.FinMap as fin
 use Rattle.esr_model.specs.Names.{BlobName, Root, Latest, Snap, Meta, IndexMeta, ShardSnap, ShardIndex, File, Part, TestMaster, TestNode}
-use Rattle.esr_model.specs.Values.{Bytes, IndexRef, RootSnap, RootIndex, RootData, FileEntry, SnapInfo, ShardResult, Formats}
+use Rattle.esr_model.specs.Values.{Bytes, IndexRef, RootIndex, RootData, ShardResult, Formats}
 use Rattle.esr_model.specs.Shelf.{Shelved}
-use Rattle.esr_model.specs.Image.{Blobs, Has, At, Present, Generation}
-use Rattle.esr_core.specs.World.{World, Op, ShardWork, Pending, Out, Done, Work, Shard, Finalize, Deleting, Drop, Ticket, Swap, swap, swap_of, HeldIn, metadata, info_of}
+use Rattle.esr_model.specs.Image.{Blobs, Has, Present}
+use Rattle.esr_core.specs.World.{World, Op, Ticket, HeldIn, metadata, info_of}
 use Rattle.esr_core.specs.Ready.{IsShard}
-use Rattle.esr_core.specs.Steps.{Drew, MayCommit, ShardCommits, IsOut}
+use Rattle.esr_core.specs.Steps.{Drew, MayCommit, ShardCommits}
 use Rattle.esr_core.specs.Turns.{IsApart, AskCreate}
-use Rattle.esr_core.specs.Generations.{BaseBelow, OpLaw, Together, Carried}
-use Rattle.esr_core.specs.Ids.{OfUuid, OfId, TicketIds, OpIds, DoomedIds, Ids, IdsIn, Law}
+use Rattle.esr_core.specs.Generations.{BaseBelow, Carried}
+use Rattle.esr_core.specs.Ids.{OfUuid, OfId, TicketIds, OpIds, DoomedIds, Ids, Law}
 use Rattle.esr_model.specs.Kept.{IdsBelow, RootIds}
-use Rattle.esr_core.specs.Queue.{Lawful}
-use Rattle.esr_core.proofs.Reading.{some_same, none_some}
-use Rattle.esr_core.proofs.Adds.{at_was, added}
+use Rattle.esr_core.proofs.Reading.{some_same}
 use Rattle.esr_core.proofs.Take.{Kinds, IsSnap, IsMeta, IsIndex, kinds}
 use Rattle.esr_core.proofs.Queues.{Ops, Tickets, was_in, split_at}
 

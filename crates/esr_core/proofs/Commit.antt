@@ -2,7 +2,7 @@
 use Rattle.std.proofs.Common.{◌≡◌, ℕ, ◌<◌, ◌≤◌, List, ◌∷◌, true, Some, None, sym, ap, ◌∙◌, subst, inl, inr, arith}
 use Rattle.std.specs.FinMap as fin
 use Rattle.esr_model.specs.Names.{BlobName, Root}
-use Rattle.esr_model.specs.Values.{Bytes, Ledger, ReadsBack, Formats}
+use Rattle.esr_model.specs.Values.{Bytes, Ledger, Formats}
 use Rattle.esr_model.specs.Shelf.{Shelved, shelf_after}
 use Rattle.esr_model.specs.Image.{IsStored, Blobs, Has, At, Whole, RootStands}
 use Rattle.esr_core.specs.World.{World, Ticket, Swap, swap, ledger_of, HeldIn, Safely}

@@ -1,13 +1,13 @@
 -- Where an op is open and no ticket is out, some unit is ready.
-use Rattle.std.proofs.Common.{◌≡◌, ◌≢◌, ◌⊎◌, ℕ, zero, suc, ◌<◌, ◌≤◌, List, [], ◌∷◌, Bool, true, false, true≢false, Option, Some, None, refl, sym, ap, ◌∙◌, subst, inl, inr, arith, nat_cmp}
+use Rattle.std.proofs.Common.{◌≡◌, ◌⊎◌, ℕ, zero, suc, ◌<◌, List, [], ◌∷◌, Bool, true, false, true≢false, Option, Some, None, refl, sym, ap, ◌∙◌, subst, inl, inr, arith, nat_cmp}
 use Rattle.std.proofs.lemmas.Bool.{cases_order}
 use Rattle.std.specs.FinMap.{FinMap}
 use Rattle.std.specs.FinMap as fin
 use Rattle.esr_model.specs.Values.{ShardResult, Formats}
 use Rattle.esr_model.specs.Shelf.{Shelved}
 use Rattle.esr_model.specs.Image.{Has}
-use Rattle.esr_core.specs.World.{World, Op, Deletion, ShardWork, ShardState, Pending, Out, Done, GivenUp, Ticket, AllDone}
-use Rattle.esr_core.specs.Ready.{Barrier, Goes, Stopped, Waits, Before, SwapIsOut, UnitIsOut, ReadyShard, ReadyFinalize, ReadyDrop, ReadyDelete, AnyReady, AShard, AFinalize, ADrop, ADelete, ACleanup, ReadyCleanup, IsOpen}
+use Rattle.esr_core.specs.World.{World, Op, ShardWork, ShardState, Pending, Out, Done, GivenUp, Ticket, AllDone}
+use Rattle.esr_core.specs.Ready.{Barrier, Goes, Stopped, Before, SwapIsOut, UnitIsOut, AnyReady, AShard, AFinalize, ADrop, ADelete, ACleanup, IsOpen}
 use Rattle.esr_core.specs.Queue.{Lawful}
 use Rattle.esr_core.proofs.Reading.{some_same, none_some}
 use Rattle.esr_core.proofs.Queues.{Deletes}

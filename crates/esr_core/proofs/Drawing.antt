@@ -1,19 +1,18 @@
 -- A draw keeps the law: of a shard unit, and of a delete, which makes its swap with it.
-use Rattle.std.proofs.Common.{◌≡◌, ◌≢◌, ◌⊎◌, ℕ, suc, ◌+◌, ◌<◌, ◌≤◌, List, [], ◌∷◌, Bool, true, false, true≢false, Option, Some, None, refl, sym, ap, ◌∙◌, subst, inl, inr, arith, nat_cmp}
-use Rattle.std.specs.FinMap.{FinMap}
+use Rattle.std.proofs.Common.{◌≡◌, ℕ, ◌<◌, ◌≤◌, List, [], ◌∷◌, false, Option, Some, None, refl, sym, ap, ◌∙◌, subst, inl, inr}
 use Rattle.std.specs.FinMap as fin
 use Rattle.esr_model.specs.Names.{BlobName, Root}
-use Rattle.esr_model.specs.Values.{Bytes, RootSnap, RootIndex, RootData, SnapInfo, ShardResult, Formats}
-use Rattle.esr_model.specs.Shelf.{Shelved, Delete, left_shelf, names_uuid, shelf_after}
+use Rattle.esr_model.specs.Values.{Bytes, RootSnap, RootData, SnapInfo, ShardResult, Formats}
+use Rattle.esr_model.specs.Shelf.{Shelved, left_shelf, names_uuid, shelf_after}
 use Rattle.esr_model.specs.Image.{Has, AllPairs, SnapStands, RootStands}
 use Rattle.esr_model.specs.Delete.{Deletes, left_snaps}
-use Rattle.esr_core.specs.World.{World, Op, Work, Shard, Finalize, Deleting, Drop, Ticket, Swap, swap, ledger_of, HeldIn}
+use Rattle.esr_core.specs.World.{World, Shard, Finalize, Deleting, Drop, Ticket, Swap, ledger_of, HeldIn}
 use Rattle.esr_core.specs.Ready.{IsMaster, IsShard, SwapIsOut}
 use Rattle.esr_core.specs.Turns.{DrawShard, DrawPlan}
-use Rattle.esr_core.specs.Swaps.{Rooted, TicketLaw, SwapLaw, SwapShape, IsUnsettled, IsSwapping, Counts, OrOwn}
-use Rattle.esr_core.specs.Generations.{Carried, ShardLaw, FinalLaw, BaseBelow}
+use Rattle.esr_core.specs.Swaps.{TicketLaw, SwapLaw, SwapShape, IsSwapping, Counts, OrOwn}
+use Rattle.esr_core.specs.Generations.{Carried, BaseBelow}
 use Rattle.esr_core.specs.Sound.{Sound}
-use Rattle.esr_core.specs.Queue.{Queue, QueueIn, Lawful, DeleteLaw, Shrinks}
+use Rattle.esr_core.specs.Queue.{Lawful, DeleteLaw, Shrinks}
 use Rattle.esr_core.proofs.Reading.{some_same, none_some, held_one, safe_root_stands}
 use Rattle.esr_core.proofs.Results.{choose_true, choose_false}
 use Rattle.esr_core.proofs.Deleting.{stage_delete, bool_told}
@@ -21,7 +20,7 @@ use Rattle.esr_core.proofs.Tickets.{each_ticket}
 use Rattle.esr_core.proofs.Same.{SameTicket}
 use Rattle.esr_core.proofs.Law.{quiet, fresh_same}
 use Rattle.esr_core.proofs.Settling.{swap_master}
-use Rattle.esr_core.proofs.Queues.{was_in, other_in, Like, queue_ticket}
+use Rattle.esr_core.proofs.Queues.{was_in, other_in, queue_ticket}
 
 -- what is left is of what was
 pub left_has : (uuids : List ℕ) (ss : List RootSnap) (s : RootSnap) → Has (left_snaps uuids ss) s → Has ss s

@@ -1,24 +1,23 @@
 -- Ops whose shards go on, for the queue's law; and no ticket has a shard that is ready.
-use Rattle.std.proofs.Common.{◌≡◌, ◌≢◌, ◌⊎◌, ℕ, ◌<◌, List, [], ◌∷◌, ◌++◌, Bool, true, false, true≢false, ◌&&◌, Option, Some, None, map, refl, sym, ap, ◌∙◌, subst, inl, inr, nat_cmp}
+use Rattle.std.proofs.Common.{◌≡◌, ◌≢◌, ◌⊎◌, ℕ, List, [], ◌∷◌, ◌++◌, Bool, true, false, true≢false, ◌&&◌, Some, map, refl, sym, ap, ◌∙◌, subst, inl, inr}
 use Rattle.std.specs.Prelude.{if◌then◌else◌}
 use Rattle.std.proofs.lemmas.Bool.{cases_order}
 use Rattle.std.proofs.lemmas.Bool.Decides.{eqb_tells}
-use Rattle.std.specs.FinMap.{FinMap}
 use Rattle.std.specs.FinMap as fin
 use Rattle.esr_model.specs.Values.{IndexRef, ShardResult, Formats}
-use Rattle.esr_model.specs.Image.{Has, AllPairs}
+use Rattle.esr_model.specs.Image.{Has}
 use Rattle.esr_core.specs.World.{World, Op, ShardWork, ShardState, Pending, Out, Done, GivenUp, Shard, Ticket, AllDone, HeldIn, marked}
-use Rattle.esr_core.specs.Ready.{Stopped, Idle, Waits, Goes, ReadyShard}
-use Rattle.esr_core.specs.Generations.{OpLaw, Carried}
+use Rattle.esr_core.specs.Ready.{Idle, Waits, ReadyShard}
+use Rattle.esr_core.specs.Generations.{Carried}
 use Rattle.esr_core.specs.Steps.{given, completing, all_done, is_done}
 use Rattle.esr_core.specs.Turns.{fails, fails_by}
-use Rattle.esr_core.specs.Queue.{Queue, QueueIn}
+use Rattle.esr_core.specs.Queue.{QueueIn}
 use Rattle.esr_core.proofs.Reading.{some_same, Has-mapped, Has-left, Has-right, Has-append}
 use Rattle.esr_core.proofs.Results.{choose_true, choose_false}
 use Rattle.esr_core.proofs.Marked.{marked_is}
 use Rattle.esr_core.proofs.TakeShard.{given_is}
 use Rattle.esr_core.proofs.Ops.{GoesOn}
-use Rattle.esr_core.proofs.Queues.{Ops, Evolves, was_in, same_in, other_in, split_at, queue_ops, queued_back}
+use Rattle.esr_core.proofs.Queues.{Ops, Evolves, was_in, same_in, other_in, split_at}
 
 pub out_same : {a b : ℕ} → Out a ≡ Out b → a ≡ b
 out_same e = cc

@@ -1,19 +1,19 @@
 -- The definitions admit a whole snapshot: step by step, from an empty container to the settle.
-use Rattle.std.proofs.Common.{◌≡◌, ◌≢◌, ◌⊎◌, ℕ, zero, suc, ◌+◌, ◌<◌, ◌≤◌, ◌^◌, List, [], ◌∷◌, ◌++◌, Bool, true, false, Option, Some, None, refl, sym, ap, ◌∙◌, subst, inl, inr, arith, nat_cmp, lit<}
+use Rattle.std.proofs.Common.{◌≡◌, ◌≢◌, ℕ, suc, ◌+◌, ◌<◌, List, [], ◌∷◌, ◌++◌, true, false, Some, None, refl, sym, ap, ◌∙◌, subst, inl, inr, arith, nat_cmp, lit<}
 use Rattle.std.specs.Cmp.{nat_cmp_total}
 use Rattle.std.specs.Cmp.Lexicographic.{slice_cmp, nat_list_cmp_total}
 use Rattle.std.specs.FinMap.{FinMap, nat_cmp-IsAntisymmetric}
 use Rattle.std.specs.FinMap as fin
 use Rattle.esr_model.specs.Names.{BlobName, Root, Latest, Snap, Meta}
-use Rattle.esr_model.specs.Values.{Bytes, Has, ReadsBack, ClusterRecord, Formats}
-use Rattle.esr_model.specs.Shelf.{Shelved, Command, Create}
+use Rattle.esr_model.specs.Values.{Bytes, Has, ReadsBack, Formats}
+use Rattle.esr_model.specs.Shelf.{Command, Create}
 use Rattle.esr_model.specs.Kept.{first_id}
 use Rattle.esr_model.specs.Finalize.{finalized_root}
 use Rattle.esr_model.specs.Image.{Image, Blobs, IsStored, global_of}
-use Rattle.esr_core.specs.World.{World, Op, Ticket, Deletion, Swap, Finalize, swap, info_of, metadata, shelved_of, record_of, image_of, no_root}
+use Rattle.esr_core.specs.World.{World, Op, Ticket, Deletion, info_of, metadata, shelved_of, record_of, image_of, no_root}
 use Rattle.esr_core.specs.Steps.{final_ticket, writing}
 use Rattle.esr_core.specs.Entry.{Snapshot, GivenFinalize, Step, AskStep, TakeStep, CommitStep, LatestStep, RaiseStep, SettleStep, Reply, Accepted, Gave, WasDone, WasReplaced, RaisedTo, WasSettled, Moment}
-use Rattle.esr_core.specs.After.{asked, taken_by, with_given, committing, told_blob, settled_of, after}
+use Rattle.esr_core.specs.After.{taken_by, with_given, committing, settled_of, after}
 use Rattle.esr_core.specs.Allowed as allowed
 use Rattle.esr_core.specs.Allowed.{latest_text, Allows, Allowed, HasReady, Commits}
 use Rattle.esr_core.specs.History.{IsLegal, AreTold, commands_at, committed, command_of}
@@ -21,7 +21,6 @@ use Rattle.esr_core.specs.Example.{begun, bare_op, CanWrite, HasSnapshot}
 use Rattle.esr_core.proofs.Adds.{text_one}
 use Rattle.esr_core.proofs.Maps.{get_same, get_other, get_was, texts_same}
 use Rattle.esr_core.proofs.Opening.{nothing}
-use Rattle.esr_core.proofs.Reading.{none_some}
 
 -- a history that goes on to a world, with its commands
 record Runs (f : Formats) (size : ℕ) (w : World) (cs : List Command) : Type 0 where

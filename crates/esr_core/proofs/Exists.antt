@@ -1,23 +1,20 @@
 -- A name that a finalization finds there has its text, so it counts as committed; and each turn keeps the texts of metadata.
-use Rattle.std.proofs.Common.{◌≡◌, ◌≢◌, ◌⊎◌, ℕ, suc, ◌+◌, ◌<◌, ◌≤◌, List, [], ◌∷◌, Bool, true, false, true≢false, Option, Some, None, map, refl, sym, ap, ◌∙◌, subst, inl, inr, arith, nat_cmp}
-use Rattle.std.specs.FinMap.{FinMap}
+use Rattle.std.proofs.Common.{◌≡◌, ◌⊎◌, ℕ, ◌<◌, List, [], ◌∷◌, true, false, Option, Some, None, map, refl, sym, ap, ◌∙◌, subst, inl, inr, arith}
 use Rattle.std.specs.FinMap as fin
-use Rattle.esr_model.specs.Names.{BlobName, Root, Latest, Snap, Meta, IndexMeta, ShardSnap, ShardIndex, File, Part, TestMaster, TestNode}
-use Rattle.esr_model.specs.Values.{Bytes, Has, IndexRef, RootData, SnapInfo, ShardResult, ReadsBack, Formats}
+use Rattle.esr_model.specs.Names.{BlobName, Root, Snap, IndexMeta, ShardIndex}
+use Rattle.esr_model.specs.Values.{Bytes, Has, SnapInfo, ShardResult, Formats}
 use Rattle.esr_model.specs.Shelf.{Shelved}
 use Rattle.esr_model.specs.Image.{IsStored, Blobs, At}
 use Rattle.esr_model.specs.Kept.{IdsBelow}
-use Rattle.esr_core.specs.World.{World, Op, ShardWork, ShardState, Pending, Out, Done, GivenUp, Work, Shard, Finalize, Deleting, Drop, Ticket, Swap, swap, swap_of, AllDone, info_of, metadata, marked, HeldIn, ledger_of}
-use Rattle.esr_core.specs.Ready.{IsShard, IsMaster}
-use Rattle.esr_core.specs.Steps.{CommitDone, CommitFault, CommitExists, MayCommit, SwapCommits, ShardCommits, Remove, reading, writing, noting, given, final_ticket, shard_ticket}
-use Rattle.esr_core.specs.Swaps.{TicketLaw, SwapLaw, SwapShape, IsUnsettled, Counts}
-use Rattle.esr_core.specs.Generations.{ShardLaw, Together}
-use Rattle.esr_core.specs.Texts.{IsMetaOf, OpGives, IsInfoOf, Texted}
+use Rattle.esr_core.specs.World.{World, Op, ShardWork, Pending, Out, Done, Work, Shard, Finalize, Deleting, Drop, Ticket, Swap, swap, swap_of, AllDone, info_of, metadata, marked, HeldIn, ledger_of}
+use Rattle.esr_core.specs.Steps.{CommitExists, MayCommit, ShardCommits, Remove, reading, writing, noting, given, final_ticket, shard_ticket}
+use Rattle.esr_core.specs.Swaps.{TicketLaw, SwapLaw, IsUnsettled, Counts}
+use Rattle.esr_core.specs.Texts.{IsMetaOf, Texted}
 use Rattle.esr_core.specs.Sound.{Sound}
 use Rattle.esr_core.specs.Ids.{Law}
 use Rattle.esr_core.specs.Turns.{Aborts, fails, plain_ticket, Turn, Stays, Commits, CommitFails, Finds, Raises, Latests, Fetches, SettlesFinal, SettlesDelete, Elects, TakesShard, TakesFinal, TakesDrop, TakesDelete, TakesCleanup, AsksCleanup, CleanDrops, DrawsShard, DrawsPlan, Dones, Ending, Fails, FailsDelete, Drops, AsksCreate, AsksDelete, Merges, Removing, Deposes}
 use Rattle.esr_core.proofs.Evolving.{all_done_on, failed_leaves}
-use Rattle.esr_core.proofs.Adds.{added, at_was}
+use Rattle.esr_core.proofs.Adds.{at_was}
 use Rattle.esr_core.proofs.Tickets.{each_ticket, swapping_was}
 use Rattle.esr_core.proofs.Same.{carried_same}
 use Rattle.esr_core.proofs.Law.{noting_same, fresh_same}

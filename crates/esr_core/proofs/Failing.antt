@@ -1,25 +1,23 @@
 -- A unit fails: its op's pending shards are given up, and the op has failed.
-use Rattle.std.proofs.Common.{◌≡◌, ◌≢◌, ◌⊎◌, ℕ, suc, List, [], ◌∷◌, Bool, true, false, true≢false, Option, Some, None, map, refl, sym, ap, ◌∙◌, subst, inl, inr, nat_cmp}
-use Rattle.std.specs.FinMap.{FinMap}
+use Rattle.std.proofs.Common.{◌≡◌, ◌≢◌, ℕ, List, true, false, true≢false, Some, map, refl, sym, ap, ◌∙◌, subst, inl, inr}
 use Rattle.std.specs.FinMap as fin
-use Rattle.esr_model.specs.Values.{RootData, SnapInfo, ShardResult, Formats}
+use Rattle.esr_model.specs.Values.{SnapInfo, ShardResult, Formats}
 use Rattle.esr_model.specs.Shelf.{Shelved}
 use Rattle.esr_model.specs.Image.{Has}
-use Rattle.esr_core.specs.World.{World, Op, Deletion, ShardWork, Pending, Out, Done, GivenUp, Shard, Finalize, Deleting, Drop, Ticket, Swap, AllDone, ledger_of, HeldIn}
+use Rattle.esr_core.specs.World.{World, Op, ShardWork, Out, Shard, Finalize, Deleting, Drop, Ticket, AllDone, ledger_of, HeldIn}
 use Rattle.esr_core.specs.Ready.{IsMaster, IsShard, SwapIsOut}
 use Rattle.esr_core.specs.Turns.{Failed, FailedDelete, fails}
-use Rattle.esr_core.specs.Swaps.{Rooted, TicketLaw, IsUnsettled}
+use Rattle.esr_core.specs.Swaps.{Rooted, TicketLaw}
 use Rattle.esr_core.specs.Generations.{OpLaw, ShardLaw, Carried}
-use Rattle.esr_core.specs.Sound.{Sound}
-use Rattle.esr_core.specs.Queue.{Queue, QueueIn, Lawful}
+use Rattle.esr_core.specs.Queue.{Queue, Lawful}
 use Rattle.esr_core.proofs.Reading.{some_same, Has-map, Has-mapped}
 use Rattle.esr_core.proofs.Results.{done_of}
 use Rattle.esr_core.proofs.Tickets.{each_ticket, swapping_was}
-use Rattle.esr_core.proofs.Ops.{GoesOn, op_now, ops_now, op_was, live_was, carries_now, base_now, op_law_now, together_now}
+use Rattle.esr_core.proofs.Ops.{op_now, ops_now, op_was, live_was, carries_now, base_now, op_law_now, together_now}
 use Rattle.esr_core.proofs.Law.{fresh_same}
 use Rattle.esr_core.proofs.Leaving.{like_ended, ended_lawful}
 use Rattle.esr_core.proofs.Queues.{Ops, was_in, same_in, other_in, split_at, Evolves, queue_ops, queued_back, queue_ticket, queue_delete, swap_back}
-use Rattle.esr_core.proofs.Evolving.{failed_is, failed_grows, failed_outs, failed_goes, evolve_map, one_back, one_forth, one_outs, outs_map, all_done_back, all_done_on, failed_leaves, out_pending, out_done, out_same, up_out, up_done, done_pending}
+use Rattle.esr_core.proofs.Evolving.{failed_is, failed_grows, failed_outs, failed_goes, evolve_map, one_back, one_forth, one_outs, outs_map, all_done_back, all_done_on, failed_leaves, out_pending, out_done, out_same, up_out}
 
 module _ (f : Formats) (w : World) (shelf : List Shelved) (l : Lawful f w shelf) (k : ℕ) (new : World) (d : Failed w k new) where
   abbrev o : ℕ

@@ -1,17 +1,16 @@
 -- What a shard unit found there isn't doomed.
-use Rattle.std.proofs.Common.{◌≡◌, ◌⊎◌, ◌∙◌, ap, ℕ, List, [], ◌∷◌, true, Option, Some, None, refl, sym, subst, inl, inr}
-use Rattle.std.specs.FinMap as fin
+use Rattle.std.proofs.Common.{◌≡◌, ◌∙◌, ap, ℕ, List, Option, Some, None, refl, sym, subst, inl, inr}
 use Rattle.esr_model.specs.Parts.{part_names}
-use Rattle.esr_model.specs.Names.{BlobName, File, Part, ShardSnap, ShardIndex}
+use Rattle.esr_model.specs.Names.{BlobName, ShardSnap, ShardIndex}
 use Rattle.esr_model.specs.Values.{Bytes, FileEntry, ShardFiles, ShardResult, Formats}
 use Rattle.esr_model.specs.Shelf.{Shelved}
 use Rattle.esr_model.specs.Image.{Has, AllPairs, At, Reads, FileStands}
-use Rattle.esr_core.specs.World.{World, Shard, Ticket, HeldIn}
+use Rattle.esr_core.specs.World.{World, HeldIn}
 use Rattle.esr_core.specs.Ready.{IsShard}
 use Rattle.esr_core.specs.Steps.{Drew, DoneShard, ExtendsBase}
 use Rattle.esr_core.specs.Turns.{DoneFound, InBase}
 use Rattle.esr_core.specs.Generations.{ShardLaw, Base}
-use Rattle.esr_core.specs.Ids.{OfUuid, OfId, Law}
+use Rattle.esr_core.specs.Ids.{OfId, Law}
 use Rattle.esr_core.proofs.Pieces.{in_parts}
 use Rattle.esr_core.proofs.Reading.{AllPairs-with}
 use Rattle.esr_core.proofs.TurningIds.{pairs_has}

@@ -1,5 +1,5 @@
 -- `index.latest` is read by nobody: what is known stays where it is put.
-use Rattle.std.proofs.Common.{◌≡◌, ◌⊎◌, ℕ, List, Some, None, refl, sym, ap, ◌∙◌, subst, inl, inr, nat_cmp}
+use Rattle.std.proofs.Common.{◌≡◌, List, Some, sym, ap, ◌∙◌, subst, inl, inr}
 use Rattle.std.specs.FinMap as fin
 use Rattle.std.specs.Cmp.Lexicographic.{nat_list_cmp_total}
 use Rattle.esr_model.specs.Names.{BlobName, Root, Latest}
@@ -11,7 +11,6 @@ use Rattle.esr_core.specs.Steps.{PutsLatest}
 use Rattle.esr_core.specs.Swaps.{OrOwn, SwapLaw, TicketLaw}
 use Rattle.esr_core.specs.Sound.{Sound}
 use Rattle.esr_core.specs.Ids.{Law}
-use Rattle.esr_core.specs.Queue.{Lawful}
 use Rattle.esr_core.proofs.Adds.{text_one}
 use Rattle.esr_core.proofs.Maps.{get_was, get_other, texts_same}
 use Rattle.esr_core.proofs.Frames.{root_kept, picked_kept, stands_kept}

@@ -1,15 +1,13 @@
 -- From a sound world each step leads to a sound one.
-use Rattle.std.proofs.Common.{◌≡◌, ℕ, suc, ◌<◌, ◌≤◌, List, [], ◌∷◌, ◌++◌, Bool, true, false, true≢false, Option, Some, None, refl, sym, ap, ◌∙◌, subst, inl, inr, arith, nat_cmp, le_refl}
-use Rattle.std.proofs.lemmas.Bool.{lt-ltb, le-ltb}
-use Rattle.std.specs.Prelude.{nat_lt, if◌then◌else◌}
+use Rattle.std.proofs.Common.{◌≡◌, ℕ, ◌<◌, List, Bool, true, false, true≢false, Option, Some, refl, sym, subst, inl, inr, arith, nat_cmp}
 use Rattle.std.specs.Cmp.{nat_cmp_total}
 use Rattle.std.specs.FinMap.{FinMap, nat_cmp-IsAntisymmetric}
 use Rattle.std.specs.FinMap as fin
 use Rattle.esr_model.specs.Names.{BlobName}
 use Rattle.esr_model.specs.Values.{Bytes, Formats, ShardResult, SnapInfo}
 use Rattle.esr_core.specs.Ready.{IsShard}
-use Rattle.esr_model.specs.Shelf.{Shelved, Command, apply, shelf_after}
-use Rattle.esr_core.specs.World.{World, Op, Ticket, Finalize, Swap, swap, swap_of, ledger_of, HeldIn, Safely}
+use Rattle.esr_model.specs.Shelf.{Shelved, shelf_after}
+use Rattle.esr_core.specs.World.{World, Op, Ticket, Finalize, Swap, ledger_of, HeldIn, Safely}
 use Rattle.esr_core.specs.Steps.{CommitDone, CommitFault, Raise, Elect, DoneShard, TriesLatest, FetchFound, reading, Ends, TakeFinalize, settled, with_ticket, noting, writing, MaySettle}
 use Rattle.esr_core.specs.Swaps.{TicketLaw, IsUnsettled}
 use Rattle.esr_core.specs.Sound.{Sound}

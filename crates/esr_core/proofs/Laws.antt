@@ -1,7 +1,7 @@
 -- The laws as they are told.
 use Rattle.std.proofs.Common.{◌≡◌, ℕ, zero, suc, ◌<◌, ◌≤◌, List, refl, sym, ◌∙◌, subst, inr, arith}
 use Rattle.esr_model.specs.Names.{BlobName, Root}
-use Rattle.esr_model.specs.Values.{Has, RootData, RecordWork, Creating, Cloning, DeletingOf, Cleaning, Ledger, ReadsBack, Formats}
+use Rattle.esr_model.specs.Values.{RootData, RecordWork, Creating, Cloning, DeletingOf, Cleaning, Ledger, ReadsBack, Formats}
 use Rattle.esr_model.specs.Shelf.{Shelved}
 use Rattle.esr_model.specs.Image.{Blobs, RootIs, At, KeptAt, KeptBy, Present}
 use Rattle.esr_model.specs.Kept.{first_id, RootIds, WorkIds, Kept}

@@ -1,18 +1,17 @@
 -- An op leaves of which no unit is out.
-use Rattle.std.proofs.Common.{◌≡◌, ◌≢◌, ◌⊎◌, ℕ, suc, List, [], ◌∷◌, Bool, true, false, true≢false, Option, Some, None, refl, sym, ap, ◌∙◌, subst, inl, inr, nat_cmp}
+use Rattle.std.proofs.Common.{◌≡◌, ℕ, List, false, true≢false, Option, Some, None, refl, sym, ap, ◌∙◌, subst, inl, inr, nat_cmp}
 use Rattle.std.specs.FinMap.{FinMap}
 use Rattle.std.specs.FinMap as fin
 use Rattle.esr_model.specs.Names.{BlobName}
-use Rattle.esr_model.specs.Values.{Bytes, RootData, SnapInfo, ShardResult, Formats}
+use Rattle.esr_model.specs.Values.{Bytes, RootData, Formats}
 use Rattle.esr_model.specs.Shelf.{Shelved}
-use Rattle.esr_core.specs.World.{World, Op, Shard, Finalize, Drop, Ticket, HeldIn}
+use Rattle.esr_core.specs.World.{World, Ticket, HeldIn}
 use Rattle.esr_core.specs.Ready.{IsMaster, IsShard, SwapIsOut, UnitIsOut}
-use Rattle.esr_core.specs.Steps.{Ends, IsOut, with_ticket}
+use Rattle.esr_core.specs.Steps.{IsOut, with_ticket}
 use Rattle.esr_core.specs.Turns.{Dropped, CleanDropped}
 use Rattle.esr_core.specs.Generations.{DoneAt, IsLive, Carries, Base, Carried}
-use Rattle.esr_core.specs.Queue.{QueueIn, Lawful}
-use Rattle.esr_core.specs.Swaps.{IsUnsettled}
-use Rattle.esr_core.proofs.Law.{quiet, ended_same, finish_sound}
+use Rattle.esr_core.specs.Queue.{Lawful}
+use Rattle.esr_core.proofs.Law.{quiet, ended_same}
 use Rattle.esr_core.proofs.Queues.{Ops, was_in, left_in, stays_in, Like, queue_ticket, queue_remove, unit_back}
 
 module _ (f : Formats) (has : BlobName → Bytes → Type 0) (root : RootData) (ops : Ops) (o : ℕ) where

@@ -59,3 +59,4 @@ pub mod TrackingGiven
 pub mod TrackingEnds
 pub mod TrackingSteps
 pub mod Recording
+pub mod Ranking

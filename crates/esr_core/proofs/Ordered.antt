@@ -1,6 +1,5 @@
 -- Lists put in order, and what they have.
-use Rattle.std.proofs.Common.{◌≡◌, ◌≢◌, ◌⊎◌, ℕ, zero, suc, ◌+◌, ◌<◌, ◌≤◌, Bool, true, false, List, [], ◌∷◌, ◌++◌, map, refl, sym, ap, ◌∙◌, subst, inl, inr, arith}
-use Rattle.std.specs.Prelude.{if◌then◌else◌}
+use Rattle.std.proofs.Common.{◌≡◌, ◌⊎◌, ℕ, zero, suc, ◌+◌, ◌<◌, Bool, true, false, List, [], ◌∷◌, map, refl, sym, ap, ◌∙◌, subst, inl, inr, arith}
 use Rattle.esr_model.specs.Values.{Has, IndexRef}
 use Rattle.esr_model.specs.Places.{numbered, places, comes_first, put_by, sorted_by, shelf_places}
 use Rattle.esr_core.specs.World.{Op, ShardWork}

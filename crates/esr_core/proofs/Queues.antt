@@ -1,13 +1,13 @@
 -- What each kind of change leaves of the queue's law.
-use Rattle.std.proofs.Common.{◌≡◌, ◌≢◌, ◌⊎◌, ℕ, suc, ◌<◌, List, [], ◌∷◌, Bool, true, false, Option, Some, None, map, refl, sym, ap, ◌∙◌, subst, inl, inr, arith, nat_cmp, true≢false}
+use Rattle.std.proofs.Common.{◌≡◌, ◌≢◌, ◌⊎◌, ℕ, suc, ◌<◌, List, true, false, Option, Some, None, refl, sym, ap, ◌∙◌, subst, inl, inr, arith, nat_cmp, true≢false}
 use Rattle.std.specs.Cmp.{nat_cmp_total}
 use Rattle.std.specs.FinMap.{FinMap, nat_cmp-IsAntisymmetric}
 use Rattle.std.specs.FinMap as fin
 use Rattle.esr_model.specs.Values.{RootData, ShardResult}
-use Rattle.esr_model.specs.Image.{Has, AllPairs}
-use Rattle.esr_core.specs.World.{Op, Deletion, ShardWork, ShardState, Pending, Out, Done, GivenUp, Work, Shard, Finalize, Deleting, Drop, Ticket, Swap, AllDone}
-use Rattle.esr_core.specs.Ready.{Barrier, Stopped, Idle, IsMaster, IsShard, SwapIsOut, UnitIsOut}
-use Rattle.esr_core.specs.Queue.{DeleteLaw, DropLaw, Queue, Lists}
+use Rattle.esr_model.specs.Image.{Has}
+use Rattle.esr_core.specs.World.{Op, Deletion, ShardWork, Pending, Out, GivenUp, Deleting, Drop, Ticket, Swap, AllDone}
+use Rattle.esr_core.specs.Ready.{Stopped, Idle, IsMaster, IsShard, SwapIsOut, UnitIsOut}
+use Rattle.esr_core.specs.Queue.{DeleteLaw, Queue, Lists}
 use Rattle.esr_model.specs.Shelf.{names_uuid}
 use Rattle.esr_core.proofs.Maps.{get_was, get_same, get_other, get_left, get_stays, split}
 

@@ -9,7 +9,7 @@ use Rattle.esr_model.specs.Values.{Bytes, IndexRef, RootSnap, RootData, SnapInfo
 use Rattle.esr_model.specs.Shelf.{Shelved, Create}
 use Rattle.esr_model.specs.Image.{Has, IsOne, Reads, Generation, ListsAs, index_at, at_shard_of}
 use Rattle.esr_model.specs.Finalize.{Finalizes, finalized_root, done_at}
-use Rattle.esr_core.specs.World.{Op, ShardWork, Work, Shard, Finalize, Drop, Swap, swap_of, Done, AllDone, info_of, metadata}
+use Rattle.esr_core.specs.World.{Op, ShardWork, Work, Finalize, Swap, swap_of, Done, AllDone, info_of, metadata}
 use Rattle.esr_core.specs.Generations.{DoneAt, IsLive, IsOfShard, Carries, OpLaw, Together, Base}
 use Rattle.esr_core.proofs.Maps.{get_left}
 use Rattle.esr_core.proofs.Ordered.{in_shelf_places}

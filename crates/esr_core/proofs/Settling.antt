@@ -1,5 +1,5 @@
 -- A settle, of a finalization and of a delete with what it dooms, keeps the law.
-use Rattle.std.proofs.Common.{◌≡◌, ◌≢◌, ◌⊎◌, ℕ, suc, ◌<◌, ◌≤◌, List, [], ◌∷◌, ◌++◌, Bool, true, false, true≢false, Option, Some, None, refl, sym, ap, ◌∙◌, subst, inl, inr, arith, nat_cmp}
+use Rattle.std.proofs.Common.{◌≡◌, ◌≢◌, ℕ, suc, ◌<◌, ◌≤◌, List, ◌++◌, Bool, true, false, true≢false, Some, refl, sym, ap, ◌∙◌, subst, inl, inr, arith, nat_cmp}
 use Rattle.std.specs.Prelude.{if◌then◌else◌}
 use Rattle.std.proofs.lemmas.Bool.{cases_order}
 use Rattle.std.specs.FinMap.{FinMap}
@@ -7,19 +7,19 @@ use Rattle.std.specs.FinMap as fin
 use Rattle.esr_model.specs.Parts.{part_names}
 use Rattle.esr_model.specs.Names.{BlobName, Root, File, Part}
 use Rattle.esr_model.specs.Reach.{Reached, ReachSnap, ReachMeta, ReachIndexMeta, ReachIndex, ReachShardSnap, ReachPart}
-use Rattle.esr_model.specs.Values.{Bytes, RootSnap, RootIndex, RootData, SnapInfo, FileEntry, ShardResult, Formats}
+use Rattle.esr_model.specs.Values.{RootSnap, RootData, SnapInfo, FileEntry, ShardResult, Formats}
 use Rattle.esr_model.specs.Shelf.{Shelved, shelf_after, names_uuid}
 use Rattle.esr_model.specs.Image.{Has, RootStands}
-use Rattle.esr_core.specs.World.{World, Op, Deletion, ShardWork, Out, Done, Work, Shard, Finalize, Deleting, Drop, Ticket, Swap, swap, swap_of, ledger_of, info_of, HeldIn}
-use Rattle.esr_core.specs.Ready.{Barrier, Idle, IsMaster, IsShard, SwapIsOut, UnitIsOut}
+use Rattle.esr_core.specs.World.{World, Op, Deletion, ShardWork, Out, Work, Shard, Finalize, Deleting, Drop, Ticket, Swap, swap_of, ledger_of, info_of, HeldIn}
+use Rattle.esr_core.specs.Ready.{Idle, IsMaster, SwapIsOut}
 use Rattle.esr_core.specs.Steps.{MaySettle, settled}
 use Rattle.esr_core.specs.Turns.{SettleFinal, SettleDelete}
-use Rattle.esr_core.specs.Generations.{DoneAt, OpLaw, FinalLaw, Carried}
+use Rattle.esr_core.specs.Generations.{DoneAt, FinalLaw}
 use Rattle.esr_model.specs.Image.{RootIs}
-use Rattle.esr_core.specs.Swaps.{Rooted, IsUnsettled, SwapLaw, Counts, IsSwapping}
+use Rattle.esr_core.specs.Swaps.{Rooted, IsUnsettled, SwapLaw, Counts}
 use Rattle.esr_core.specs.Doomed.{Dooms}
 use Rattle.esr_core.specs.Sound.{Sound}
-use Rattle.esr_core.specs.Queue.{Queue, QueueIn, Lawful, DeleteLaw, Shrinks, Lists}
+use Rattle.esr_core.specs.Queue.{Queue, Lawful, DeleteLaw, Shrinks, Lists}
 use Rattle.esr_model.specs.Finalize.{Finalizes, finalized_root}
 use Rattle.esr_core.proofs.Pieces.{in_parts}
 use Rattle.esr_core.proofs.Finalizing.{finalizes, root_one_each}
@@ -30,7 +30,7 @@ use Rattle.esr_core.proofs.Settle.{settles}
 use Rattle.esr_core.proofs.SettleWhole.{CarriedIn}
 use Rattle.esr_core.proofs.Dooming.{dooming_sound}
 use Rattle.esr_core.proofs.Law.{settle_law, fresh_same}
-use Rattle.esr_core.proofs.Queues.{was_in, left_in, Like, swap_back, queue_ticket, queue_remove, queue_root, queue_ops}
+use Rattle.esr_core.proofs.Queues.{was_in, left_in, Like, queue_ticket, queue_remove, queue_root, queue_ops}
 
 pub like_settled : (t : Ticket) → Like t (record t { settled = true })
 like_settled t = record { op = refl; term = refl; out = λ e. e; settled = λ e. absurd (true≢false e); master = λ m. m; shard = λ s. s; drop = λ d. d }

@@ -1,5 +1,5 @@
 -- What take gives: a ready unit keeps the law.
-use Rattle.std.proofs.Common.{◌≡◌, ◌≢◌, ◌⊎◌, ℕ, suc, ◌<◌, ◌≤◌, List, [], ◌∷◌, Bool, true, false, true≢false, Option, Some, None, map, refl, sym, ap, ◌∙◌, subst, inl, inr, arith, le_refl, nat_cmp}
+use Rattle.std.proofs.Common.{◌≡◌, ◌≢◌, ◌⊎◌, ℕ, suc, ◌<◌, ◌≤◌, List, true, true≢false, Option, Some, None, map, refl, sym, ap, ◌∙◌, subst, inl, inr, arith, le_refl, nat_cmp}
 use Rattle.std.specs.FinMap.{FinMap}
 use Rattle.std.specs.FinMap as fin
 use Rattle.esr_model.specs.Names.{BlobName}
@@ -7,20 +7,19 @@ use Rattle.esr_model.specs.Values.{Bytes, RootData, SnapInfo, ShardResult, Forma
 use Rattle.esr_model.specs.Shelf.{Shelved}
 use Rattle.esr_model.specs.Image.{Has}
 use Rattle.esr_core.specs.World.{World, Op, Deletion, ShardWork, Pending, Out, Done, Work, Shard, Finalize, Deleting, Drop, Ticket, Swap, swap, swap_of, AllDone, ledger_of, HeldIn, metadata, info_of}
-use Rattle.esr_core.specs.Ready.{Stopped, Goes, Waits, Barrier, IsMaster, IsShard, SwapIsOut, UnitIsOut, ReadyShard, ReadyDrop, ReadyDelete}
+use Rattle.esr_core.specs.Ready.{Goes, Waits, Barrier, IsMaster}
 use Rattle.esr_core.specs.Steps.{TakeShard, TakeFinalize, given, shard_ticket, final_ticket}
 use Rattle.esr_core.specs.Turns.{TakeReadyShard, TakeReadyFinal, TakeDrop, TakeDelete, TakeCleanup, plain_ticket}
-use Rattle.esr_core.specs.Swaps.{Rooted, TicketLaw, IsUnsettled, IsSwapping, SwapShape}
+use Rattle.esr_core.specs.Swaps.{Rooted, TicketLaw, IsSwapping}
 use Rattle.esr_core.specs.Generations.{Carried}
-use Rattle.esr_core.specs.Sound.{Sound}
-use Rattle.esr_core.specs.Queue.{Queue, QueueIn, Lawful, DeleteLaw, DropLaw}
+use Rattle.esr_core.specs.Queue.{Queue, QueueIn, Lawful}
 use Rattle.esr_core.proofs.Reading.{some_same, none_some, Has-mapped}
 use Rattle.esr_core.proofs.Results.{done_of}
 use Rattle.esr_core.proofs.Tickets.{each_ticket}
 use Rattle.esr_core.proofs.TakeShard.{taken_shard, given_is}
 use Rattle.esr_core.proofs.Law.{take_law}
-use Rattle.esr_core.proofs.Queues.{was_in, other_in, same_in, split_at, Ops, Evolves, queue_new, queue_ops, queued_back}
-use Rattle.esr_core.proofs.Evolving.{Grows, grows_same, evolve_map, one_back, one_forth, free_of, all_done_back, pending_out, pending_done, out_pending, out_done, out_same, out_idle, up_out, out_up}
+use Rattle.esr_core.proofs.Queues.{was_in, other_in, same_in, split_at, Ops, queue_new}
+use Rattle.esr_core.proofs.Evolving.{free_of, all_done_back, pending_done, out_pending, out_done, out_up}
 
 pub fresh_new : (tickets : FinMap nat_cmp Ticket) (next : ℕ) (v : Ticket) → ((k : ℕ) (t : Ticket) → fin.get tickets k ≡ Some t → k < next) → (j : ℕ) (u : Ticket) → fin.get (fin.insert tickets next v) j ≡ Some u → j < suc next
 fresh_new tickets next v fresh j u e = elim (was_in tickets next v j u e) [

@@ -1,20 +1,18 @@
 -- From a lawful world each turn leads to a lawful one.
-use Rattle.std.proofs.Common.{◌≡◌, ◌≢◌, ℕ, suc, ◌<◌, ◌≤◌, List, [], Bool, true, false, true≢false, Option, Some, None, map, refl, sym, ap, ◌∙◌, subst, inl, inr, arith, nat_cmp}
+use Rattle.std.proofs.Common.{◌≡◌, ℕ, suc, ◌<◌, ◌≤◌, List, true, false, true≢false, Some, map, refl, sym, ap, ◌∙◌, subst, inl, inr, arith, nat_cmp}
 use Rattle.std.specs.FinMap.{FinMap}
 use Rattle.std.specs.FinMap as fin
 use Rattle.esr_model.specs.Names.{BlobName}
 use Rattle.esr_model.specs.Values.{Formats, ShardResult}
 use Rattle.esr_model.specs.Shelf.{Shelved, shelf_after}
 use Rattle.esr_model.specs.Image.{Has}
-use Rattle.esr_core.specs.World.{World, Op, ShardWork, Done, Work, Deleting, Shard, Ticket, Swap, AllDone, marked}
+use Rattle.esr_core.specs.World.{World, Op, ShardWork, Done, Ticket, AllDone, marked}
 use Rattle.esr_core.specs.Ready.{IsMaster, IsShard}
-use Rattle.esr_core.specs.Steps.{IsOut, CommitDone, CommitFault, Raise, TriesLatest, FetchFound, reading, noting, CommitExists, DoneShard, Ends, Elect, Remove, writing, completing}
-use Rattle.esr_core.specs.Sound.{Sound}
-use Rattle.esr_core.specs.Queue.{Queue, QueueIn, Lawful, DeleteLaw}
+use Rattle.esr_core.specs.Steps.{CommitDone, CommitFault, Raise, TriesLatest, FetchFound, reading, noting, CommitExists, DoneShard, Ends, Elect, Remove, writing, completing}
+use Rattle.esr_core.specs.Queue.{Queue, QueueIn, Lawful}
 use Rattle.esr_core.specs.Turns.{Turn, Stays, Commits, CommitFails, Finds, Raises, Latests, Fetches, SettlesFinal, SettlesDelete, Elects, TakesShard, TakesFinal, TakesDrop, TakesDelete, TakesCleanup, AsksCleanup, CleanDrops, DrawsShard, DrawsPlan, Dones, Ending, Fails, FailsDelete, Drops, AsksCreate, AsksDelete, Merges, Removing, Deposes, commands_of}
 use Rattle.esr_core.proofs.Law.{raise_law, commit_law, commit_fault_law, latest_sound, fetch_sound, finish_sound, done_sound, elect_law, deposed_same}
 use Rattle.esr_core.proofs.Removes.{remove_sound}
-use Rattle.esr_core.proofs.Ops.{GoesOn}
 use Rattle.esr_core.proofs.Queues.{Like, Evolves, was_in, queue_ticket, queue_ops, queued_back, queue_elect}
 use Rattle.esr_core.proofs.Evolving.{marked_grows, marked_outs, evolve_map, one_back, one_forth, one_outs, outs_map, completing_has, completing_more, completing_was, results_of, all_done_on, marked_leaves}
 use Rattle.esr_core.proofs.Taking.{shard_lawful, final_lawful, drop_lawful, delete_lawful, cleanup_lawful}

@@ -1,36 +1,35 @@
 -- Each turn keeps ids below the counter, and doomed names apart.
-use Rattle.std.proofs.Common.{◌≡◌, ◌≢◌, ◌⊎◌, ℕ, suc, ◌+◌, ◌<◌, ◌≤◌, List, [], ◌∷◌, ◌++◌, Bool, true, false, true≢false, Option, Some, None, map, refl, sym, ap, ◌∙◌, subst, inl, inr, arith, nat_cmp, le_refl}
+use Rattle.std.proofs.Common.{◌≡◌, ◌⊎◌, ℕ, suc, ◌+◌, ◌<◌, ◌≤◌, List, [], ◌∷◌, ◌++◌, Bool, true, false, true≢false, Option, Some, None, map, refl, sym, ap, ◌∙◌, subst, inl, inr, arith, nat_cmp, le_refl}
 use Rattle.std.specs.FinMap.{FinMap}
 use Rattle.std.specs.FinMap as fin
 use Rattle.esr_model.specs.Parts.{part_names}
 use Rattle.esr_model.specs.Names.{BlobName, Root, Latest, Snap, Meta, IndexMeta, ShardSnap, ShardIndex, File, Part, TestMaster, TestNode}
-use Rattle.esr_model.specs.Values.{Bytes, IndexRef, RootSnap, RootIndex, RootData, FileEntry, SnapInfo, ShardResult, ReadsBack, Formats}
-use Rattle.esr_model.specs.Shelf.{Shelved, Delete}
-use Rattle.esr_model.specs.Image.{IsStored, Blobs, Has, AllPairs, At, Present, Generation, RootStands, index_at, at_shard_of}
+use Rattle.esr_model.specs.Values.{Bytes, IndexRef, RootSnap, RootData, ShardResult, Formats}
+use Rattle.esr_model.specs.Shelf.{Shelved}
+use Rattle.esr_model.specs.Image.{IsStored, Has, AllPairs, Present, Generation, RootStands}
 use Rattle.esr_model.specs.Finalize.{Finalizes, finalized_root, done_at}
 use Rattle.esr_model.specs.Reach.{Reached, ReachSnap, ReachMeta, ReachIndexMeta, ReachIndex, ReachShardSnap, ReachPart}
-use Rattle.esr_core.specs.World.{World, Op, ShardWork, Pending, Out, Done, Work, Shard, Finalize, Deleting, Drop, Ticket, Swap, AllDone, swap, swap_of, HeldIn, metadata, info_of, marked}
-use Rattle.esr_core.specs.Ready.{IsShard, Barrier, Idle}
-use Rattle.esr_core.specs.Steps.{Drew, MayCommit, IsOut, CommitDone, CommitFault, Raise, TryLatest, reading, DoneShard, Ends, Elect, Remove, Largest, given, shard_ticket, final_ticket, noting, writing}
-use Rattle.esr_core.specs.Turns.{Turn, Stays, Commits, CommitFails, Finds, Raises, Latests, Fetches, SettlesFinal, SettlesDelete, Elects, TakesShard, TakesFinal, TakesDrop, TakesDelete, TakesCleanup, AsksCleanup, CleanDrops, DrawsShard, DrawsPlan, Dones, Ending, Fails, FailsDelete, Drops, AsksCreate, AsksDelete, Merges, Removing, Deposes, SettleDelete, TakeReadyShard, TakeReadyFinal, DrawPlan, AskCreate, Failed, Aborts, IndexId, fails, plain_ticket}
-use Rattle.esr_core.specs.Generations.{DoneAt, OpLaw, Carried}
+use Rattle.esr_core.specs.World.{World, Op, ShardWork, Pending, Done, Work, Shard, Finalize, Deleting, Drop, Ticket, Swap, AllDone, swap, HeldIn, info_of, marked}
+use Rattle.esr_core.specs.Ready.{IsShard}
+use Rattle.esr_core.specs.Steps.{IsOut, reading, Largest, given, shard_ticket, final_ticket, noting, writing}
+use Rattle.esr_core.specs.Turns.{Turn, Stays, Commits, CommitFails, Finds, Raises, Latests, Fetches, SettlesFinal, SettlesDelete, Elects, TakesShard, TakesFinal, TakesDrop, TakesDelete, TakesCleanup, AsksCleanup, CleanDrops, DrawsShard, DrawsPlan, Dones, Ending, Fails, FailsDelete, Drops, AsksCreate, AsksDelete, Merges, Removing, Deposes, SettleDelete, DrawPlan, AskCreate, Aborts, fails, plain_ticket}
+use Rattle.esr_core.specs.Generations.{DoneAt, OpLaw}
 use Rattle.esr_core.specs.Ids.{OfUuid, OfId, TicketIds, OpIds, DoomedIds, Ids, IdsIn, Law}
 use Rattle.esr_model.specs.Kept.{first_id, IdsBelow, RootIds}
-use Rattle.esr_core.specs.Queue.{Lawful}
 use Rattle.esr_core.proofs.LatestPut.{put_law}
 use Rattle.esr_core.proofs.Pieces.{in_parts}
 use Rattle.esr_core.proofs.Reading.{generation_index, some_same, none_some, reads_one, held_one, safe_root_stands, Has-append, Has-mapped, Has-either}
-use Rattle.esr_core.proofs.Adds.{at_was, added}
+use Rattle.esr_core.proofs.Adds.{at_was}
 use Rattle.esr_core.proofs.Results.{found_done}
 use Rattle.esr_core.proofs.Staging.{larger_is}
 use Rattle.esr_core.proofs.Finalizing.{finalizes, root_one_each}
 use Rattle.esr_core.proofs.Take.{Kinds, IsSnap, IsMeta, IsIndex, kinds}
 use Rattle.esr_core.proofs.Marked.{marked_is}
 use Rattle.esr_core.proofs.TakeShard.{given_is}
-use Rattle.esr_core.proofs.Evolving.{failed_is, out_done, out_same, up_done}
+use Rattle.esr_core.proofs.Evolving.{failed_is, out_done, up_done}
 use Rattle.esr_core.proofs.Drawing.{left_has}
 use Rattle.esr_core.proofs.Settling.{no_shard}
-use Rattle.esr_core.proofs.Below.{below_up, root_up, ticket_up, ids_up, ids_put, ids_again, ids_new, ids_ops, ids_add, ids_blobs, ids_root, ids_doom, commits_below}
+use Rattle.esr_core.proofs.Below.{ticket_up, ids_up, ids_put, ids_again, ids_new, ids_ops, ids_add, ids_blobs, ids_root, commits_below}
 use Rattle.esr_core.proofs.Ordered.{shard_ref}
 use Rattle.esr_core.proofs.Queues.{Ops, was_in, left_in}
 

@@ -1,16 +1,15 @@
 -- Each turn keeps what the tickets of shards have committed.
-use Rattle.std.proofs.Common.{◌≡◌, ◌≢◌, ◌⊎◌, ℕ, suc, ◌+◌, ◌<◌, ◌≤◌, List, [], ◌∷◌, Bool, true, false, true≢false, Option, Some, None, refl, sym, ap, ◌∙◌, subst, inl, inr, arith, nat_cmp}
-use Rattle.std.specs.FinMap.{FinMap}
+use Rattle.std.proofs.Common.{◌≡◌, ℕ, ◌+◌, ◌<◌, ◌≤◌, List, [], true, false, true≢false, Some, None, refl, sym, ap, ◌∙◌, subst, inl, inr, arith}
 use Rattle.std.specs.FinMap as fin
 use Rattle.esr_model.specs.Names.{BlobName, Root, Latest, Snap, Meta, IndexMeta, ShardSnap, ShardIndex, File, Part, TestMaster, TestNode}
-use Rattle.esr_model.specs.Values.{Bytes, Has, FileEntry, ShardFiles, RootData, ReadsBack, Formats}
+use Rattle.esr_model.specs.Values.{Bytes, Has, FileEntry, ShardFiles, RootData, Formats}
 use Rattle.esr_model.specs.Shelf.{Shelved}
 use Rattle.esr_model.specs.Image.{IsStored, Blobs, Reads, IndexStands, At}
-use Rattle.esr_core.specs.World.{World, Work, Shard, Finalize, Deleting, Drop, Ticket, Swap, swap, swap_of, HeldIn}
+use Rattle.esr_core.specs.World.{World, Work, Shard, Finalize, Deleting, Drop, Ticket, Swap, swap_of, HeldIn}
 use Rattle.esr_core.specs.Ready.{IsShard}
-use Rattle.esr_core.specs.Steps.{Drew, ShardCommits, MayCommit, CommitDone, CommitFault, Remove, FetchFound, reading, writing, noting, shard_ticket, final_ticket}
-use Rattle.esr_core.specs.Generations.{Base, ShardLaw}
-use Rattle.esr_core.specs.Ids.{OfUuid, OfId, Law}
+use Rattle.esr_core.specs.Steps.{Drew, ShardCommits, MayCommit, CommitDone, Remove, FetchFound, reading, writing, noting, shard_ticket, final_ticket}
+use Rattle.esr_core.specs.Generations.{Base}
+use Rattle.esr_core.specs.Ids.{OfId, Law}
 use Rattle.esr_core.specs.Written.{WroteLaw, Written}
 use Rattle.esr_core.specs.Turns.{DrawShard, plain_ticket, Turn, Stays, Commits, CommitFails, Finds, Raises, Latests, Fetches, SettlesFinal, SettlesDelete, Elects, TakesShard, TakesFinal, TakesDrop, TakesDelete, TakesCleanup, AsksCleanup, CleanDrops, DrawsShard, DrawsPlan, Dones, Ending, Fails, FailsDelete, Drops, AsksCreate, AsksDelete, Merges, Removing, Deposes}
 use Rattle.esr_core.proofs.Adds.{at_kept, at_new}

@@ -1,17 +1,15 @@
 -- The world after a step.
 use Rattle.std.specs.Prelude.{ℕ, zero, suc, ◌+◌, Bool, true, false, List, [], ◌∷◌, ◌++◌, Option, Some, None, map, ◌==◌, ◌&&◌, if◌then◌else◌}
-use Rattle.std.specs.Ordering.{nat_cmp}
-use Rattle.std.specs.FinMap.{FinMap}
 use Rattle.std.specs.FinMap as fin
 use Rattle.esr_model.specs.Names.{BlobName, Latest}
-use Rattle.esr_model.specs.Values.{Bytes, IndexRef, RootIndex, RootData, SnapInfo, ShardResult, Formats}
+use Rattle.esr_model.specs.Values.{Bytes, IndexRef, RootIndex, ShardResult, Formats}
 use Rattle.esr_model.specs.Uploads.{same_bytes}
 use Rattle.esr_model.specs.Kept.{first_id}
 use Rattle.esr_model.specs.Image.{Blobs, Image}
-use Rattle.esr_core.specs.World.{World, Op, ShardWork, Pending, Out, Done, Work, Shard, Finalize, Deleting, Drop, Ticket, Swap, swap, marked, shelved_of, record_of}
+use Rattle.esr_core.specs.World.{World, Op, ShardWork, Pending, Done, Work, Shard, Finalize, Deleting, Drop, Ticket, Swap, swap, marked, record_of}
 use Rattle.esr_core.specs.Steps.{with_ticket, noting, writing, reading, given, completing, settled, shard_ticket, final_ticket}
 use Rattle.esr_core.specs.Turns.{plain_ticket, fails}
-use Rattle.esr_core.specs.Entry.{AskedIndex, Asked, Snapshot, Given, GivenShard, GivenFinalize, GivenDrop, Step, AskStep, TakeStep, DrawStep, BeginStep, CommitStep, LatestStep, FetchStep, ListStep, RaiseStep, SettleStep, DoneStep, FailedStep, FinishStep, DroppedStep, ElectStep, LookStep, Refusal, DepotFault, Reply, Accepted, Gave, DrawnFrom, WasDone, WasThere, WasReplaced, WasFetched, RaisedTo, WasSettled, HasEnded, ElectedTerm, Refused, Entry, Moment}
+use Rattle.esr_core.specs.Entry.{AskedIndex, Asked, Snapshot, Given, GivenShard, GivenFinalize, GivenDrop, Step, AskStep, TakeStep, DrawStep, BeginStep, CommitStep, LatestStep, FetchStep, RaiseStep, SettleStep, DoneStep, FailedStep, FinishStep, DroppedStep, ElectStep, DepotFault, Reply, Gave, WasDone, WasThere, WasFetched, HasEnded, Refused, Moment}
 
 abbrev pub or_else : {A : Type 0} → Option A → Option A → Option A
 or_else None b = b

@@ -1,20 +1,20 @@
 -- What each step asks of the world before it, by its answer.
-use Rattle.std.specs.Prelude.{◌≡◌, ◌≢◌, ◌⊎◌, ℕ, zero, suc, ◌+◌, ◌-◌, ◌^◌, ◌<◌, ◌≤◌, Bool, true, false, List, [], ◌∷◌, ◌++◌, map, length, sum_by, min, Option, Some, None}
+use Rattle.std.specs.Prelude.{◌≡◌, ◌≢◌, ◌⊎◌, ℕ, suc, ◌+◌, ◌-◌, ◌^◌, ◌<◌, ◌≤◌, true, false, List, [], ◌∷◌, length, sum_by, min, Option, Some, None}
 use Rattle.std.specs.FinMap as fin
 use Rattle.esr_model.specs.Names.{BlobName, Root, Latest, ShardSnap, ShardIndex}
-use Rattle.esr_model.specs.Values.{Bytes, Has, RootSnap, SnapInfo, FileEntry, ShardFiles, ShardResult, ReadsBack, Formats}
+use Rattle.esr_model.specs.Values.{Bytes, Has, RootSnap, SnapInfo, ShardFiles, ShardResult, ReadsBack, Formats}
 use Rattle.esr_model.specs.Shelf.{Shelved}
 use Rattle.esr_model.specs.Kept.{first_id}
 use Rattle.esr_model.specs.Finalize.{finalized_root}
 use Rattle.esr_model.specs.Image.{Blobs, Image, IsStored, Present}
 use Rattle.esr_model.specs.Uploads.{entries_from, id_after, shard_blobs, with_snap, no_files}
-use Rattle.esr_core.specs.World.{World, Op, Deletion, ShardWork, Out, Work, Shard, Finalize, Drop, Ticket, Swap, swap, AllDone, info_of, metadata, record_of}
+use Rattle.esr_core.specs.World.{World, Op, Deletion, ShardWork, Out, Shard, Finalize, Drop, Ticket, Swap, swap, info_of, metadata, record_of}
 use Rattle.esr_core.specs.Generations.{OpTexts}
 use Rattle.esr_core.specs.Ready.{IsShard, IsMaster, ReadyShard, ReadyFinalize, ReadyDrop, ReadyDelete, ReadyCleanup, AnyReady}
 use Rattle.esr_core.specs.Steps.{IsOut, Drew, Largest, MayCommit, MaySettle}
 use Rattle.esr_core.specs.Texts.{IsMetaOf}
 use Rattle.std.specs.Int.{w64, to_be_bytes}
-use Rattle.esr_core.specs.Entry.{AskedIndex, Asked, Snapshot, Given, GivenShard, GivenFinalize, GivenDrop, Why, Step, AskStep, TakeStep, DrawStep, BeginStep, CommitStep, LatestStep, FetchStep, ListStep, RaiseStep, SettleStep, DoneStep, FailedStep, FinishStep, DroppedStep, ElectStep, LookStep, Refusal, CleanupRunning, NameInUse, TooMany, DeposedAt, AbortedBy, StaleTerm, GenerationsSpent, TermsSpent, IdsSpent, NameTaken, DepotFault, Reply, Accepted, NothingReady, Gave, DrawnFrom, WasBegun, WasDone, WasThere, WasReplaced, WasFetched, WasAbsent, WasListed, RaisedTo, WasSettled, HasEnded, ElectedTerm, Looked, Refused, Entry, Moment}
+use Rattle.esr_core.specs.Entry.{AskedIndex, Asked, Snapshot, Given, GivenShard, GivenFinalize, GivenDrop, Why, Step, AskStep, TakeStep, DrawStep, BeginStep, CommitStep, LatestStep, FetchStep, ListStep, RaiseStep, SettleStep, DoneStep, FailedStep, FinishStep, DroppedStep, ElectStep, LookStep, CleanupRunning, NameInUse, TooMany, DeposedAt, StaleTerm, GenerationsSpent, TermsSpent, IdsSpent, NameTaken, DepotFault, Reply, Accepted, NothingReady, Gave, DrawnFrom, WasBegun, WasDone, WasThere, WasReplaced, WasFetched, WasAbsent, WasListed, RaisedTo, WasSettled, HasEnded, ElectedTerm, Looked, Refused, Moment}
 use Rattle.esr_core.specs.After.{asked_op, new_names, shard_of, after}
 
 -- what `index.latest` holds: the generation as 8 bytes, the highest first

@@ -1,13 +1,13 @@
 -- What the example of a legal history needs: a snapshot of no index, taken into an empty container.
-use Rattle.std.specs.Prelude.{◌≡◌, ℕ, suc, List, [], ◌∷◌}
+use Rattle.std.specs.Prelude.{◌≡◌, ℕ, List, [], ◌∷◌}
 use Rattle.std.specs.FinMap as fin
 use Rattle.esr_model.specs.Names.{Root, Latest, Snap, Meta}
 use Rattle.esr_model.specs.Values.{Bytes, ReadsBack, Formats}
-use Rattle.esr_model.specs.Shelf.{Shelved, Command, Create}
+use Rattle.esr_model.specs.Shelf.{Create}
 use Rattle.esr_model.specs.Kept.{first_id}
 use Rattle.esr_model.specs.Finalize.{finalized_root}
 use Rattle.esr_model.specs.Image.{IsStored}
-use Rattle.esr_core.specs.World.{World, Op, Ticket, info_of, record_ops, opened, no_record, no_root}
+use Rattle.esr_core.specs.World.{World, Op, info_of, record_ops, opened, no_record, no_root}
 use Rattle.esr_core.specs.Generations.{OpTexts}
 use Rattle.esr_core.specs.Entry.{Moment}
 use Rattle.esr_core.specs.After.{asked_op}

@@ -1,11 +1,11 @@
 -- Histories with their images: which are legal, and which commands count.
-use Rattle.std.specs.Prelude.{◌≡◌, ℕ, ◌+◌, ◌≤◌, Bool, true, false, nat_lt, ◌&&◌, length, if◌then◌else◌, List, [], ◌∷◌, ◌++◌, Option, Some, None}
+use Rattle.std.specs.Prelude.{◌≡◌, ℕ, ◌≤◌, Bool, true, false, nat_lt, ◌&&◌, length, if◌then◌else◌, List, [], ◌∷◌, ◌++◌, Option, Some, None}
 use Rattle.std.specs.FinMap as fin
 use Rattle.esr_model.specs.Values.{Bytes, Has, FileEntry, Formats}
 use Rattle.esr_model.specs.Shelf.{Command}
 use Rattle.esr_model.specs.Image.{Image, Blobs, At, FileStands}
 use Rattle.esr_core.specs.World.{World, Ticket, Swap, swap}
-use Rattle.esr_core.specs.Entry.{Step, SettleStep, Refusal, DepotFault, Reply, WasSettled, Refused, Moment}
+use Rattle.esr_core.specs.Entry.{Step, SettleStep, DepotFault, Reply, WasSettled, Refused, Moment}
 use Rattle.esr_core.specs.After.{after}
 use Rattle.esr_core.specs.Allowed.{Allowed}
 

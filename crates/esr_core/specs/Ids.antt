@@ -1,13 +1,13 @@
 -- Ids lie below the next one, and no doomed name has one that an open op or a shard ticket out has.
-use Rattle.std.specs.Prelude.{◌≡◌, ℕ, suc, ◌+◌, ◌<◌, ◌≤◌, true, List, Option, Some}
+use Rattle.std.specs.Prelude.{◌≡◌, ℕ, suc, ◌+◌, ◌<◌, ◌≤◌, true, List, Some}
 use Rattle.std.specs.Ordering.{nat_cmp}
 use Rattle.std.specs.FinMap.{FinMap}
 use Rattle.std.specs.FinMap as fin
 use Rattle.esr_model.specs.Names.{BlobName, Root, Latest, Snap, Meta, IndexMeta, ShardSnap, ShardIndex, File, Part, TestMaster, TestNode}
-use Rattle.esr_model.specs.Values.{Bytes, IndexRef, RootSnap, RootIndex, RootData, ShardResult, Formats}
+use Rattle.esr_model.specs.Values.{Bytes, IndexRef, RootData, ShardResult, Formats}
 use Rattle.esr_model.specs.Shelf.{Shelved}
 use Rattle.esr_model.specs.Kept.{first_id, IdsBelow, RootIds}
-use Rattle.esr_model.specs.Image.{Blobs, Has, Present, Generation}
+use Rattle.esr_model.specs.Image.{Blobs, Has, Present}
 use Rattle.esr_core.specs.World.{World, Op, Deletion, ShardWork, Done, Shard, Ticket, Swap, swap}
 use Rattle.esr_core.specs.Ready.{IsShard}
 use Rattle.esr_core.specs.Steps.{Drew}

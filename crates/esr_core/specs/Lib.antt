@@ -10,6 +10,7 @@ pub mod Queue
 pub mod Written
 pub mod Ids
 pub mod Tracked
+pub mod Ranked
 pub mod Turns
 pub mod Entry
 pub mod After

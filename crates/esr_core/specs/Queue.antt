@@ -4,9 +4,9 @@ use Rattle.std.specs.Ordering.{nat_cmp}
 use Rattle.std.specs.FinMap.{FinMap}
 use Rattle.std.specs.FinMap as fin
 use Rattle.esr_model.specs.Values.{RootSnap, RootIndex, RootData, ShardResult, Formats}
-use Rattle.esr_model.specs.Shelf.{Shelved, Command, Delete, names_uuid}
+use Rattle.esr_model.specs.Shelf.{Shelved, names_uuid}
 use Rattle.esr_model.specs.Image.{Has}
-use Rattle.esr_core.specs.World.{World, Op, Deletion, ShardWork, Pending, Out, Done, GivenUp, Work, Shard, Finalize, Deleting, Drop, Ticket, Swap, AllDone}
+use Rattle.esr_core.specs.World.{World, Op, Deletion, ShardWork, Pending, Out, GivenUp, Deleting, Drop, Ticket, Swap, AllDone}
 use Rattle.esr_core.specs.Ready.{Barrier, Stopped, Idle, IsMaster, SwapIsOut, UnitIsOut}
 use Rattle.esr_core.specs.Sound.{Sound}
 

@@ -13,12 +13,12 @@ use Rattle.esr_model.specs.Kept.{first_id}
 use Rattle.esr_model.specs.Finalize.{finalized_root}
 use Rattle.esr_model.specs.Reach.{Reached}
 use Rattle.esr_model.specs.Places.{places}
-use Rattle.esr_core.specs.Generations.{OpTexts, Together, BaseBelow}
+use Rattle.esr_core.specs.Generations.{OpTexts, Together}
 use Rattle.esr_core.specs.Swaps.{SwapShape}
-use Rattle.esr_core.specs.World.{World, Ticket, Op, Deletion, ShardWork, ShardState, Pending, Out, Done, GivenUp, Work, Shard, Finalize, Deleting, Drop, Swap, swap, marked, info_of, metadata, HeldIn}
-use Rattle.esr_core.specs.Ready.{IsShard, IsMaster, ReadyShard, ReadyFinalize, ReadyDrop, ReadyDelete, ReadyCleanup, UnitIsOut}
+use Rattle.esr_core.specs.World.{World, Ticket, Op, Deletion, ShardWork, ShardState, Pending, Out, Done, GivenUp, Work, Shard, Finalize, Deleting, Drop, Swap, marked, info_of, HeldIn}
+use Rattle.esr_core.specs.Ready.{IsShard, IsMaster, ReadyShard, ReadyFinalize, ReadyDrop, ReadyDelete, ReadyCleanup}
 use Rattle.esr_core.specs.Queue.{Lists}
-use Rattle.esr_core.specs.Steps.{IsOut, Largest, given, shard_ticket, final_ticket, with_ticket, completing, settled, MaySettle, CommitDone, CommitFault, CommitExists, Raise, Elect, TryLatest, FetchFound, Drew, ExtendsBase, Ends, Remove}
+use Rattle.esr_core.specs.Steps.{IsOut, Largest, given, shard_ticket, final_ticket, completing, settled, MaySettle, CommitDone, CommitFault, CommitExists, Raise, Elect, TryLatest, FetchFound, Drew, ExtendsBase, Ends, Remove}
 
 -- take: the four kinds of unit
 pub record TakeReadyShard (w : World) (o : ℕ) (op : Op) (s : ShardWork) (base : Option ℕ) (new : World) : Type 0 where

@@ -17,6 +17,7 @@ ghost use Rattle.esr_core.specs.Sound.{Sound};
 ghost use Rattle.esr_core.specs.Queue.{Lists, Sole, QueueIn};
 ghost use Rattle.esr_core.specs.Ids.{Law, DoomedIds, IdsIn, InTerm};
 ghost use Rattle.esr_core.specs.Tracked.{IsOneIndex, Tracked};
+ghost use Rattle.esr_core.specs.Ranked.{Ranked};
 ghost use Rattle.esr_core.specs.Ready.{IsOpen, AnyReady, Barrier, Idle, SwapIsOut};
 ghost use Rattle.std.specs.FinMap as fin;
 ghost use Rattle.std.specs.FinMap.{FinMap};
@@ -176,4 +177,19 @@ pub fn each_history_is_tracked()
 /// A step that doesn't swap the record leaves it, whatever it answers and whatever the container tells.
 pub fn the_record_stays()
     ensures { (f : Formats) (w : World) (m : Moment) → swaps_record m.entry.step ≡ false → record_of (after f w m) ≡ record_of w }
+{}
+
+/// In the opened world no ticket has raised a generation.
+pub fn opened_worlds_are_ranked()
+    ensures { (blobs : Blobs) (cluster : ClusterRecord) (root : RootData) → cluster.ledger.safe ≤ cluster.ledger.pending → Ranked (opened blobs cluster root) }
+{}
+
+/// Each step keeps the order of generations: what a ticket raised lies below the next one and, while it can still settle, above the safe one.
+pub fn each_step_is_ranked()
+    ensures { (f : Formats) (part_size : ℕ) (w : World) (m : Moment) → Tracked w → Ranked w → Allowed f part_size w m → Ranked (after f w m) }
+{}
+
+/// And so does each legal history.
+pub fn each_history_is_ranked()
+    ensures { (f : Formats) (part_size : ℕ) (w : World) (log : List Moment) → Tracked w → Ranked w → IsLegal f part_size w log → Ranked (world_from f w log) }
 {}
