@@ -2,6 +2,7 @@
 ghost use Rattle.std.specs.Prelude.{◌≡◌, ◌<◌, ◌^◌, ℕ, Bool, List, length, map, None, Some};
 ghost use Rattle.esr_names.specs.NameRule.{index_name_fault};
 ghost use Rattle.esr_hash.specs.Prints.{print_of};
+ghost use Rattle.esr_record.specs.Op.{IsMaking};
 ghost use Rattle.esr_model.specs.Names.{BlobName};
 ghost use Rattle.esr_model.specs.Values.{Bytes, ReadsBack};
 ghost use Rattle.esr_core.specs.Generations.{WritesBack};
@@ -56,12 +57,13 @@ fn rule(index: &IndexRef)
     let _id = index.id.number;
 }
 
-/// What a finalization of the op writes beside the root reads back, where its indices are apart and each
-/// has 1 to 1,024 shards.
+/// What a finalization of the op writes beside the root reads back, and the op can stand in a record, where
+/// its indices are apart and each has 1 to 1,024 shards.
 pub fn making_can_be_written(info: &Making)
     requires { AreApart (map ref_of_code info.now.indices) }
-    ensures { (known : Bytes → Bytes → ℕ → Bool) (told : Bytes → Bytes → ℕ → List (Bytes × Bytes))
+    ensures written { (known : Bytes → Bytes → ℕ → Bool) (told : Bytes → Bytes → ℕ → List (Bytes × Bytes))
         → WritesBack (formats known told) info.now.name info.now.uuid.number info.now.moment (map ref_of_code info.now.indices) }
+    ensures making { IsMaking info.now }
 {
     let _name = info.name.as_str();
     let _uuid = info.uuid.number;

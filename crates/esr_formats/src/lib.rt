@@ -17,6 +17,6 @@ pub use laws::{
 pub use metas::{
     read_global, read_index_meta, read_info, write_global, write_index_meta, write_info,
 };
-pub use names::{read_name, write_name};
+pub use names::{append_name, read_name, write_name};
 pub use roots::{read_root, write_root};
 pub use shards::{read_shard_index, read_shard_snap, write_shard_index, write_shard_snap};

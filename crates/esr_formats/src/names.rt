@@ -1,11 +1,11 @@
 //! The names of blobs.
-ghost use Rattle.std.specs.Prelude.{◌≡◌, IfOk, IfSome, option_map};
+ghost use Rattle.std.specs.Prelude.{◌≡◌, ◌++◌, IfOk, IfSome, OnOk, option_map};
 ghost use Rattle.esr_names.specs.Layout.{IsName};
 ghost use Rattle.esr_model.specs.Values.{ReadsBack};
 ghost use Rattle.esr_formats.specs.Names.{name_of, name_kind};
 
 use esr_names::{BlobName, parse_name, print_name};
-use esr_seq::Text;
+use esr_seq::{Bytes, Text};
 use std::alloc::{AllocError, Global};
 
 /// The text of a name whose numbers are those of the layout, which reads as it.
@@ -29,4 +29,13 @@ pub fn read_name(bytes: &[u8]) -> Option<BlobName>
     ensures range { IfSome result IsName }
 {
     parse_name(bytes)
+}
+
+/// Appends the text of a name, also of one whose numbers aren't those of the layout.
+pub fn append_name(out: &mut Bytes, name: &BlobName) -> Result<(), AllocError>
+    ensures { OnOk result (out.new ≡ out.old ++ name_kind.text (name_of name.now)) }
+{
+    let mut text = [0; 128];
+    let len = print_name(name, &mut text);
+    out.extend_from_slice(&text[..len])
 }
