@@ -21,6 +21,7 @@ abbrev pub last_of : ℕ → ℤ
 last_of zero = negsuc 0
 last_of (suc n) = pos n
 
+-- what an open op does
 abbrev pub work_of_code : OpWork → RecordWork
 work_of_code (works.Create info) = Creating info.name info.uuid.number info.moment (map ref_of_code info.indices)
 work_of_code (works.Clone info source) = Cloning info.name info.uuid.number info.moment (map ref_of_code info.indices) source.number
@@ -35,6 +36,7 @@ op_of o = (o.op, work_of_code o.work)
 abbrev pub cluster_of : Record → ClusterRecord
 cluster_of r = record { ledger = record { safe = count_of r.safe; pending = count_of r.pending; term = r.term }; ops = map op_of r.ops }
 
+-- the same the other way
 abbrev pub code_work : RecordWork → OpWork
 code_work (Creating name uuid moment indices) = works.Create (record { indices = map code_ref indices; moment = moment; name = name; uuid = id_of uuid })
 code_work (Cloning name uuid moment indices source) = works.Clone (record { indices = map code_ref indices; moment = moment; name = name; uuid = id_of uuid }) (id_of source)
@@ -48,5 +50,6 @@ code_op o = record { op = o.0; work = code_work o.1 }
 abbrev pub code_cluster : ClusterRecord → Record
 code_cluster c = record { ops = map code_op c.ops; pending = last_of c.ledger.pending; safe = last_of c.ledger.safe; term = c.ledger.term }
 
+-- how cluster records are written and read
 unfoldable pub cluster_kind : Kind ClusterRecord
 cluster_kind = kind_by code_cluster cluster_of record_text record_from

@@ -13,5 +13,6 @@ global_of_code m = record { name = m.name; uuid = m.uuid.number; moment = m.mome
 abbrev pub code_global : GlobalMeta → CodeGlobal
 code_global m = record { moment = m.moment; name = m.name; uuid = id_of m.uuid }
 
+-- how they are written and read
 unfoldable pub global_kind : Kind GlobalMeta
 global_kind = kind_by code_global global_of_code global_text global_from

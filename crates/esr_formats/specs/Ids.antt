@@ -2,6 +2,7 @@
 use Rattle.std.specs.Prelude.{ℕ}
 use Rattle.esr_names.specs.declared.ids.Id.{Id}
 
+-- the number of an id
 abbrev pub number_of : Id → ℕ
 number_of u = u.number
 

@@ -12,5 +12,6 @@ index_meta_of m = record { index = record { id = m.id.number; name = m.name; sha
 abbrev pub code_index_meta : IndexMetadata → Index
 code_index_meta m = record { id = id_of m.index.id; name = m.index.name; shards = m.index.shards; uuid = id_of m.uuid }
 
+-- how they are written and read
 unfoldable pub index_meta_kind : Kind IndexMetadata
 index_meta_kind = kind_by code_index_meta index_meta_of index_meta_text index_meta_from

@@ -14,5 +14,6 @@ info_of_code i = record { name = i.name; uuid = i.uuid.number; state = i.state; 
 abbrev pub code_info : SnapInfo → Info
 code_info i = record { bytes = i.bytes; files = i.files; indices = map code_ref i.indices; moment = i.moment; name = i.name; state = i.state; uuid = id_of i.uuid }
 
+-- how infos are written and read
 unfoldable pub info_kind : Kind SnapInfo
 info_kind = kind_by code_info info_of_code info_text info_from

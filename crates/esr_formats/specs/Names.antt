@@ -64,5 +64,6 @@ checked_name bytes name = if is_of_layout name && bytes_eq (name_text name) byte
 unfoldable pub read_name : Bytes → Option CodeName
 read_name bytes = option_and_then (checked_name bytes) (reading.name_of bytes)
 
+-- how names are written and read
 unfoldable pub name_kind : Kind BlobName
 name_kind = record { text = λ name. name_text (code_name name); read = λ bytes. option_map name_of (read_name bytes) }

@@ -12,16 +12,19 @@ use Rattle.esr_formats.specs.Kinds.{kind_by}
 abbrev pub entry_of : CodeEntry → FileEntry
 entry_of e = record { name = e.name.number; physical = e.physical; len = e.print.len; digest = e.print.sha256; part_size = e.part_size }
 
+-- the files that a snapshot has, by their ids
 abbrev pub snap_list_of : CodeList → SnapList
 snap_list_of l = record { uuid = l.uuid.number; files = map number_of l.files }
 
+-- what a snapshot has of a shard
 abbrev pub shard_snap_of : SnapValue → ShardSnapshot
 shard_snap_of s = record { uuid = s.uuid.number; files = map entry_of s.files }
 
+-- the index of a shard
 abbrev pub shard_index_of : IndexValue → ShardFiles
 shard_index_of v = record { files = map entry_of v.files; snapshots = map snap_list_of v.snapshots }
 
--- the entry of the code that an entry is
+-- the same the other way
 abbrev pub code_entry : FileEntry → CodeEntry
 code_entry e = record { name = id_of e.name; physical = e.physical; print = record { len = e.len; sha256 = e.digest }; part_size = e.part_size }
 
@@ -34,8 +37,10 @@ code_shard_snap s = record { files = map code_entry s.files; uuid = id_of s.uuid
 abbrev pub code_shard_index : ShardFiles → IndexValue
 code_shard_index v = record { files = map code_entry v.files; snapshots = map code_snap_list v.snapshots }
 
+-- how what snapshots have of a shard is written and read
 unfoldable pub shard_snap_kind : Kind ShardSnapshot
 shard_snap_kind = kind_by code_shard_snap shard_snap_of shard_snap_text shard_snap_from
 
+-- how indices of shards are written and read
 unfoldable pub shard_index_kind : Kind ShardFiles
 shard_index_kind = kind_by code_shard_index shard_index_of shard_index_text shard_index_from
