@@ -11,14 +11,9 @@ use Rattle.esr_formats.specs.IndexMetas.{index_meta_kind}
 use Rattle.esr_formats.specs.Shards.{shard_snap_kind, shard_index_kind}
 use Rattle.esr_formats.specs.Clusters.{cluster_kind}
 
-<<<<<<< ours
+-- the parameter, for sources that tell this
 unfoldable pub formats : (Bytes → Bytes → ℕ → Bool) → (Bytes → Bytes → ℕ → List (Bytes × Bytes)) → Formats
 formats known told =
-=======
--- the parameter, for sources that tell this
-unfoldable pub formats : (Bytes → Bytes → ℕ → List (Bytes × Bytes)) → Formats
-formats told =
->>>>>>> theirs
     record {
       names = name_kind;
       root = root_kind;

@@ -1,6 +1,6 @@
 -- What the words of a line ask for, or the first thing that is wrong with them.
-use Rattle.std.specs.Prelude.{◌≡◌, ℕ, ◌==◌, ◌&&◌, ◌||◌, nat_lt, nat_le, Bool, true, false, not, is_some, List, [], ◌∷◌, ◌++◌, length, codes, fold, if◌then◌else◌, Option, Some, None, Result, Ok, Err}
-use Rattle.std.specs.List.{list_any, list_all, before_first, after_first}
+use Rattle.std.specs.Prelude.{ℕ, ◌==◌, ◌||◌, nat_lt, Bool, false, is_some, List, [], ◌∷◌, ◌++◌, length, codes, fold, if◌then◌else◌, Option, Some, None, Result, Ok, Err}
+use Rattle.std.specs.List.{list_any, before_first, after_first}
 use Rattle.std.specs.Str.{bytes_eq}
 use Rattle.std.specs.Option.{ok_or}
 use Rattle.esr_names.specs.NameRule.{snap_name_fault, index_name_fault}

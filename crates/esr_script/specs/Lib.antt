@@ -2,3 +2,5 @@ pub mod Numbers
 pub mod Lines
 pub mod Items
 pub mod Script
+pub mod Program
+pub mod Jobs

@@ -2,15 +2,20 @@
 #![tactic(auto)]
 
 mod item;
+mod job;
 mod line;
 mod names;
 mod number;
 mod parts;
+mod program;
 mod refusal;
 mod script;
 #[cfg(test)]
 mod tests;
+mod words;
 
 pub use item::{AskedIndex, AskedIndices, Item, Script, ScriptLine};
-pub use refusal::{ScriptRefusal, Why};
+pub use job::{Job, JobWork, Options};
+pub use refusal::{ScriptRefusal, Why, WordsRefusal};
 pub use script::script_read;
+pub use words::{Words, repo_place, words_read};

@@ -81,8 +81,9 @@ fn alone(item: Item, words: &[Text]) -> Result<Item, Fault>
     }
 }
 
+/// What a verb asks for with the words after it.
 #[tactic(auto, unfolding(crate::specs::Items::verb_of))]
-fn verb_of(alloc: Global, verb: &str, words: &[Text]) -> Result<Item, Fault>
+pub(crate) fn verb_of(alloc: Global, verb: &str, words: &[Text]) -> Result<Item, Fault>
     ensures { Gives result (verb_of verb.now words.now) }
 {
     match verb {

@@ -32,6 +32,7 @@ fn has_leading_zero(digits: &[u8]) -> bool
 /// The number from `least` to `most` that a text spells in decimal, without sign or leading zero.
 pub(crate) fn number_in(least: u64, most: u64, text: &str) -> Option<u64>
     ensures exact { result ≡ number_in least most text.now }
+    ensures least { IfSome result (λ n. least ≤ n) }
     ensures bound { IfSome result (λ n. n ≤ most) }
 {
     let digits = text.as_bytes();

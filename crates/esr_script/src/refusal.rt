@@ -34,6 +34,16 @@ pub enum ScriptRefusal {
     BadLine { number: u32, why: Why },
 }
 
+/// Why the words of the command line ask for nothing.
+#[derive(Clone, Copy, Debug, PartialEq, Eq, Error)]
+pub enum WordsRefusal {
+    #[error("out of memory")]
+    Memory,
+    /// The command line has no such words.
+    #[error("bad words")]
+    BadWords,
+}
+
 /// Why the words of a line give no item.
 #[derive(Clone, Copy, Debug, PartialEq, Eq)]
 pub(crate) enum Fault {
@@ -82,5 +92,16 @@ impl<T: Drop> From<AllocFailed<T>> for ScriptRefusal {
 
     fn from(_: AllocFailed<T>) -> ScriptRefusal {
         ScriptRefusal::Memory
+    }
+}
+
+impl From<AllocError> for WordsRefusal {
+    ghost use Rattle.std.specs.Prelude.{◌≡◌};
+    ghost use Rattle.esr_script.specs.declared.refusal.WordsRefusal.TheVariants.{Memory};
+
+    ghost from_gives = { λ _ e. e ≡ Memory };
+
+    fn from(_: AllocError) -> WordsRefusal {
+        WordsRefusal::Memory
     }
 }

@@ -1,5 +1,6 @@
 //! What scripts and words give.
 use super::*;
+use esr_seq::Text;
 use std::alloc::Global;
 use std::fmt::Write;
 use std::test::Fail;
@@ -157,5 +158,112 @@ fn a_script_has_at_most_4_mebibytes(rt: HostRuntime) -> Result<(), Fail> {
     assert_eq!(rt; fault(alloc, &script), None);
     script.push(b'\n')?;
     assert_eq!(rt; fault(alloc, &script), Some(ScriptRefusal::TooLong));
+    Ok(())
+}
+
+/// The words of a command line without the program's name, which spaces part here.
+fn words(alloc: Global, line: &str) -> Result<Words, Fail> {
+    let mut words = Words::new(alloc);
+    for word in line.split_whitespace() {
+        words.push(Text::from_str(alloc, word)?)?;
+    }
+    Ok(words)
+}
+
+/// The job of a command line: its workers, the size of its parts and its work, or why there is none.
+fn told_job(alloc: Global, line: &str) -> Result<String, Fail> {
+    let mut text = String::new(alloc);
+    let job = match words_read(alloc, &words(alloc, line)?) {
+        Ok(job) => job,
+        Err(refusal) => {
+            write!(text, "{refusal}")?;
+            return Ok(text);
+        }
+    };
+    write!(text, "{} {} ", job.options.workers, job.options.part_size)?;
+    match &job.work {
+        JobWork::Run => text.push_str("run")?,
+        JobWork::Single(item) => tell(alloc, &mut text, item)?,
+        JobWork::Generate { seed } => write!(text, "generate {seed}")?,
+    }
+    Ok(text)
+}
+
+#[test]
+fn words_have_their_jobs(rt: HostRuntime) -> Result<(), Fail> {
+    let cases = [
+        ("run", "4 16777216 run"),
+        ("--workers 2 --chunk-size 4 run", "2 4 run"),
+        (
+            "--chunk-size=1073741824 --workers=64 check",
+            "64 1073741824 check",
+        ),
+        ("--repo dir list", "4 16777216 list"),
+        (
+            "snapshot s1 logs/1/src",
+            "4 16777216 snapshot s1 logs:1:src",
+        ),
+        ("clone s1 c1 b a b", "4 16777216 clone s1 c1 b a"),
+        ("delete s1 s2 s1", "4 16777216 delete s1 s2"),
+        ("restore s1 out", "4 16777216 restore s1 out"),
+        ("cleanup", "4 16777216 cleanup"),
+        ("verify", "4 16777216 verify"),
+        ("generate 42", "4 16777216 generate 42"),
+        (
+            "generate 18446744073709551615",
+            "4 16777216 generate 18446744073709551615",
+        ),
+        ("", "bad words"),
+        ("--workers 2", "bad words"),
+        ("--workers 0 run", "bad words"),
+        ("--workers 65 run", "bad words"),
+        ("--workers 04 run", "bad words"),
+        ("--workers +4 run", "bad words"),
+        ("--workers 2 --workers 2 run", "bad words"),
+        ("--chunk-size 0 run", "bad words"),
+        ("--chunk-size 1073741825 run", "bad words"),
+        ("--threads 2 run", "bad words"),
+        ("run --workers 2", "bad words"),
+        ("run x", "bad words"),
+        ("list x", "bad words"),
+        ("snapshot s1 logs/0/src", "bad words"),
+        ("snapshot s1 a/1/x a/1/y", "bad words"),
+        ("snapshot -s a/1/x", "bad words"),
+        ("delete", "bad words"),
+        ("wait", "bad words"),
+        ("failover", "bad words"),
+        ("what", "bad words"),
+        ("generate", "bad words"),
+        ("generate 1 2", "bad words"),
+        ("generate 18446744073709551616", "bad words"),
+        ("help", "bad words"),
+        ("--help", "bad words"),
+        ("-h", "bad words"),
+        ("--version", "bad words"),
+        ("-V", "bad words"),
+        ("list --help", "bad words"),
+    ];
+    for (line, job) in cases {
+        let text = told_job(rt.alloc(), line)?;
+        assert_eq!(rt; text.as_str(), job, "{line}");
+    }
+    Ok(())
+}
+
+#[test]
+fn the_folder_is_that_of_good_words(rt: HostRuntime) -> Result<(), Fail> {
+    let cases = [
+        ("--repo dir list", "dir"),
+        ("--repo=a/b --workers 3 generate 42", "a/b"),
+        ("list", "repo"),
+        ("--repo dir", "repo"),
+        ("--repo dir wait", "repo"),
+        ("--repo dir --workers 0 list", "repo"),
+        ("--repo dir delete S", "repo"),
+    ];
+    for (line, folder) in cases {
+        let place = repo_place(rt.alloc(), &words(rt.alloc(), line)?)?;
+        assert_eq!(rt; place.as_str(), folder, "{line}");
+    }
     Ok(())
 }

@@ -19,7 +19,7 @@ use Rattle.esr_shardidx.proofs.Added.{later_differ, differs}
 
 -- ---- one more entry
 
-find-insert_own : (e : FileEntry) (fs : List FileEntry) → Agrees fs e → find (has_name e.name) (insert_file e fs) ≡ Some e
+pub find-insert_own : (e : FileEntry) (fs : List FileEntry) → Agrees fs e → find (has_name e.name) (insert_file e fs) ≡ Some e
 find-insert_own e [] agrees = let own = eq-eqb e.name.number e.name.number refl in rw own refl
 find-insert_own e (f ∷ fs) agrees = elim (cases_Bool (nat_lt f.name.number e.name.number)) [
   | inl less ↦
@@ -31,7 +31,7 @@ find-insert_own e (f ∷ fs) agrees = elim (cases_Bool (nat_lt f.name.number e.n
   ]
 ]
 
-find-insert_other : (u : Id) (e : FileEntry) (fs : List FileEntry) → (e.name.number == u.number) ≡ false → find (has_name u) (insert_file e fs) ≡ find (has_name u) fs
+pub find-insert_other : (u : Id) (e : FileEntry) (fs : List FileEntry) → (e.name.number == u.number) ≡ false → find (has_name u) (insert_file e fs) ≡ find (has_name u) fs
 find-insert_other u e [] apart = rw apart refl
 find-insert_other u e (f ∷ fs) apart = elim (cases_Bool (nat_lt f.name.number e.name.number)) [
   | inl less ↦ rw less (ap (λ (o : Option FileEntry). cond (has_name u f) (Some f) o) (find-insert_other u e fs apart))
@@ -58,7 +58,7 @@ some_found : (u : Id) (f g : FileEntry) (t : Bool) (o p : Option FileEntry) → 
 some_found u f g true o p later h = h
 some_found u f g false o p later h = later h
 
-find-insert_kept : (u : Id) (e f : FileEntry) (fs : List FileEntry) → Rises fs → find (has_name u) fs ≡ Some f → find (has_name u) (insert_file e fs) ≡ Some f
+pub find-insert_kept : (u : Id) (e f : FileEntry) (fs : List FileEntry) → Rises fs → find (has_name u) fs ≡ Some f → find (has_name u) (insert_file e fs) ≡ Some f
 find-insert_kept u e f [] rises h = cc
 find-insert_kept u e f (g ∷ fs) rises h = elim (cases_Bool (nat_lt g.name.number e.name.number)) [
   | inl less ↦ rw less (some_found u f g (has_name u g) (find (has_name u) fs) (find (has_name u) (insert_file e fs)) (λ later. find-insert_kept u e f fs rises.1 later) h)
@@ -115,7 +115,7 @@ with_snap_of-files v s snap fresh agrees = rw fresh (entries_there v.files [] s.
 
 -- ---- the entries that are kept
 
-find-filter : (p : FileEntry → Bool) (u : Id) (es : List FileEntry) → ((e : FileEntry) → has_name u e ≡ true → p e ≡ true) → find (has_name u) (filter p es) ≡ find (has_name u) es
+pub find-filter : (p : FileEntry → Bool) (u : Id) (es : List FileEntry) → ((e : FileEntry) → has_name u e ≡ true → p e ≡ true) → find (has_name u) (filter p es) ≡ find (has_name u) es
 find-filter p u [] h = refl
 find-filter p u (e ∷ es) h = elim (cases_Bool (p e)) [
   | inl kept ↦ rw kept (ap (λ (o : Option FileEntry). cond (has_name u e) (Some e) o) (find-filter p u es h))

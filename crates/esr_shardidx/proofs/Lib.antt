@@ -5,7 +5,13 @@ pub mod Files
 pub mod Found
 pub mod IndexTexts
 pub mod Kept
+pub mod Marking
+pub mod Merged
+pub mod Pieces
 pub mod PlainTexts
+pub mod ReadSteps
+pub mod Repeats
+pub mod Rising
 pub mod SnapTexts
 pub mod Tested
 pub mod Unrefused

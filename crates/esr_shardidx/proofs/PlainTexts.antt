@@ -42,7 +42,7 @@ IsUtf8-name : (s : List ℕ) → is_file_name s ≡ true → IsUtf8 s
 IsUtf8-name s h =
     IsUtf8-from_ascii s (IsAscii-name s (past (is_relative s) _ (past (nat_lt 255 (length s)) _ (past (length s == 0) _ h))))
 
-IsUtf8-file_text : (u : Id) → IsUtf8 (file_text u)
+pub IsUtf8-file_text : (u : Id) → IsUtf8 (file_text u)
 IsUtf8-file_text u = IsUtf8-append (codes "__") (id_text u.number) (IsUtf8-from_ascii (codes "__") (IsAscii-cons 95 (95 ∷ []) (omega arith) (IsAscii-cons 95 [] (omega arith) IsAscii-nil))) (IsUtf8-id_text u.number)
 
 IsPlain-entry : (e : FileEntry) → IsEntry e → IsPlain (entry_data e)

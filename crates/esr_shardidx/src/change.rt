@@ -1,13 +1,18 @@
 //! What makes one index of another.
-ghost use Rattle.std.specs.Prelude.{◌≡◌, ◌≤◌, ◌++◌, ◌∷◌, [], length, map, slice_get, IfOk, OnOk};
+ghost use Rattle.std.specs.Prelude.{◌≡◌, ◌++◌, ◌∷◌, [], filter, false, if◌then◌else◌, map, not, IfOk, OnOk};
+ghost use Rattle.std.specs.Ordering.{nat_cmp};
+ghost use Rattle.std.specs.BTreeSet.{contains};
 ghost use Rattle.esr_shardidx.specs.Snapshots.{IsShardSnap};
-ghost use Rattle.esr_shardidx.specs.Indices.{place_of, is_at, insert_file, name_of, insert_files, list_of_snap, listed_of, with_snap_of, survivors_of};
+ghost use Rattle.esr_shardidx.specs.Indices.{Rises, is_named, repeats, has_file, name_of, insert_files, list_of_snap, listed_of, with_snap_of, survivors_of};
+ghost use Rattle.esr_shardidx.specs.Marks.{AreMarked};
 
-use crate::reading::{contains, has_list, named_by};
+use crate::marks::{is_there, mark_files, marked_copies, set_of};
+use crate::reading::has_list;
 use crate::{FileEntry, ShardIndex, ShardSnap, SnapList, SnapLists};
 use esr_names::{Id, Ids};
 use esr_seq::Seq;
 use std::alloc::{AllocError, Global};
+use std::collections::BTreeSet;
 
 fn copied_entries(alloc: Global, entries: &[FileEntry]) -> Result<Vec<FileEntry>, AllocError>
     ensures { IfOk result (λ v. v.items ≡ entries.now) }
@@ -29,47 +34,6 @@ fn copied_lists(alloc: Global, lists: &[SnapList]) -> Result<SnapLists, AllocErr
     Ok(copy)
 }
 
-/// The place of the first entry with this id or one above it.
-fn place_of(entries: &[FileEntry], name: Id) -> usize
-    ensures place { result ≡ place_of name entries.now }
-    ensures within { result ≤ length entries.now }
-{
-    let mut place = 0;
-    for entry in entries {
-        if entry.name.number >= name.number {
-            return place;
-        }
-        place += 1;
-    }
-    place
-}
-
-/// Whether the entry at a place has this id.
-fn is_at(entries: &[FileEntry], place: usize, name: Id) -> bool
-    ensures { result ≡ is_at name (slice_get entries.now place) }
-{
-    match entries.get(place) {
-        Some(entry) => entry.name.number == name.number,
-        None => false,
-    }
-}
-
-/// Puts a copy of the entry among entries that rise by id, unless one of them has its id.
-fn insert_file(
-    alloc: Global,
-    entries: &mut Vec<FileEntry>,
-    entry: &FileEntry,
-) -> Result<(), AllocError>
-    ensures ok { OnOk result (entries.new.items ≡ insert_file entry.now entries.old.items) }
-{
-    let place = place_of(entries.as_slice(), entry.name);
-    if is_at(entries.as_slice(), place, entry.name) {
-        return Ok(());
-    }
-    entries.insert(place, entry.try_clone(alloc)?)?;
-    Ok(())
-}
-
 fn names_of(alloc: Global, entries: &[FileEntry]) -> Result<Ids, AllocError>
     ensures { IfOk result (λ v. v ≡ map name_of entries.now) }
 {
@@ -89,30 +53,50 @@ fn list_of_snap(alloc: Global, snap: &ShardSnap) -> Result<SnapList, AllocError>
     })
 }
 
-/// Puts copies of the entries among entries that rise by id, each unless one there has its id.
-fn insert_files(
+/// Appends copies of the entries of `more` whose ids `entries` don't have.
+fn add_fresh(
     alloc: Global,
-    entries: &mut Vec<FileEntry>,
+    files: &mut Vec<FileEntry>,
+    entries: &[FileEntry],
     more: &[FileEntry],
 ) -> Result<(), AllocError>
-    ensures ok { OnOk result (entries.new.items ≡ insert_files entries.old.items more.now) }
+    requires { Rises entries.now }
+    ensures { OnOk result (files.new.items ≡ files.old.items ++ filter (λ e. not (has_file entries.now e.name)) more.now) }
 {
     for entry in more {
-        insert_file(alloc, entries, entry)?;
+        if !is_there(entries, entry.name) {
+            files.push(entry.try_clone(alloc)?)?;
+        }
     }
     Ok(())
+}
+
+/// Copies of the entries, and of those of `more` whose ids they don't have, by id.
+fn with_files(
+    alloc: Global,
+    entries: &[FileEntry],
+    more: &[FileEntry],
+) -> Result<Vec<FileEntry>, AllocError>
+    requires rises { Rises entries.now }
+    requires differ { repeats (map name_of more.now) ≡ false }
+    ensures { IfOk result (λ v. v.items ≡ insert_files entries.now more.now) }
+{
+    let mut files = copied_entries(alloc, entries)?;
+    add_fresh(alloc, &mut files, entries, more)?;
+    files.sort_by_key(|file| file.name.number)?;
+    Ok(files)
 }
 
 /// Keeps a copy of the list, where its snapshot is listed.
 fn keep_list(
     alloc: Global,
     kept: &mut SnapLists,
-    listed: &[Id],
+    listed: &BTreeSet<u128>,
     list: &SnapList,
 ) -> Result<(), AllocError>
-    ensures ok { OnOk result (kept.new ≡ kept.old ++ listed_of listed.now (list.now ∷ [])) }
+    ensures ok { OnOk result (kept.new ≡ kept.old ++ (if contains nat_cmp listed.now list.now.uuid.number then list.now ∷ [] else [])) }
 {
-    if contains(listed, list.uuid) {
+    if listed.contains(&list.uuid.number) {
         kept.push(list.try_clone(alloc)?)?;
     }
     Ok(())
@@ -121,11 +105,28 @@ fn keep_list(
 fn listed_of(alloc: Global, lists: &[SnapList], listed: &[Id]) -> Result<SnapLists, AllocError>
     ensures { IfOk result (λ v. v ≡ listed_of listed.now lists.now) }
 {
+    let listed = set_of(alloc, listed)?;
     let mut kept = Seq::new(alloc);
     for list in lists {
-        keep_list(alloc, &mut kept, listed, list)?;
+        keep_list(alloc, &mut kept, &listed, list)?;
     }
     Ok(kept)
+}
+
+/// Marks for the files that some list has.
+fn marks_of(
+    alloc: Global,
+    entries: &[FileEntry],
+    lists: &[SnapList],
+) -> Result<Vec<usize>, AllocError>
+    requires { Rises entries.now }
+    ensures { IfOk result (λ v. AreMarked (is_named lists.now) entries.now v.items) }
+{
+    let mut marks = vec![in alloc; 0; entries.len()]?;
+    for list in lists {
+        mark_files(entries, &mut marks, list.files.as_slice());
+    }
+    Ok(marks)
 }
 
 impl ShardIndex {
@@ -146,12 +147,11 @@ impl ShardIndex {
         if has_list(self.snapshots(), snap.uuid()) {
             return self.try_clone(alloc);
         }
-        let mut entries = copied_entries(alloc, self.files())?;
-        insert_files(alloc, &mut entries, snap.files())?;
+        let files = with_files(alloc, self.files(), snap.files())?;
         let mut snapshots = copied_lists(alloc, self.snapshots())?;
         snapshots.push(list_of_snap(alloc, snap)?)?;
         Ok(ShardIndex {
-            files: Seq::from_vec(entries),
+            files: Seq::from_vec(files),
             snapshots,
         })
     }
@@ -161,8 +161,8 @@ impl ShardIndex {
         ensures { IfOk result (λ i. i ≡ survivors_of self.now listed.now) }
     {
         let snapshots = listed_of(alloc, self.snapshots(), listed.as_slice())?;
-        let entries = Seq::from_vec(copied_entries(alloc, self.files())?);
-        let files = named_by(snapshots.as_slice(), entries);
+        let marks = marks_of(alloc, self.files(), snapshots.as_slice())?;
+        let files = marked_copies(alloc, self.files(), marks.as_slice())?;
         Ok(ShardIndex { files, snapshots })
     }
 }

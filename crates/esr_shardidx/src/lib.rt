@@ -5,6 +5,7 @@ mod change;
 mod entry;
 mod index;
 mod laws;
+mod marks;
 mod parts;
 mod physical;
 mod reading;

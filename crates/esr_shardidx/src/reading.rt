@@ -1,12 +1,14 @@
 //! Reading what a snapshot has of a shard, and a shard's index.
-ghost use Rattle.std.specs.Prelude.{◌≡◌, [], map};
-ghost use Rattle.std.specs.List.{list_any, list_all};
+ghost use Rattle.std.specs.Prelude.{◌≡◌, ◌+◌, [], length, map, IfOk};
+ghost use Rattle.std.specs.List.{list_any};
 ghost use Rattle.serde_json.specs.View.{view};
 ghost use Rattle.esr_json.specs.Steps.{Gives};
 ghost use Rattle.esr_shardidx.specs.Entries.{read_file, last_place, file_after, physical_after, print_at, entry_of, is_below, id_falls, name_stays, last_of};
 ghost use Rattle.esr_shardidx.specs.Snapshots.{has_name, id_at, snap_files_from, shard_snap_of, shard_snap_from};
-ghost use Rattle.esr_shardidx.specs.Indices.{is_id, repeats, has_uuid, has_file, names_file, is_named, named_by, index_files_from, file_item, file_ids_from, list_of, checked, lists_from, shard_index_of, shard_index_from};
+ghost use Rattle.esr_shardidx.specs.Indices.{has_uuid, has_file, is_at, index_files_from, file_item, file_ids_from, list_of, lists_from, shard_index_of, shard_index_from, Rises};
+ghost use Rattle.esr_shardidx.specs.Marks.{AreMarks, IsNamed};
 
+use crate::marks::{Named, marked};
 use crate::{
     FileEntries, FileEntry, PhysicalName, PhysicalRefusal, ShardIndex, ShardSnap, SnapList,
     SnapLists,
@@ -17,6 +19,7 @@ use esr_names::{Id, Ids, id_read};
 use esr_seq::Seq;
 use serde_json::Value;
 use std::alloc::Global;
+use std::collections::BTreeSet;
 
 /// The id of the file that has this name.
 #[tactic(auto, unfolding(crate::specs::Entries::read_file))]
@@ -46,6 +49,16 @@ fn id_falls(before: &[FileEntry], name: Id) -> bool
 {
     match before.last() {
         Some(last) => name.number < last.name.number,
+        None => false,
+    }
+}
+
+/// Whether an id is that of the last entry.
+fn id_stays(before: &[FileEntry], name: Id) -> bool
+    ensures { result ≡ is_at name (last_of before.now) }
+{
+    match before.last() {
+        Some(last) => name.number == last.name.number,
         None => false,
     }
 }
@@ -151,9 +164,10 @@ fn snap_files_of(alloc: Global, values: &[Value]) -> Result<FileEntries, ReadRef
     ensures { Gives (λ v. v) result (snap_files_from [] (map view values.now)) }
 {
     let mut files = Seq::new(alloc);
+    let mut ids = BTreeSet::new(alloc);
     for value in values {
         let entry = entry_of(alloc, &[], files.as_slice(), value)?;
-        if has_file(files.as_slice(), entry.name) {
+        if !ids.insert(entry.name.number)? {
             return Err(ReadRefusal::Damaged {
                 why: Reason::Duplicate,
             });
@@ -181,12 +195,13 @@ pub fn shard_snap_read(alloc: Global, bytes: &[u8]) -> Result<ShardSnap, ReadRef
 
 #[tactic(auto, unfolding(crate::specs::Indices::index_files_from))]
 fn index_files_of(alloc: Global, values: &[Value]) -> Result<FileEntries, ReadRefusal>
-    ensures { Gives (λ v. v) result (index_files_from [] (map view values.now)) }
+    ensures gives { Gives (λ v. v) result (index_files_from [] (map view values.now)) }
+    ensures rises { IfOk result Rises }
 {
     let mut files = Seq::new(alloc);
     for value in values {
         let entry = entry_of(alloc, files.as_slice(), &[], value)?;
-        if has_file(files.as_slice(), entry.name) {
+        if id_stays(files.as_slice(), entry.name) {
             return Err(ReadRefusal::Damaged {
                 why: Reason::Duplicate,
             });
@@ -223,84 +238,31 @@ fn list_of(alloc: Global, value: &Value) -> Result<SnapList, ReadRefusal>
     Ok(SnapList { files, uuid })
 }
 
-pub fn contains(ids: &[Id], id: Id) -> bool
-    ensures { result ≡ list_any (is_id id) ids.now }
-{
-    ids.iter().any(|other| *other == id)
-}
-
-/// Whether an id stands twice.
-fn repeats(ids: &[Id]) -> bool
-    ensures { result ≡ repeats ids.now }
-{
-    let mut rest = ids;
-    while let [id, more @ ..] = rest {
-        if contains(more, *id) {
-            return true;
-        }
-        rest = more;
-    }
-    false
-}
-
 pub fn has_list(lists: &[SnapList], uuid: Id) -> bool
     ensures { result ≡ list_any (has_uuid uuid) lists.now }
 {
     lists.iter().any(|list| list.uuid == uuid)
 }
 
-fn has_all(entries: &[FileEntry], names: &[Id]) -> bool
-    ensures { result ≡ list_all (has_file entries.now) names.now }
-{
-    names.iter().all(|name| has_file(entries, *name))
-}
-
-/// Refuses a second list of a snapshot, a file that stands twice, and one that isn't there.
-fn checked(entries: &[FileEntry], before: &[SnapList], list: SnapList) -> Result<SnapList, Reason>
-    ensures { result ≡ checked entries.now before.now list }
-{
-    if has_list(before, list.uuid) || repeats(list.files.as_slice()) {
-        Err(Reason::Duplicate)
-    } else if !has_all(entries, list.files.as_slice()) {
-        Err(Reason::Unlisted)
-    } else {
-        Ok(list)
-    }
-}
-
 #[tactic(auto, unfolding(crate::specs::Indices::lists_from))]
 fn lists_of(
     alloc: Global,
     entries: &[FileEntry],
+    named: &mut Named,
     values: &[Value],
 ) -> Result<SnapLists, ReadRefusal>
-    ensures { Gives (λ v. v) result (lists_from entries.now [] (map view values.now)) }
+    requires rises { Rises entries.now }
+    requires named { IsNamed entries.now [] named.old }
+    ensures gives { Gives (λ v. v) result (lists_from entries.now [] (map view values.now)) }
+    ensures named { IfOk result (λ ls. IsNamed entries.now ls named.new) }
 {
     let mut lists = Seq::new(alloc);
     for value in values {
         let list = list_of(alloc, value)?;
-        let list = checked(entries, lists.as_slice(), list)?;
+        let list = named.checked(alloc, entries, lists.as_slice(), list)?;
         lists.push(list)?;
     }
     Ok(lists)
-}
-
-/// Whether some list has the file.
-pub fn is_named(lists: &[SnapList], entry: &FileEntry) -> bool
-    ensures { result ≡ is_named lists.now entry.now }
-{
-    lists
-        .iter()
-        .any(|list| contains(list.files.as_slice(), entry.name))
-}
-
-/// The files that some list has.
-pub fn named_by(lists: &[SnapList], entries: FileEntries) -> FileEntries
-    ensures { result ≡ named_by lists.now entries }
-{
-    let mut kept = entries.into_vec();
-    kept.retain(|entry| is_named(lists, entry));
-    Seq::from_vec(kept)
 }
 
 #[tactic(auto, unfolding(crate::specs::Indices::shard_index_of))]
@@ -309,8 +271,9 @@ fn shard_index_of(alloc: Global, value: &Value) -> Result<ShardIndex, ReadRefusa
 {
     let entries = index_files_of(alloc, items(value, Key::Files)?)?;
     let lists = items(value, Key::Snapshots)?;
-    let snapshots = lists_of(alloc, entries.as_slice(), lists)?;
-    let files = named_by(snapshots.as_slice(), entries);
+    let mut named = Named::new(alloc, entries.len())?;
+    let snapshots = lists_of(alloc, entries.as_slice(), &mut named, lists)?;
+    let files = marked(alloc, entries, named.marks.as_slice())?;
     Ok(ShardIndex { files, snapshots })
 }
 

@@ -1,124 +1,182 @@
 //! Writing what a snapshot has of a shard, and a shard's index.
-ghost use Rattle.std.specs.Prelude.{◌≡◌, map, IfOk, Ok};
-ghost use Rattle.serde_json.specs.Data.{array, string};
-ghost use Rattle.serde_json.specs.View.{view, items_of};
+ghost use Rattle.std.specs.Prelude.{◌≡◌, ◌∷◌, [], codes, map, IfOk, IsUtf8, OnOk, Ok};
+ghost use Rattle.json.specs.Token.{Token as Piece};
+ghost use Rattle.serde_json.specs.Data.{array};
+ghost use Rattle.serde_json.specs.View.{items_of};
 ghost use Rattle.esr_names.specs.IdText.{id_text};
 ghost use Rattle.esr_hash.specs.Digits.{digits_of};
 ghost use Rattle.esr_shardidx.specs.Entries.{file_text, entry_data};
 ghost use Rattle.esr_shardidx.specs.Snapshots.{shard_snap_data, shard_snap_text, shard_snap_from, IsShardSnap};
 ghost use Rattle.esr_shardidx.specs.Indices.{file_data, list_data, shard_index_data, shard_index_text, shard_index_from, IsShardIndex};
+ghost use Rattle.esr_shardidx.specs.Written.{tokens_of, number_member, text_member, entry_members, Adds};
 
 use crate::{FileEntry, ShardIndex, ShardSnap, SnapList};
 use esr_hash::{Print, print_text};
-use esr_json::{text_value, write};
 use esr_names::{Id, id_text};
 use esr_seq::Bytes;
-use serde_json::{Value, json};
+use json::Writer;
 use std::alloc::{AllocError, Global};
 
-fn id_value(alloc: Global, id: Id) -> Result<Value, AllocError>
-    ensures { IfOk result (λ v. view v ≡ string (id_text id.number)) }
+/// A member that is a number.
+fn put_number(out: &mut Writer, name: &str, value: u64) -> Result<(), AllocError>
+    ensures { OnOk result (Adds out.old out.new (number_member name.now value)) }
 {
-    let text = id_text(id);
+    out.key(name)?;
+    out.u64(value)?;
+    Ok(())
+}
+
+/// A member that is a text.
+fn put_text(out: &mut Writer, name: &str, value: &str) -> Result<(), AllocError>
+    ensures { OnOk result (Adds out.old out.new (text_member name.now value.now)) }
+{
+    out.key(name)?;
+    out.string(value)?;
+    Ok(())
+}
+
+/// The name of a file.
+fn file_name(file: Id) -> [u8; 24]
+    ensures text { result ≡ file_text file }
+    ensures utf8 { IsUtf8 result }
+{
+    let mut name = *b"__######################";
+    name[2..].copy_from_slice(&id_text(file));
+    name
+}
+
+fn put_file(out: &mut Writer, file: Id) -> Result<(), AllocError>
+    ensures { OnOk result (Adds out.old out.new (Piece.string (file_text file) ∷ [])) }
+{
+    let name = file_name(file);
+    let Ok(name) = str::from_utf8(&name) else {
+        unreachable!();
+    };
+    out.string(name)?;
+    Ok(())
+}
+
+fn put_uuid(out: &mut Writer, uuid: Id) -> Result<(), AllocError>
+    ensures { OnOk result (Adds out.old out.new (text_member (codes "uuid") (id_text uuid.number))) }
+{
+    let text = id_text(uuid);
     let Ok(text) = str::from_utf8(&text) else {
         unreachable!();
     };
-    text_value(alloc, text)
+    put_text(out, "uuid", text)?;
+    Ok(())
 }
 
-fn file_value(alloc: Global, file: Id) -> Result<Value, AllocError>
-    ensures { IfOk result (λ v. view v ≡ file_data file) }
-{
-    let id = id_text(file);
-    let Ok(id) = str::from_utf8(&id) else {
-        unreachable!();
-    };
-    let mut text = String::from_str(alloc, "__")?;
-    text.push_str(id)?;
-    Ok(Value::String(text))
-}
-
-fn digest_value(alloc: Global, print: &Print) -> Result<Value, AllocError>
-    ensures { IfOk result (λ v. view v ≡ string (digits_of print.now.sha256)) }
+fn put_digest(out: &mut Writer, print: &Print) -> Result<(), AllocError>
+    ensures { OnOk result (Adds out.old out.new (text_member (codes "sha256") (digits_of print.now.sha256))) }
 {
     let digits = print_text(print);
     let Ok(digits) = str::from_utf8(&digits) else {
         unreachable!();
     };
-    text_value(alloc, digits)
+    put_text(out, "sha256", digits)?;
+    Ok(())
 }
 
-#[tactic(auto, unfolding(crate::specs::Entries::entry_data))]
-fn entry_value(alloc: Global, entry: &FileEntry) -> Result<Value, AllocError>
-    ensures { IfOk result (λ v. view v ≡ entry_data entry.now) }
+/// The members of an entry.
+fn put_members(out: &mut Writer, entry: &FileEntry) -> Result<(), AllocError>
+    ensures { OnOk result (Adds out.old out.new (entry_members entry.now)) }
 {
-    let name = file_value(alloc, entry.name)?;
-    let sha256 = digest_value(alloc, &entry.print)?;
-    json!(in alloc; {
-        "length": entry.print.len,
-        "name": name,
-        "part_size": entry.part_size,
-        "physical_name": entry.physical.as_str(),
-        "sha256": sha256,
-    })
+    put_number(out, "length", entry.print.len)?;
+    out.key("name")?;
+    put_file(out, entry.name)?;
+    put_number(out, "part_size", entry.part_size)?;
+    put_text(out, "physical_name", entry.physical.as_str())?;
+    put_digest(out, &entry.print)?;
+    Ok(())
 }
 
-fn entries_value(alloc: Global, entries: &[FileEntry]) -> Result<Value, AllocError>
-    ensures { IfOk result (λ v. view v ≡ array (items_of (map entry_data entries.now))) }
+fn put_entry(out: &mut Writer, entry: &FileEntry) -> Result<(), AllocError>
+    ensures { OnOk result (Adds out.old out.new (tokens_of (entry_data entry.now))) }
 {
-    let mut values = Vec::new(alloc);
+    out.begin_object()?;
+    put_members(out, entry)?;
+    out.end_object()?;
+    Ok(())
+}
+
+fn put_entries(out: &mut Writer, entries: &[FileEntry]) -> Result<(), AllocError>
+    ensures { OnOk result (Adds out.old out.new (tokens_of (array (items_of (map entry_data entries.now))))) }
+{
+    out.begin_array()?;
     for entry in entries {
-        values.push(entry_value(alloc, entry)?)?;
+        put_entry(out, entry)?;
     }
-    Ok(Value::Array(values))
+    out.end_array()?;
+    Ok(())
 }
 
-fn files_value(alloc: Global, files: &[Id]) -> Result<Value, AllocError>
-    ensures { IfOk result (λ v. view v ≡ array (items_of (map file_data files.now))) }
+fn put_files(out: &mut Writer, files: &[Id]) -> Result<(), AllocError>
+    ensures { OnOk result (Adds out.old out.new (tokens_of (array (items_of (map file_data files.now))))) }
 {
-    let mut values = Vec::new(alloc);
+    out.begin_array()?;
     for file in files {
-        values.push(file_value(alloc, *file)?)?;
+        put_file(out, *file)?;
     }
-    Ok(Value::Array(values))
+    out.end_array()?;
+    Ok(())
 }
 
-fn list_value(alloc: Global, list: &SnapList) -> Result<Value, AllocError>
-    ensures { IfOk result (λ v. view v ≡ list_data list.now) }
+fn put_list(out: &mut Writer, list: &SnapList) -> Result<(), AllocError>
+    ensures { OnOk result (Adds out.old out.new (tokens_of (list_data list.now))) }
 {
-    let files = files_value(alloc, list.files.as_slice())?;
-    let uuid = id_value(alloc, list.uuid)?;
-    json!(in alloc; {"files": files, "uuid": uuid})
+    out.begin_object()?;
+    out.key("files")?;
+    put_files(out, list.files.as_slice())?;
+    put_uuid(out, list.uuid)?;
+    out.end_object()?;
+    Ok(())
 }
 
-fn lists_value(alloc: Global, lists: &[SnapList]) -> Result<Value, AllocError>
-    ensures { IfOk result (λ v. view v ≡ array (items_of (map list_data lists.now))) }
+fn put_lists(out: &mut Writer, lists: &[SnapList]) -> Result<(), AllocError>
+    ensures { OnOk result (Adds out.old out.new (tokens_of (array (items_of (map list_data lists.now))))) }
 {
-    let mut values = Vec::new(alloc);
+    out.begin_array()?;
     for list in lists {
-        values.push(list_value(alloc, list)?)?;
+        put_list(out, list)?;
     }
-    Ok(Value::Array(values))
+    out.end_array()?;
+    Ok(())
 }
 
-#[tactic(auto, unfolding(crate::specs::Snapshots::shard_snap_data))]
-fn shard_snap_value(alloc: Global, snap: &ShardSnap) -> Result<Value, AllocError>
-    ensures value { IfOk result (λ v. view v ≡ shard_snap_data snap.now) }
+fn put_snap(out: &mut Writer, snap: &ShardSnap) -> Result<(), AllocError>
+    ensures put { OnOk result (Adds out.old out.new (tokens_of (shard_snap_data snap.now))) }
     ensures whole { IsShardSnap snap.now }
 {
-    let files = entries_value(alloc, snap.files())?;
-    let uuid = id_value(alloc, snap.uuid())?;
-    json!(in alloc; {"files": files, "uuid": uuid})
+    let files = snap.files();
+    out.begin_object()?;
+    out.key("files")?;
+    put_entries(out, files)?;
+    put_uuid(out, snap.uuid())?;
+    out.end_object()?;
+    Ok(())
 }
 
-#[tactic(auto, unfolding(crate::specs::Indices::shard_index_data))]
-fn shard_index_value(alloc: Global, index: &ShardIndex) -> Result<Value, AllocError>
-    ensures value { IfOk result (λ v. view v ≡ shard_index_data index.now) }
+fn put_index(out: &mut Writer, index: &ShardIndex) -> Result<(), AllocError>
+    ensures put { OnOk result (Adds out.old out.new (tokens_of (shard_index_data index.now))) }
     ensures whole { IsShardIndex index.now }
 {
-    let files = entries_value(alloc, index.files())?;
-    let snapshots = lists_value(alloc, index.snapshots())?;
-    json!(in alloc; {"files": files, "snapshots": snapshots})
+    let files = index.files();
+    out.begin_object()?;
+    out.key("files")?;
+    put_entries(out, files)?;
+    out.key("snapshots")?;
+    put_lists(out, index.snapshots())?;
+    out.end_object()?;
+    Ok(())
+}
+
+/// A writer of nothing yet.
+fn writer(alloc: Global) -> Result<Writer, AllocError>
+    ensures before { IfOk result (λ w. w.before ≡ []) }
+    ensures tokens { IfOk result (λ w. w.tokens ≡ []) }
+{
+    Ok(Writer::new(Vec::with_capacity(alloc, 128)?))
 }
 
 /// The text of what a snapshot has of a shard, which reads back as it.
@@ -126,8 +184,9 @@ pub fn shard_snap_text(alloc: Global, snap: &ShardSnap) -> Result<Bytes, AllocEr
     ensures text { IfOk result (λ t. t ≡ shard_snap_text snap.now) }
     ensures reads { IfOk result (λ t. shard_snap_from t ≡ Ok snap.now) }
 {
-    let value = shard_snap_value(alloc, snap)?;
-    Ok(Bytes::from_vec(write(alloc, &value)?))
+    let mut out = writer(alloc)?;
+    put_snap(&mut out, snap)?;
+    Ok(Bytes::from_vec(out.into_inner()))
 }
 
 /// The text of a shard's index, which reads back as it.
@@ -135,6 +194,7 @@ pub fn shard_index_text(alloc: Global, index: &ShardIndex) -> Result<Bytes, Allo
     ensures text { IfOk result (λ t. t ≡ shard_index_text index.now) }
     ensures reads { IfOk result (λ t. shard_index_from t ≡ Ok index.now) }
 {
-    let value = shard_index_value(alloc, index)?;
-    Ok(Bytes::from_vec(write(alloc, &value)?))
+    let mut out = writer(alloc)?;
+    put_index(&mut out, index)?;
+    Ok(Bytes::from_vec(out.into_inner()))
 }

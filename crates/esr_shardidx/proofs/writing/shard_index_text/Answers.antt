@@ -1,14 +1,13 @@
-use Rattle.std.proofs.Common.{sym, subst, arith}
-use Rattle.serde_json.specs.Read.{max_depth}
-use Rattle.esr_json.specs.Shallow.{IsShallow}
-use Rattle.esr_json.proofs.Shallow.{IsShallow-more}
-use Rattle.esr_shardidx.proofs.IndexTexts.{shard_index_of-data, shard_index_data-shallow}
+use Rattle.std.proofs.Common.{◌≡◌, ap, ◌∙◌}
+use Rattle.esr_shardidx.specs.Indices.{shard_index_from, shard_index_text, shard_index_data}
+use Rattle.esr_shardidx.proofs.PlainTexts.{index_reads_back}
+use Rattle.esr_shardidx.proofs.Pieces.{text_of}
 use Rattle.esr_shardidx.proofs.writing.shard_index_text.Goals as goal
 
-pub write-requires : goal.write-requires
-write-requires c =
-    subst (IsShallow max_depth) (sym c.in_ok-value.ensures.value) (IsShallow-more 4 max_depth _ (omega arith) (shard_index_data-shallow c.args.index.now))
-
-pub returns-clause-reads : goal.returns-clause-reads
-returns-clause-reads c =
-    rw (c.from_vec.ensures, c.in_ok-write.ensures.reads, c.in_ok-value.ensures.value) (shard_index_of-data c.args.index.now c.in_ok-value.ensures.whole)
+pub returns : goal.returns
+returns c =
+    let text : c.from_vec.result ≡ shard_index_text c.args.index.now = c.from_vec.ensures ∙ c.into_inner.ensures.items ∙ text_of c.in_ok-out.out c.put_index.new.out (shard_index_data c.args.index.now) c.in_ok-out.ensures.before c.in_ok-out.ensures.tokens c.in_ok-put_index.ensures.put in
+    record {
+      text = text;
+      reads = ap shard_index_from text ∙ index_reads_back c.args.index.now c.in_ok-put_index.ensures.whole;
+    }

@@ -1,0 +1,92 @@
+-- What a step of a ticket needs, by what the ticket has done.
+use Rattle.std.specs.Prelude.{◌≡◌, ◌≢◌, ◌⊎◌, ℕ, suc, ◌+◌, ◌^◌, ◌≤◌, true, false, length, Option, Some, None}
+use Rattle.esr_model.specs.Names.{BlobName, Root, Latest, ShardSnap, ShardIndex}
+use Rattle.esr_model.specs.Values.{Bytes, Has, RootData, ShardResult}
+use Rattle.esr_core.specs.World.{Ticket, Shard, Swap, swap}
+use Rattle.esr_core.specs.Ready.{IsShard, IsMaster}
+use Rattle.esr_core.specs.Steps.{Drew, MayCommit}
+use Rattle.esr_core.specs.Allowed.{DoneBy, latest_text}
+use Rattle.esr_desk.specs.Start.{Start, formats_of, told_bytes}
+
+-- a shard's ticket draws once: at least one id, and at most one for each file of its source and one more
+pub record CanDraw (s : Start) (t : Ticket) (n : ℕ) : Type 0 where
+  pub out : t.out ≡ true
+  pub shard : IsShard t.work
+  pub once : t.drawn ≡ 0
+  pub some : 1 ≤ n
+  pub most : (index number : ℕ) → t.work ≡ Shard index number → s.known t.place t.name number ≡ true → n ≤ suc (length (s.told t.place t.name number))
+  pub few : n ≤ 2 ^ 32
+
+-- before its settle a ticket commits blobs of its unit
+pub record CanCommit (s : Start) (t : Ticket) (name : BlobName) (bytes : Bytes) : Type 0 where
+  pub out : t.out ≡ true
+  pub unsettled : t.settled ≡ false
+  pub may : MayCommit (formats_of s) t name bytes
+  pub stored : name ≢ Latest
+
+-- `index.latest` follows the root that the ticket raised and committed
+pub record CanPut (s : Start) (t : Ticket) (n : ℕ) : Type 0 where
+  pub out : t.out ≡ true
+  pub change : Swap
+  pub is : swap (formats_of s) t ≡ Some change
+  pub unsettled : t.settled ≡ false
+  pub raised : t.raised ≡ Some n
+  pub written : Has t.noted (Root n)
+
+-- a blob is begun that may be committed, or `index.latest`
+abbrev pub CanBegin : Start → Ticket → BlobName → Type 0
+CanBegin s t name = ((bytes : Bytes) × CanCommit s t name bytes) ⊎ ((name ≡ Latest) × ((n : ℕ) × CanPut s t n))
+
+-- the stage holds these bytes, where the container tells
+abbrev pub Holds : Start → Option Bytes → Bytes → Type 0
+Holds s contents bytes = contents ≡ told_bytes s bytes
+
+-- a shard's ticket fetches its base
+pub record CanFetch (t : Ticket) (name : BlobName) : Type 0 where
+  pub out : t.out ≡ true
+  pub index : ℕ
+  pub number : ℕ
+  pub base : ℕ
+  pub work : t.work ≡ Shard index number
+  pub base_is : t.base ≡ Some base
+  pub name_is : name ≡ ShardIndex index number base
+
+-- a swap raises once
+pub record CanRaise (s : Start) (t : Ticket) : Type 0 where
+  pub out : t.out ≡ true
+  pub change : Swap
+  pub is : swap (formats_of s) t ≡ Some change
+  pub unsettled : t.settled ≡ false
+  pub once : t.raised ≡ None
+
+-- it settles on the root of its unit when that is committed, with all that the unit writes before it, and `index.latest` was tried
+pub record CanSettle (s : Start) (t : Ticket) (root : RootData) : Type 0 where
+  pub change : Swap
+  pub n : ℕ
+  pub put : CanPut s t n
+  pub is : swap (formats_of s) t ≡ Some change
+  pub root_is : root ≡ change.root
+  pub ready : (name : BlobName) (bytes : Bytes) → Has change.own (name, bytes) → Has t.noted name
+  pub tried : t.tried_latest ≡ true
+
+-- a shard is done when its ticket drew the generation last and committed the shard's snapshot and its index
+pub record CanEnd (s : Start) (t : Ticket) (r : ShardResult) : Type 0 where
+  pub out : t.out ≡ true
+  pub is : t.work ≡ Shard r.index r.shard
+  pub drew : Drew t r.generation
+  pub last : t.first + t.drawn ≡ suc r.generation
+  pub snap_noted : Has t.noted (ShardSnap r.index r.shard t.uuid)
+  pub index_noted : Has t.noted (ShardIndex r.index r.shard r.generation)
+  pub done : s.tells ≡ true → DoneBy (formats_of s) s.part_size t r
+
+-- a unit fails before it settles
+pub record CanFail (t : Ticket) : Type 0 where
+  pub out : t.out ≡ true
+  pub unsettled : t.settled ≡ false
+  pub unit : IsShard t.work ⊎ IsMaster t.work
+
+-- a swap that has settled ends
+pub record CanFinish (t : Ticket) : Type 0 where
+  pub out : t.out ≡ true
+  pub no_shard : IsShard t.work → ⊥
+  pub settled : t.settled ≡ true

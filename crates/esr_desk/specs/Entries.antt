@@ -1,0 +1,70 @@
+-- The entries of the history, as the definitions see them.
+use Rattle.std.specs.Prelude.{ℕ, map, option_map}
+use Rattle.esr_core.specs.Entry as entry
+use Rattle.esr_core.specs.Entry.{AskStep, TakeStep, DrawStep, BeginStep, CommitStep, LatestStep, FetchStep, ListStep, RaiseStep, SettleStep, DoneStep, FailedStep, FinishStep, DroppedStep, ElectStep, LookStep}
+use Rattle.esr_core.specs.Entry.{OfDepot, OfSource, OfChange, OfDamage, GivenShard, GivenFinalize, GivenDrop}
+use Rattle.esr_core.specs.Entry.{Accepted, NothingReady, Gave, DrawnFrom, WasBegun, WasDone, WasThere, WasReplaced, WasFetched, WasAbsent, WasListed, RaisedTo, WasSettled, HasEnded, ElectedTerm, Looked, Refused}
+use Rattle.esr_formats.specs.Ids.{number_of}
+use Rattle.esr_formats.specs.Names.{name_of}
+use Rattle.esr_formats.specs.Roots.{root_snap_of}
+use Rattle.esr_formats.specs.Infos.{info_of_code}
+use Rattle.esr_formats.specs.Clusters.{count_of}
+use Rattle.esr_results.specs.Results.{result_of}
+use Rattle.esr_progress.specs.Asked.{asked_of}
+use Rattle.esr_desk.specs.declared.entry.Why.{Why}
+use Rattle.esr_desk.specs.declared.entry.Why.TheVariants as whys
+use Rattle.esr_desk.specs.declared.entry.Step.{Step}
+use Rattle.esr_desk.specs.declared.entry.Step.TheVariants as steps
+use Rattle.esr_desk.specs.declared.entry.Given.{Given}
+use Rattle.esr_desk.specs.declared.entry.Given.TheVariants as units
+use Rattle.esr_desk.specs.declared.entry.Answer.{Answer}
+use Rattle.esr_desk.specs.declared.entry.Answer.TheVariants as answers
+use Rattle.esr_desk.specs.Refusals.{refusal_of}
+
+abbrev pub why_of : Why → entry.Why
+why_of whys.Depot = OfDepot
+why_of whys.Source = OfSource
+why_of (whys.Changed first second) = OfChange first.len first.sha256 second.len second.sha256
+why_of (whys.Damaged name) = OfDamage (name_of name)
+
+abbrev pub step_of : Step → entry.Step
+step_of (steps.Ask command) = AskStep (asked_of command)
+step_of steps.Take = TakeStep
+step_of (steps.Draw count) = DrawStep count
+step_of (steps.Begin name) = BeginStep (name_of name)
+step_of (steps.Commit name) = CommitStep (name_of name)
+step_of steps.Latest = LatestStep
+step_of (steps.Fetch name) = FetchStep (name_of name)
+step_of steps.List = ListStep
+step_of steps.Raise = RaiseStep
+step_of steps.Settle = SettleStep
+step_of (steps.Done result) = DoneStep (result_of result)
+step_of (steps.Failed why) = FailedStep (why_of why)
+step_of steps.Finish = FinishStep
+step_of steps.Dropped = DroppedStep
+step_of steps.Elect = ElectStep
+step_of steps.Look = LookStep
+
+abbrev pub unit_of : Given → entry.Given
+unit_of (units.Shard shard base) = GivenShard shard.index.number shard.number (option_map number_of base)
+unit_of (units.Finalize info shards) = GivenFinalize (info_of_code info) (map result_of shards)
+unit_of units.Drop = GivenDrop
+
+abbrev pub answer_of : Answer → entry.Reply
+answer_of (answers.Accepted op) = Accepted op
+answer_of answers.NothingReady = NothingReady
+answer_of (answers.Gave ticket op unit) = Gave ticket op (unit_of unit)
+answer_of (answers.Drawn first) = DrawnFrom first.number
+answer_of answers.Begun = WasBegun
+answer_of answers.Done = WasDone
+answer_of answers.Exists = WasThere
+answer_of answers.Replaced = WasReplaced
+answer_of answers.Fetched = WasFetched
+answer_of answers.Absent = WasAbsent
+answer_of answers.Listed = WasListed
+answer_of (answers.Raised generation) = RaisedTo generation
+answer_of answers.Settled = WasSettled
+answer_of answers.Ended = HasEnded
+answer_of (answers.Elected term) = ElectedTerm term
+answer_of (answers.Looked snapshots safe) = Looked (map root_snap_of snapshots) (count_of safe)
+answer_of (answers.Refused refusal) = Refused (refusal_of refusal)

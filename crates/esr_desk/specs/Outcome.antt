@@ -1,0 +1,49 @@
+-- What a desk learns by a step.
+use Rattle.std.specs.Prelude.{◌≡◌, ℕ, List, [], ◌∷◌, ◌++◌, Option, Some, None, Result, Ok, Err}
+use Rattle.esr_core.specs.Entry.{Step, Reply, Refusal, Refused, NothingReady, Gave, WasDone, WasThere, WasFetched, WasAbsent, Moment}
+use Rattle.esr_model.specs.Image.{Image}
+use Rattle.esr_depot.specs.declared.depot.Commit.{Commit}
+use Rattle.esr_depot.specs.declared.depot.Commit.TheVariants as commits
+use Rattle.esr_progress.specs.Units.{given_of}
+use Rattle.esr_desk.specs.declared.unit.Unit.{Unit as Given}
+use Rattle.esr_desk.specs.declared.refusal.StepRefusal.{StepRefusal}
+use Rattle.esr_desk.specs.Refusals.{told_refusal}
+use Rattle.esr_desk.specs.Start.{Start, Legal, ticket_of}
+
+-- the history may have gone on, but not by the ticket
+pub record Waited (s : Start) (old new : List Moment) (who : ℕ) : Type 0 where
+  pub others : List Moment
+  pub grew : new ≡ old ++ others
+  pub alone : ticket_of s new who ≡ ticket_of s old who
+  pub legal : Legal s new
+
+-- the same, and then there is one entry more, of who made it
+pub record Stepped (s : Start) (old new : List Moment) (who : ℕ) (step : Step) (reply : Reply) : Type 0 where
+  pub front : List Moment
+  pub waited : Waited s old front who
+  pub image : Option Image
+  pub is : new ≡ front ++ record { entry = record { who = who; step = step; reply = reply }; image = image } ∷ []
+  pub legal : Legal s new
+
+abbrev pub Refusing : Start → List Moment → List Moment → ℕ → Step → Option Refusal → Type 0
+Refusing s old new who step None = Waited s old new who
+Refusing s old new who step (Some refusal) = Stepped s old new who step (Refused refusal)
+
+-- what a step adds to the history, by its answer
+abbrev pub Outcome : {X : Type 0} → Start → List Moment → List Moment → ℕ → Step → (X → Reply) → Result X StepRefusal → Type 0
+Outcome s old new who step ok (Ok x) = Stepped s old new who step (ok x)
+Outcome s old new who step ok (Err e) = Refusing s old new who step (told_refusal e)
+
+-- ---- what some answers say in the history
+
+abbrev pub take_reply : Option Given → Reply
+take_reply None = NothingReady
+take_reply (Some u) = Gave u.ready.ticket u.ready.op (given_of u.ready)
+
+abbrev pub commit_reply : Commit → Reply
+commit_reply commits.Done = WasDone
+commit_reply commits.Exists = WasThere
+
+abbrev pub fetch_reply : {F : Type 0} → Option F → Reply
+fetch_reply None = WasAbsent
+fetch_reply (Some f) = WasFetched

@@ -1,0 +1,98 @@
+-- The ticket of a unit as it was taken, and what its steps make of it.
+use Rattle.std.specs.Prelude.{◌≡◌, ℕ, Bool, true, false, List, [], ◌∷◌, map, Option, Some, None, option_map, Result, Ok, Err, if◌then◌else◌}
+use Rattle.esr_model.specs.Names.{BlobName}
+use Rattle.esr_model.specs.Values.{Bytes, RootData}
+use Rattle.esr_model.specs.Shelf.{Shelved}
+use Rattle.esr_model.specs.Finalize.{finalized_root}
+use Rattle.esr_core.specs.World.{Ticket, Work, Shard, Finalize, Drop}
+use Rattle.esr_core.specs.Entry.{Moment}
+use Rattle.esr_core.specs.After.{committing, fetching, is_latest}
+use Rattle.esr_core.specs.Steps.{noting}
+use Rattle.esr_root.specs.Root.{Root}
+use Rattle.esr_depot.specs.declared.depot.Commit.{Commit}
+use Rattle.esr_depot.specs.declared.depot.Commit.TheVariants as commits
+use Rattle.esr_formats.specs.Ids.{number_of}
+use Rattle.esr_formats.specs.Roots.{root_of}
+use Rattle.esr_formats.specs.Infos.{info_of_code}
+use Rattle.esr_formats.specs.Clusters.{count_of}
+use Rattle.esr_results.specs.Results.{result_of}
+use Rattle.esr_progress.specs.declared.unit.Work.{Work as CodeWork}
+use Rattle.esr_progress.specs.declared.unit.Work.TheVariants as works
+use Rattle.esr_progress.specs.declared.unit.Copied.{Copied}
+use Rattle.esr_desk.specs.declared.unit.Unit.{Unit as Given}
+use Rattle.esr_desk.specs.declared.refusal.StepRefusal.{StepRefusal}
+use Rattle.esr_desk.specs.declared.refusal.StepRefusal.TheVariants as steps
+use Rattle.esr_desk.specs.declared.refusal.EntryRefusal.TheVariants.{DepotFault}
+use Rattle.esr_desk.specs.Start.{Start, ticket_of, told_bytes}
+
+-- a ticket that has done nothing yet
+abbrev pub fresh : Work → ℕ → ℕ → Bytes → Bytes → ℕ → Copied → Ticket
+fresh work op uuid place name term copy =
+    record {
+      work = work;
+      op = op;
+      uuid = uuid;
+      place = place;
+      name = name;
+      term = term;
+      safe = count_of copy.safe;
+      root = root_of copy.root;
+      base = option_map number_of copy.base;
+      first = 0;
+      drawn = 0;
+      noted = [];
+      wrote = [];
+      read = [];
+      raised = None;
+      tried_latest = false;
+      settled = false;
+      out = true;
+    }
+
+-- the root that a finalization is to write
+abbrev pub NewRoot : Option Root → RootData → Type 0
+NewRoot None new = ⊥
+NewRoot (Some root) new = root_of root ≡ new
+
+abbrev pub TookWork : CodeWork → Option Root → ℕ → Copied → Ticket → Type 0
+TookWork (works.Shard uuid shard index place) new op copy t = (term : ℕ) × (t ≡ fresh (Shard shard.index.number shard.number) op uuid.number place index term copy)
+TookWork (works.Finalize info shards) new op copy t =
+    (term : ℕ) × (made : Shelved) × (t ≡ fresh (Finalize (info_of_code info) (map result_of shards) made) op info.uuid.number [] [] term copy)
+    × NewRoot new (finalized_root (root_of copy.root) (info_of_code info) (map result_of shards))
+TookWork works.Drop new op copy t = (term : ℕ) × (t ≡ fresh Drop op 0 [] [] term copy)
+
+-- the unit's ticket is out, and has done nothing yet
+abbrev pub Took : Start → List Moment → Given → Type 0
+Took s log u = TookWork u.ready.work u.new_root u.ready.op u.ready.copy (ticket_of s log u.ready.ticket)
+
+-- ---- what a step makes of the ticket
+
+-- a blob was added, or was there
+abbrev pub committed_by : BlobName → Option Bytes → Commit → Ticket → Ticket
+committed_by name contents commits.Done t = committing name contents t
+committed_by name contents commits.Exists t = noting t name
+
+abbrev pub tried : Ticket → Ticket
+tried t = record t { tried_latest = true }
+
+-- a step on `index.latest`, which counts as tried also where the container failed
+abbrev pub tried_by : {X : Type 0} → Result X StepRefusal → Ticket → Ticket
+tried_by (Ok x) t = tried t
+tried_by (Err (steps.Refused DepotFault)) t = tried t
+tried_by (Err e) t = t
+
+-- these blobs were committed, one after another
+abbrev pub after_writes : Start → List (BlobName × Bytes) → Ticket → Ticket
+after_writes s [] t = t
+after_writes s (w ∷ ws) t = after_writes s ws (committing w.0 (told_bytes s w.1) t)
+
+-- a begin, which tries `index.latest` where the container failed in it
+abbrev pub begun_by : {X : Type 0} → BlobName → Result X StepRefusal → Ticket → Ticket
+begun_by name (Ok x) t = t
+begun_by name (Err (steps.Refused DepotFault)) t = if is_latest name then tried t else t
+begun_by name (Err e) t = t
+
+-- a fetch: what is told of the blob is noted
+abbrev pub fetched_by : {F : Type 0} → (F → Option Bytes) → BlobName → Option F → Ticket → Ticket
+fetched_by left name None t = t
+fetched_by left name (Some f) t = fetching name (left f) t

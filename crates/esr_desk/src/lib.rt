@@ -1,0 +1,14 @@
+//! The steps of a repository as its units see them: one call for each step, what it answers and what the history keeps of it.
+#![tactic(auto)]
+
+mod desk;
+mod entry;
+mod named;
+mod refusal;
+mod unit;
+
+pub use desk::Desk;
+pub use entry::{Answer, Entry, Given, History, Step, Why};
+pub use named::Named;
+pub use refusal::{EntryRefusal, StepRefusal};
+pub use unit::{Look, Unit, UnitRefusal};

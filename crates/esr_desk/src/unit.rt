@@ -1,0 +1,38 @@
+//! What a take and a look answer.
+ghost use Rattle.std.specs.Prelude.{◌≡◌};
+ghost use Rattle.esr_desk.specs.declared.unit.UnitRefusal.TheVariants.{Stopped};
+
+use crate::{StepRefusal, Why};
+use esr_progress::ReadyUnit;
+use esr_root::{RootData, RootSnaps};
+
+/// A unit that was taken. A finalization has the root that it is to write, too.
+#[derive(Debug, Drop)]
+pub struct Unit {
+    pub ready: ReadyUnit,
+    pub new_root: Option<RootData>,
+}
+
+/// The snapshots of the safe root, and its generation (-1: none).
+#[derive(Debug, Drop)]
+pub struct Look {
+    pub listing: RootSnaps,
+    pub safe: i64,
+}
+
+/// Why a unit didn't do its work.
+#[derive(Clone, Copy, Debug)]
+pub enum UnitRefusal {
+    /// A step was refused so, and the ticket is still out.
+    Stopped(StepRefusal),
+    /// The ticket has ended as failed.
+    Failed(Why),
+}
+
+impl From<StepRefusal> for UnitRefusal {
+    ghost from_gives = { λ r e. e ≡ Stopped r };
+
+    fn from(refusal: StepRefusal) -> Self {
+        UnitRefusal::Stopped(refusal)
+    }
+}

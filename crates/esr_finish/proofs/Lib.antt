@@ -1,0 +1,6 @@
+pub mod Runs
+pub mod Blobs
+pub mod Writing
+pub mod Indices
+pub mod Swaps
+pub mod Ends

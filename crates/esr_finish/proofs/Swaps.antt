@@ -1,0 +1,93 @@
+-- From one part of the unit to the next.
+use Rattle.std.proofs.Common.{◌≡◌, inl, inr, ℕ, List, [], ◌∷◌, map, Option, Some, refl, sym, ap, ◌∙◌, subst}
+use Rattle.esr_model.specs.Names.{BlobName, Root}
+use Rattle.esr_model.specs.Values.{Bytes, Has, RootData, SnapInfo}
+use Rattle.esr_model.specs.Finalize.{finalized_root}
+use Rattle.esr_model.specs.Shelf.{Create}
+use Rattle.esr_core.specs.World.{Ticket, Swap, Finalize, swap, metadata}
+use Rattle.esr_root.specs.Root as code
+use Rattle.esr_meta.specs.Info.{Info}
+use Rattle.esr_results.specs.declared.result.ShardResult.{ShardResult}
+use Rattle.esr_results.specs.Results.{result_of}
+use Rattle.esr_progress.specs.declared.unit.Work.{Work}
+use Rattle.esr_progress.specs.declared.unit.Work.TheVariants as works
+use Rattle.esr_progress.specs.declared.unit.Copied.{Copied}
+use Rattle.esr_formats.specs.Infos.{info_of_code}
+use Rattle.esr_formats.specs.Roots.{root_of}
+use Rattle.esr_desk.specs.Start.{Start, formats_of}
+use Rattle.esr_desk.specs.Conditions.{CanSettle}
+use Rattle.esr_desk.specs.Taken.{fresh, TookWork}
+use Rattle.esr_finish.specs.Ticket.{HasSwap, MayWrite, MayPutRoot, noted_with, Wrote, IsWritten}
+use Rattle.esr_finish.specs.Went.{Worked}
+use Rattle.esr_finish.proofs.Writing.{swap_stays}
+
+noted_stays : (blobs : List (BlobName × Bytes)) (noted : List BlobName) (name : BlobName) → Has noted name → Has (noted_with blobs noted) name
+noted_stays [] noted name has = has
+noted_stays (b ∷ blobs) noted name has = noted_stays blobs (b.0 ∷ noted) name (inr has)
+
+-- each of the blobs is noted
+has_noted : (blobs : List (BlobName × Bytes)) (noted : List BlobName) (b : BlobName × Bytes) → Has blobs b → Has (noted_with blobs noted) b.0
+has_noted [] noted b none = absurd none
+has_noted (x ∷ blobs) noted b (inl same) = noted_stays blobs (x.0 ∷ noted) b.0 (inl (ap (λ (y : BlobName × Bytes). y.0) same))
+has_noted (x ∷ blobs) noted b (inr later) = has_noted blobs (x.0 ∷ noted) b later
+
+-- after the metadata the root is next
+pub root_next : (s : Start) (a b : Ticket) (info : SnapInfo) (root : RootData) → MayWrite s a info root → Wrote a b (metadata (formats_of s) info) → Worked a b → MayPutRoot s b root
+root_next s a b info root may wrote worked = record {
+  change = may.change;
+  swaps = swap_stays s a b may.change worked may.swaps;
+  root_is = may.root_is;
+  noted = λ name bytes has. subst (λ (t : Ticket). Has t.noted name) (sym wrote.is)
+      (has_noted (metadata (formats_of s) info) a.noted (name, bytes) (subst (λ (own : List (BlobName × Bytes)). Has own (name, bytes)) may.own_is has));
+  once = ap (λ (t : Ticket). t.raised) wrote.is ∙ may.once;
+}
+
+-- after all of it, the settle
+pub settle_next : (s : Start) (a b : Ticket) (info : SnapInfo) (root : RootData) → MayWrite s a info root → IsWritten (formats_of s) a b → CanSettle s b root
+settle_next s a b info root may written =
+    let change = written.change in
+    let n = written.n in
+    let swaps_a : swap (formats_of s) a ≡ Some change = written.swaps in
+    let same : may.change ≡ change = cc (may.swaps.is) in
+    let is : swap (formats_of s) b ≡ Some change = ap (λ (t : Ticket). swap (formats_of s) t) written.is ∙ swaps_a in
+    record {
+      change = change;
+      n = n;
+      put = record {
+        out = ap (λ (t : Ticket). t.out) written.is ∙ may.swaps.out;
+        change = change;
+        is = is;
+        unsettled = ap (λ (t : Ticket). t.settled) written.is ∙ may.swaps.unsettled;
+        raised = ap (λ (t : Ticket). t.raised) written.is;
+        written = subst (λ (t : Ticket). Has t.noted (Root n)) (sym written.is) (inl refl);
+      };
+      is = is;
+      root_is = may.root_is ∙ ap (λ (c : Swap). c.root) same;
+      ready = λ name bytes has. subst (λ (t : Ticket). Has t.noted name) (sym written.is) (inr (has_noted change.own a.noted (name, bytes) has));
+      tried = ap (λ (t : Ticket). t.tried_latest) written.is;
+    }
+
+-- a finalization as it was taken may write its blobs
+took_may : (s : Start) (t : Ticket) (info : Info) (shards : List ShardResult) (root : code.Root) (op : ℕ) (copy : Copied) → TookWork (works.Finalize info shards) (Some root) op copy t
+    → MayWrite s t (info_of_code info) (root_of root)
+took_may s t info shards root op copy (term, made, is, root_is) =
+    let f = formats_of s in
+    let i = info_of_code info in
+    let results = map result_of shards in
+    let old = root_of copy.root in
+    let change : Swap = record { root = finalized_root old i results; own = metadata f i; commands = Create made ∷ [] } in
+    let new : Ticket = fresh (Finalize i results made) op info.uuid.number [] [] term copy in
+    let has : HasSwap s new change = record { out = refl; is = refl; unsettled = refl } in
+    record {
+      change = change;
+      swaps = subst (λ (u : Ticket). HasSwap s u change) (sym is) has;
+      own_is = refl;
+      root_is = root_is;
+      once = ap (λ (u : Ticket). u.raised) is;
+    }
+
+pub took_writes : (s : Start) (t : Ticket) (work : Work) (new : Option code.Root) (op : ℕ) (copy : Copied) (info : Info) (shards : List ShardResult) (root : code.Root)
+    → work ≡ works.Finalize info shards → new ≡ Some root → TookWork work new op copy t → MayWrite s t (info_of_code info) (root_of root)
+took_writes s t work new op copy info shards root work_is new_is took =
+    took_may s t info shards root op copy
+    (subst (λ (w : Work). TookWork w (Some root) op copy t) work_is (subst (λ (n : Option code.Root). TookWork work n op copy t) new_is took))

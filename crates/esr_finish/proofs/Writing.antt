@@ -1,0 +1,81 @@
+-- A ticket whose swap's blobs are put one after another.
+use Rattle.std.proofs.Common.{◌≡◌, ◌≢◌, inl, inr, ⊎_elim, ℕ, List, [], ◌∷◌, ◌++◌, refl, sym, ap, ◌∙◌, subst}
+use Rattle.esr_model.specs.Names.{BlobName, Root, Latest}
+use Rattle.esr_model.specs.Values.{Bytes, Has, RootData}
+use Rattle.esr_core.specs.World.{Ticket, Swap}
+use Rattle.esr_desk.specs.Start.{Start, formats_of}
+use Rattle.esr_desk.specs.Conditions.{CanCommit}
+use Rattle.esr_finish.specs.Blobs.{root_blob}
+use Rattle.esr_finish.specs.Ticket.{HasSwap, MayPut, MayPutRoot, noted_with, Wrote, raised_to}
+use Rattle.esr_finish.specs.Went.{Worked}
+
+-- a ticket that has worked has its swap still
+pub swap_stays : (s : Start) (a b : Ticket) (change : Swap) → Worked a b → HasSwap s a change → HasSwap s b change
+swap_stays s a b change worked has = subst (λ (t : Ticket). HasSwap s t change) (sym worked.is) (record { out = has.out; is = has.is; unsettled = has.unsettled })
+
+pub may_commit : (s : Start) (t : Ticket) (b : BlobName × Bytes) → MayPut s t (b ∷ []) → b.0 ≢ Latest → CanCommit s t b.0 b.1
+may_commit s t b may stored = record {
+  out = may.1.out;
+  unsettled = may.1.unsettled;
+  may = inl (may.0, may.1.is, inl (may.2 b (inl refl)));
+  stored = stored;
+}
+
+-- the root of the swap, under the generation that was raised
+pub root_commits : (s : Start) (a b : Ticket) (root : RootData) (n : ℕ) (text : Bytes) → MayPutRoot s a root → b ≡ raised_to a n → text ≡ (root_blob (formats_of s) n root).1 → CanCommit s b (Root n) text
+root_commits s a b root n text may is text_is =
+    subst (λ (t : Ticket). CanCommit s t (Root n) text) (sym is) (record {
+      out = may.swaps.out;
+      unsettled = may.swaps.unsettled;
+      may = inl (
+        may.change,
+        may.swaps.is,
+        inr (
+          n,
+          refl,
+          record {
+            unsettled = may.swaps.unsettled;
+            raised = refl;
+            text = text_is ∙ ap (λ (r : RootData). (root_blob (formats_of s) n r).1) may.root_is;
+            ready = may.noted;
+          },
+        ),
+      );
+      stored = λ same. cc;
+    })
+
+pub may_put_some : (s : Start) (t : Ticket) (all some : List (BlobName × Bytes)) → MayPut s t all → ((b : BlobName × Bytes) → Has some b → Has all b) → MayPut s t some
+may_put_some s t all some may each = (may.0, may.1, λ b has. may.2 b (each b has))
+
+pub may_put_on : (s : Start) (a b : Ticket) (blobs : List (BlobName × Bytes)) → Worked a b → MayPut s a blobs → MayPut s b blobs
+may_put_on s a b blobs worked may = (may.0, swap_stays s a b may.0 worked may.1, may.2)
+
+noted_with-append : (xs ys : List (BlobName × Bytes)) (noted : List BlobName) → noted_with (xs ++ ys) noted ≡ noted_with ys (noted_with xs noted)
+noted_with-append [] ys noted = refl
+noted_with-append (x ∷ xs) ys noted = noted_with-append xs ys (x.0 ∷ noted)
+
+pub has_left : {A : Type 0} (xs ys : List A) (y : A) → Has xs y → Has (xs ++ ys) y
+has_left [] ys y none = absurd none
+has_left (x ∷ xs) ys y (inl here) = inl here
+has_left (x ∷ xs) ys y (inr later) = inr (has_left xs ys y later)
+
+pub has_right : {A : Type 0} (xs ys : List A) (y : A) → Has ys y → Has (xs ++ ys) y
+has_right [] ys y has = has
+has_right (x ∷ xs) ys y has = inr (has_right xs ys y has)
+
+pub wrote_on : (a b c : Ticket) (xs ys : List (BlobName × Bytes)) → Wrote a b xs → Wrote b c ys → Wrote a c (xs ++ ys)
+wrote_on a b c xs ys first second = record {
+  wrote = second.wrote;
+  from = λ x has. ⊎_elim
+      (λ before. ⊎_elim (λ old. inl old) (λ one. inr (has_left xs ys x one)) (first.from x (subst (λ (t : Ticket). Has t.wrote x) first.is before)))
+      (λ one. inr (has_right xs ys x one))
+      (second.from x has);
+  is =
+      second.is
+      ∙ ap (λ (t : Ticket). record t { noted = noted_with ys t.noted; wrote = second.wrote }) first.is
+      ∙ ap (λ (noted : List BlobName). record a { noted = noted; wrote = second.wrote }) (sym (noted_with-append xs ys a.noted));
+}
+
+-- no blob
+pub wrote_none : (t : Ticket) → Wrote t t []
+wrote_none t = record { wrote = t.wrote; from = λ b has. inl has; is = refl }

@@ -1,0 +1,36 @@
+use Rattle.std.proofs.Common.{[], ◌∷◌, ◌∙◌, subst}
+use Rattle.esr_core.specs.World.{Ticket}
+use Rattle.esr_model.specs.Names.{Root}
+use Rattle.esr_model.specs.Values.{Bytes}
+use Rattle.esr_names.specs.Layout.{IsName}
+use Rattle.esr_formats.specs.Roots.{root_of}
+use Rattle.esr_desk.specs.Start.{formats_of, ticket_of}
+use Rattle.esr_finish.specs.Blobs.{root_blob}
+use Rattle.esr_finish.specs.Ticket.{Wrote}
+use Rattle.esr_finish.proofs.Blobs.{root_text_is}
+use Rattle.esr_finish.proofs.Writing.{root_commits}
+use Rattle.esr_finish.proofs.root.put_root.Goals as goal
+
+pub put-requires-clause-layout : goal.put-requires-clause-layout
+unfolding IsName
+put-requires-clause-layout g c κs within = c.in_ok-generation.ensures.range
+
+pub put-requires-clause-may : goal.put-requires-clause-may
+put-requires-clause-may g c κs within =
+    let s = g.Q.Desk.start in
+    let root = root_of c.args.root.now in
+    let n = c.in_ok-generation.generation in
+    root_commits s (ticket_of s (g.Q.Desk.seen c.args.desk.now) c.args.ticket) (ticket_of s (g.Q.Desk.seen c.raise.new.self) c.args.ticket) root n c.as_slice.result.now c.requires.may c.in_ok-generation.ensures.own
+    (root_text_is s n root c.as_slice.result.now (c.as_slice.ensures ∙ c.in_ok-text.ensures.text))
+
+pub returns-clause-ok : goal.returns-clause-ok
+returns-clause-ok g c =
+    let s = g.Q.Desk.start in
+    let root = root_of c.args.root.now in
+    let n = c.in_ok-generation.generation in
+    let t0 = ticket_of s (g.Q.Desk.seen c.args.desk.now) c.args.ticket in
+    let t1 = ticket_of s (g.Q.Desk.seen c.raise.new.self) c.args.ticket in
+    let t2 = ticket_of s (g.Q.Desk.seen c.put.new.desk) c.args.ticket in
+    let text = root_text_is s n root c.as_slice.result.now (c.as_slice.ensures ∙ c.in_ok-text.ensures.text) in
+    subst (λ (t : Ticket). Wrote t t2 (root_blob (formats_of s) n root ∷ [])) c.in_ok-generation.ensures.own
+    (subst (λ (b : Bytes). Wrote t1 t2 ((Root n, b) ∷ [])) text c.in_ok-put.ensures.ok)

@@ -1,0 +1,72 @@
+use Rattle.esr_core.specs.Entry.{SettleStep, FinishStep, FailedStep, OfDepot, WasSettled, HasEnded}
+use Rattle.esr_formats.specs.Infos.{info_of_code}
+use Rattle.esr_formats.specs.Roots.{root_of}
+use Rattle.esr_desk.specs.Start.{ticket_of}
+use Rattle.esr_finish.specs.Ticket.{MayWrite}
+use Rattle.esr_finish.specs.Refused.{IsUnitRefused}
+use Rattle.esr_finish.proofs.Runs.{grew_on, outcome_grew}
+use Rattle.esr_finish.proofs.Swaps.{took_writes, settle_next}
+use Rattle.esr_finish.proofs.Ends.{stopped_err, ending_refused, finish_refused}
+use Rattle.esr_finish.proofs.unit.run_unit.Goals as goal
+use Rattle.esr_finish.proofs.unit.run_unit.Goals.{In-Some}
+
+may_write : (g : _) (c : In-Some g) → MayWrite g.Q.Desk.start (ticket_of g.Q.Desk.start (g.Q.Desk.seen c.args.desk.now) c.args.unit.now.ready.ticket) (info_of_code c.in-Finalize.info) (root_of c.in-Some.root)
+may_write g c =
+    let s = g.Q.Desk.start in
+    let unit = c.args.unit.now in
+    took_writes s (ticket_of s (g.Q.Desk.seen c.args.desk.now) unit.ready.ticket) unit.ready.work unit.new_root unit.ready.op unit.ready.copy c.in-Finalize.info c.in-Finalize.shards c.in-Some.root c.in-Finalize.is c.in-Some.is c.requires.fresh
+
+pub write_swap-requires-clause-may : goal.write_swap-requires-clause-may
+write_swap-requires-clause-may g c κs within = may_write g (goal.at.write_swap-requires-clause-may g c).In-Some
+
+pub settle-requires-clause-may : goal.settle-requires-clause-may
+settle-requires-clause-may g c =
+    let s = g.Q.Desk.start in
+    let who = c.args.unit.now.ready.ticket in
+    settle_next s (ticket_of s (g.Q.Desk.seen c.args.desk.now) who) (ticket_of s (g.Q.Desk.seen c.write_swap.new.desk) who) (info_of_code c.in-Finalize.info) (root_of c.in-Some.root)
+    (may_write g (goal.at.settle-requires-clause-may g c).In-Some) c.in-Ok.ensures.ok
+
+pub returns-in_err-settle-in-Ok-clause-refused : goal.returns-in_err-settle-in-Ok-clause-refused
+returns-in_err-settle-in-Ok-clause-refused g c =
+    let s = g.Q.Desk.start in
+    let old = g.Q.Desk.seen c.args.desk.now in
+    let mid = g.Q.Desk.seen c.write_swap.new.desk in
+    let new = g.Q.Desk.seen c.settle.new.self in
+    let who = c.args.unit.now.ready.ticket in
+    stopped_err c.from_residual.result (IsUnitRefused s old new who) c.in_err-settle-in-Ok.field-0.0 c.from_residual.ensures.1
+    (ending_refused s old mid new who (info_of_code c.in-Finalize.info) (root_of c.in-Some.root) SettleStep c.in_err-settle-in-Ok.field-0.0 (may_write g (goal.at.returns-in_err-settle-in-Ok-clause-refused g c).In-Some) c.write_swap.ensures.went
+    c.in_err-settle-in-Ok.ensures.kept tt c.in_err-settle-in-Ok.ensures.step)
+
+pub returns-in_err-finish-in-Ok-clause-refused : goal.returns-in_err-finish-in-Ok-clause-refused
+returns-in_err-finish-in-Ok-clause-refused g c =
+    let s = g.Q.Desk.start in
+    let old = g.Q.Desk.seen c.args.desk.now in
+    let mid = g.Q.Desk.seen c.write_swap.new.desk in
+    let last = g.Q.Desk.seen c.settle.new.self in
+    let new = g.Q.Desk.seen c.finish.new.self in
+    let who = c.args.unit.now.ready.ticket in
+    stopped_err c.from_residual-in_err-finish-in-Ok.result (IsUnitRefused s old new who) c.in_err-finish-in-Ok.field-0.0 c.from_residual-in_err-finish-in-Ok.ensures.1
+    (finish_refused s old mid last new who (info_of_code c.in-Finalize.info) (root_of c.in-Some.root) c.in_err-finish-in-Ok.field-0.0 (may_write g (goal.at.returns-in_err-finish-in-Ok-clause-refused g c).In-Some) c.in-Ok.ensures.ok
+    c.in_ok-settle-in-Ok.ensures.own c.in_err-finish-in-Ok.ensures.kept c.in_err-finish-in-Ok.ensures.step)
+
+pub returns-in_err-finish-in-Ok-clause-grew : goal.returns-in_err-finish-in-Ok-clause-grew
+returns-in_err-finish-in-Ok-clause-grew g c =
+    let s = g.Q.Desk.start in
+    let old = g.Q.Desk.seen c.args.desk.now in
+    let mid = g.Q.Desk.seen c.write_swap.new.desk in
+    let last = g.Q.Desk.seen c.settle.new.self in
+    let new = g.Q.Desk.seen c.finish.new.self in
+    let who = c.args.unit.now.ready.ticket in
+    grew_on s old mid new c.write_swap.ensures.went.grew
+    (grew_on s mid last new (outcome_grew s mid last who SettleStep (λ done. WasSettled) c.settle.result c.settle.ensures.step) (outcome_grew s last new who FinishStep (λ done. HasEnded) c.finish.result c.finish.ensures.step))
+
+pub returns-in_err-failed-in-Err-Stage-clause-refused : goal.returns-in_err-failed-in-Err-Stage-clause-refused
+returns-in_err-failed-in-Err-Stage-clause-refused g c =
+    let s = g.Q.Desk.start in
+    let old = g.Q.Desk.seen c.args.desk.now in
+    let mid = g.Q.Desk.seen c.write_swap.new.desk in
+    let new = g.Q.Desk.seen c.failed.new.self in
+    let who = c.args.unit.now.ready.ticket in
+    stopped_err c.from_residual-in_err-failed-in-Err-Stage.result (IsUnitRefused s old new who) c.in_err-failed-in-Err-Stage.field-0.0 c.from_residual-in_err-failed-in-Err-Stage.ensures.1
+    (ending_refused s old mid new who (info_of_code c.in-Finalize.info) (root_of c.in-Some.root) (FailedStep OfDepot) c.in_err-failed-in-Err-Stage.field-0.0 (may_write g (goal.at.returns-in_err-failed-in-Err-Stage-clause-refused g c).In-Some) c.write_swap.ensures.went
+    c.in_err-failed-in-Err-Stage.ensures.kept tt c.in_err-failed-in-Err-Stage.ensures.step)

@@ -1,0 +1,80 @@
+-- What a finalization's ticket may do next, and what its steps make of it.
+use Rattle.std.specs.Prelude.{◌≡◌, ◌⊎◌, ℕ, Bool, true, false, List, [], ◌∷◌, Some, None}
+use Rattle.esr_model.specs.Names.{BlobName, Root}
+use Rattle.esr_model.specs.Values.{Bytes, Has, RootData, SnapInfo, Formats}
+use Rattle.esr_core.specs.World.{Ticket, Swap, swap, metadata}
+use Rattle.esr_core.specs.Entry.{Moment}
+use Rattle.esr_desk.specs.Start.{Start, formats_of, ticket_of}
+use Rattle.esr_finish.specs.Blobs.{root_blob}
+
+-- ---- what it may do
+
+-- the ticket is out with this swap, which it hasn't settled
+pub record HasSwap (s : Start) (t : Ticket) (change : Swap) : Type 0 where
+  pub out : t.out ≡ true
+  pub is : swap (formats_of s) t ≡ Some change
+  pub unsettled : t.settled ≡ false
+
+-- the blobs are among those that its swap writes before the root
+abbrev pub MayPut : Start → Ticket → List (BlobName × Bytes) → Type 0
+MayPut s t blobs = (change : Swap) × HasSwap s t change × ((b : BlobName × Bytes) → Has blobs b → Has change.own b)
+
+-- all of them are written, so that this root is next
+pub record MayPutRoot (s : Start) (t : Ticket) (root : RootData) : Type 0 where
+  pub change : Swap
+  pub swaps : HasSwap s t change
+  pub root_is : root ≡ change.root
+  pub noted : (name : BlobName) (bytes : Bytes) → Has change.own (name, bytes) → Has t.noted name
+  pub once : t.raised ≡ None
+
+-- its swap writes the metadata of this info, and then this root
+pub record MayWrite (s : Start) (t : Ticket) (info : SnapInfo) (root : RootData) : Type 0 where
+  pub change : Swap
+  pub swaps : HasSwap s t change
+  pub own_is : change.own ≡ metadata (formats_of s) info
+  pub root_is : root ≡ change.root
+  pub once : t.raised ≡ None
+
+-- ---- what its steps make of it
+
+-- the names of blobs, the last first, and then those that were noted before
+abbrev pub noted_with : List (BlobName × Bytes) → List BlobName → List BlobName
+noted_with [] noted = noted
+noted_with (b ∷ blobs) noted = noted_with blobs (b.0 ∷ noted)
+
+-- the blobs were committed one after another, each added or found
+pub record Wrote (old new : Ticket) (blobs : List (BlobName × Bytes)) : Type 0 where
+  -- those that were added, where the container tells
+  pub wrote : List (BlobName × Bytes)
+  pub from : (b : BlobName × Bytes) → Has wrote b → Has old.wrote b ⊎ Has blobs b
+  pub is : new ≡ record old { noted = noted_with blobs old.noted; wrote = wrote }
+
+abbrev pub Puts : Start → List Moment → List Moment → ℕ → List (BlobName × Bytes) → Type 0
+Puts s old new who blobs = Wrote (ticket_of s old who) (ticket_of s new who) blobs
+
+abbrev pub raised_to : Ticket → ℕ → Ticket
+raised_to t n = record t { raised = Some n }
+
+-- a generation was raised, and the root committed under it
+abbrev pub PutsRoot : Start → List Moment → List Moment → ℕ → RootData → ℕ → Type 0
+PutsRoot s old new who root n = Wrote (raised_to (ticket_of s old who) n) (ticket_of s new who) (root_blob (formats_of s) n root ∷ [])
+
+-- All that goes before the settle is done: the ticket has raised a generation, has noted what its swap writes and the
+-- root under that generation, and has tried `index.latest`. Nothing else of it changed.
+pub record IsWritten (f : Formats) (old new : Ticket) : Type 0 where
+  pub change : Swap
+  pub swaps : swap f old ≡ Some change
+  pub n : ℕ
+  pub wrote : List (BlobName × Bytes)
+  pub from : (b : BlobName × Bytes) → Has wrote b → Has old.wrote b ⊎ (Has change.own b ⊎ (root_blob f n change.root ≡ b))
+  pub is : new ≡ record old { noted = Root n ∷ noted_with change.own old.noted; wrote = wrote; raised = Some n; tried_latest = true }
+
+-- and it has settled
+pub record HasSettled (f : Formats) (old : Ticket) (out : Bool) (new : Ticket) : Type 0 where
+  pub written : Ticket
+  pub is_written : IsWritten f old written
+  pub is : new ≡ record written { settled = true; out = out }
+
+-- and it has ended
+abbrev pub Finalized : Start → List Moment → List Moment → ℕ → Type 0
+Finalized s old new who = HasSettled (formats_of s) (ticket_of s old who) false (ticket_of s new who)

@@ -1,0 +1,93 @@
+//! The new root, and `index.latest`.
+ghost use Rattle.std.specs.Prelude.{◌≡◌, ◌<◌, ◌^◌, IfErr, IfOk, OnOk};
+ghost use Rattle.esr_formats.specs.Infos.{info_of_code};
+ghost use Rattle.esr_formats.specs.Roots.{root_of};
+ghost use Rattle.esr_desk.specs.Start.{formats_of, ticket_of};
+ghost use Rattle.esr_desk.specs.Conditions.{CanPut};
+ghost use Rattle.esr_desk.specs.Taken.{tried};
+ghost use Rattle.esr_finish.specs.Ticket.{MayWrite, MayPutRoot, PutsRoot, IsWritten};
+ghost use Rattle.esr_finish.specs.Went.{Went};
+ghost use Rattle.esr_finish.specs.Refused.{IsPutRefused};
+
+use crate::metadata::put_metadata;
+use crate::put::put;
+use crate::refusal::PutRefusal;
+use esr_depot::Stage;
+use esr_desk::{Desk, EntryRefusal, StepRefusal};
+use esr_formats::write_root;
+use esr_meta::SnapInfo;
+use esr_names::BlobName;
+use esr_root::RootData;
+use std::alloc::Global;
+
+/// Begins a generation and writes its root, `index-N`; answers N.
+fn put_root<Q: Desk>(
+    alloc: Global,
+    desk: &mut Q,
+    ticket: u64,
+    root: &RootData,
+) -> Result<u64, PutRefusal>
+    requires mine { Q.holds desk.old ticket }
+    requires may { MayPutRoot Q.start (ticket_of Q.start (Q.seen desk.old) ticket) (root_of root.now) }
+    ensures ok { IfOk result (λ n. PutsRoot Q.start (Q.seen desk.old) (Q.seen desk.new) ticket (root_of root.now) n) }
+    ensures refused { IfErr result (λ e. IsPutRefused (Q.seen desk.new) ticket e) }
+    ensures went { Went Q.start (Q.seen desk.old) (Q.seen desk.new) ticket }
+    ensures holds { Q.holds desk.new ticket }
+{
+    let generation = desk.raise(alloc, ticket)?;
+    let text = write_root(alloc, root)?;
+    put(
+        alloc,
+        desk,
+        ticket,
+        BlobName::Root(generation),
+        text.as_slice(),
+    )?;
+    Ok(generation)
+}
+
+/// Puts the generation into `index.latest`. Nothing reads that blob, so where the container fails in a step it is left.
+fn put_latest<Q: Desk>(
+    alloc: Global,
+    desk: &mut Q,
+    ticket: u64,
+    generation: u64,
+) -> Result<(), PutRefusal>
+    requires mine { Q.holds desk.old ticket }
+    requires may { CanPut Q.start (ticket_of Q.start (Q.seen desk.old) ticket) generation }
+    ensures ok { OnOk result (ticket_of Q.start (Q.seen desk.new) ticket ≡ tried (ticket_of Q.start (Q.seen desk.old) ticket)) }
+    ensures refused { IfErr result (λ e. IsPutRefused (Q.seen desk.new) ticket e) }
+    ensures went { Went Q.start (Q.seen desk.old) (Q.seen desk.new) ticket }
+    ensures holds { Q.holds desk.new ticket }
+{
+    let mut named = match desk.begin(alloc, ticket, BlobName::Latest, 8) {
+        Ok(named) => named,
+        Err(StepRefusal::Refused(EntryRefusal::DepotFault)) => return Ok(()),
+        Err(refusal) => return Err(PutRefusal::Step(refusal)),
+    };
+    named.stage.write(&generation.to_be_bytes())?;
+    match desk.latest(alloc, ticket, named) {
+        Ok(()) | Err(StepRefusal::Refused(EntryRefusal::DepotFault)) => Ok(()),
+        Err(refusal) => Err(PutRefusal::Step(refusal)),
+    }
+}
+
+/// Writes all that goes before the settle: the metadata, the root, and `index.latest`.
+pub fn write_swap<Q: Desk>(
+    alloc: Global,
+    desk: &mut Q,
+    ticket: u64,
+    info: &SnapInfo,
+    root: &RootData,
+) -> Result<(), PutRefusal>
+    requires mine { Q.holds desk.old ticket }
+    requires may { MayWrite Q.start (ticket_of Q.start (Q.seen desk.old) ticket) (info_of_code info.now) (root_of root.now) }
+    ensures ok { OnOk result (IsWritten (formats_of Q.start) (ticket_of Q.start (Q.seen desk.old) ticket) (ticket_of Q.start (Q.seen desk.new) ticket)) }
+    ensures refused { IfErr result (λ e. IsPutRefused (Q.seen desk.new) ticket e) }
+    ensures went { Went Q.start (Q.seen desk.old) (Q.seen desk.new) ticket }
+    ensures holds { Q.holds desk.new ticket }
+{
+    put_metadata(alloc, desk, ticket, info)?;
+    let generation = put_root(alloc, desk, ticket, root)?;
+    put_latest(alloc, desk, ticket, generation)
+}

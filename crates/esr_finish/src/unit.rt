@@ -1,0 +1,47 @@
+//! The unit of a finalization.
+ghost use Rattle.std.specs.Prelude.{◌≡◌, IfErr, OnOk};
+ghost use Rattle.esr_desk.specs.Start.{ticket_of};
+ghost use Rattle.esr_desk.specs.Taken.{Took};
+ghost use Rattle.esr_finish.specs.Work.{IsFinalize};
+ghost use Rattle.esr_finish.specs.Ticket.{Finalized};
+ghost use Rattle.esr_finish.specs.Went.{Grew};
+ghost use Rattle.esr_finish.specs.Refused.{IsUnitRefused};
+
+use crate::refusal::PutRefusal;
+use crate::root::write_swap;
+use esr_desk::{Desk, EntryRefusal, StepRefusal, Unit, UnitRefusal, Why};
+use esr_progress::Work;
+use std::alloc::Global;
+
+/// Writes the metadata of the unit's snapshot and the new root, settles on it, and ends the ticket. Where the container
+/// fails before the settle, the ticket ends as failed.
+pub fn run_unit<Q: Desk>(alloc: Global, desk: &mut Q, unit: &Unit) -> Result<(), UnitRefusal>
+    requires mine { Q.holds desk.old unit.now.ready.ticket }
+    requires fresh { Took Q.start (Q.seen desk.old) unit.now }
+    requires work { IsFinalize unit.now.ready.work }
+    ensures ok { OnOk result (Finalized Q.start (Q.seen desk.old) (Q.seen desk.new) unit.now.ready.ticket) }
+    ensures refused { IfErr result (λ e. IsUnitRefused Q.start (Q.seen desk.old) (Q.seen desk.new) unit.now.ready.ticket e) }
+    ensures grew { Grew Q.start (Q.seen desk.old) (Q.seen desk.new) }
+    ensures holds { Q.holds desk.new unit.now.ready.ticket }
+{
+    let ticket = unit.ready.ticket;
+    let Work::Finalize { info, .. } = &unit.ready.work else {
+        unreachable!();
+    };
+    let Some(root) = &unit.new_root else {
+        unreachable!();
+    };
+    match write_swap(alloc, desk, ticket, info, root) {
+        Ok(()) => {
+            desk.settle(alloc, ticket, root)?;
+            desk.finish(alloc, ticket)?;
+            Ok(())
+        }
+        Err(PutRefusal::Stage | PutRefusal::Step(StepRefusal::Refused(EntryRefusal::DepotFault))) =>
+            {
+                desk.failed(alloc, ticket, Why::Depot)?;
+                Err(UnitRefusal::Failed(Why::Depot))
+            }
+        Err(PutRefusal::Step(refusal)) => Err(UnitRefusal::Stopped(refusal)),
+    }
+}

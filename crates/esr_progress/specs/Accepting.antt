@@ -1,0 +1,45 @@
+-- What accepting a command answers.
+use Rattle.std.specs.Prelude.{◌≡◌, ℕ, suc, ◌+◌, ◌<◌, ◌≤◌, true, Some, Result, Ok, Err}
+use Rattle.std.specs.FinMap as fin
+use Rattle.esr_model.specs.Values.{Bytes, RootData}
+use Rattle.esr_model.specs.Kept.{first_id}
+use Rattle.esr_core.specs.World.{World, Deletion}
+use Rattle.esr_core.specs.Entry.{AskedIndex, Asked, Snapshot}
+use Rattle.esr_core.specs.After.{asked, new_names}
+use Rattle.esr_core.specs.Allowed.{NoCleanup, IsNameOf, IsUnused, open_count}
+use Rattle.esr_progress.specs.declared.refusal.Refusal.{Refusal}
+use Rattle.esr_progress.specs.declared.refusal.Refusal.TheVariants as refusals
+use Rattle.esr_progress.specs.declared.command.Accepted.{Accepted}
+use Rattle.esr_progress.specs.Plan.{Plan, IsPlanOf}
+
+-- how many ids the command draws: its uuid, and one for each index name that neither the root nor an open op has
+abbrev pub drawn_by : World → Asked → ℕ
+drawn_by w (Snapshot name indices moment) = suc (new_names w indices)
+
+-- no rule of accepting refuses it
+pub record MayAccept (w : World) (name : Bytes) : Type 0 where
+  pub no_cleanup : NoCleanup w
+  pub unused : IsUnused w name
+  pub room : open_count w < 1000
+
+-- the op was added; its uuid is the next id
+pub record IsAccepted (w : World) (command : Asked) (new : Plan) (accepted : Accepted) : Type 0 where
+  pub number : accepted.op ≡ w.next_op
+  pub drawn : accepted.drawn ≡ drawn_by w command
+  pub fits : w.next_id + accepted.drawn < first_id (suc w.term)
+  pub plan : IsPlanOf (asked w command) new
+
+-- the first rule that refuses it
+abbrev pub IsRefused : World → Bytes → Asked → Refusal → Type 0
+IsRefused w name command refusals.Memory = Unit {0}
+IsRefused w name command (refusals.CleanupRunning op) = (x : Deletion) × (fin.get w.deletes op ≡ Some x) × (x.clean ≡ true)
+IsRefused w name command (refusals.NameInUse uuid) = NoCleanup w × IsNameOf w name uuid.number
+IsRefused w name command (refusals.TooMany limit) = (limit ≡ 1000) × NoCleanup w × IsUnused w name × (1000 ≤ open_count w)
+IsRefused w name command (refusals.IdsSpent next) = (next.number ≡ w.next_id) × MayAccept w name × (first_id (suc w.term) ≤ w.next_id + drawn_by w command)
+
+abbrev pub name_asked : Asked → Bytes
+name_asked (Snapshot name indices moment) = name
+
+abbrev pub Accepting : World → Asked → Plan → Result Accepted Refusal → Type 0
+Accepting w command new (Ok accepted) = MayAccept w (name_asked command) × IsAccepted w command new accepted
+Accepting w command new (Err refusal) = IsRefused w (name_asked command) command refusal

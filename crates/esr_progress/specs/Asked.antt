@@ -1,0 +1,22 @@
+-- A command, as the definitions see it.
+use Rattle.std.specs.Prelude.{◌≤◌, ℕ, map}
+use Rattle.std.specs.List.{AllByRecursion}
+use Rattle.esr_progress.specs.declared.command.AskedIndex.{AskedIndex as CodeAsked}
+use Rattle.esr_progress.specs.declared.command.Command.{Command}
+use Rattle.esr_progress.specs.declared.command.Command.TheVariants as commands
+use Rattle.esr_core.specs.Entry.{AskedIndex, Asked, Snapshot}
+use Rattle.esr_core.specs.Allowed.{AreDistinct}
+
+abbrev pub asked_index_of : CodeAsked → AskedIndex
+asked_index_of a = record { name = a.name; shards = a.shards; place = a.place }
+
+abbrev pub asked_of : Command → Asked
+asked_of (commands.Create name indices moment) = Snapshot name (map asked_index_of indices) moment
+
+-- an index of a command has 1 to 1,024 shards
+abbrev pub HasShards : AskedIndex → Type 0
+HasShards a = (1 ≤ a.shards) × (a.shards ≤ 1024)
+
+-- the names of a command's indices are distinct, and each has 1 to 1,024 shards
+abbrev pub IsAskable : Asked → Type 0
+IsAskable (Snapshot name indices moment) = AreDistinct indices × AllByRecursion HasShards indices

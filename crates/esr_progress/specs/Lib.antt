@@ -1,0 +1,10 @@
+pub mod Asked
+pub mod Shards
+pub mod Ops
+pub mod Deletes
+pub mod Plan
+pub mod Seats
+pub mod Codes
+pub mod Inside
+pub mod Accepting
+pub mod Units

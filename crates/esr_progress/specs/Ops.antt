@@ -1,0 +1,80 @@
+-- An open op, as the definitions see it.
+use Rattle.std.specs.Prelude.{◌≡◌, ◌<◌, ◌≤◌, ◌||◌, ◌&&◌, not, ℕ, Bool, List, Option, Some, None, is_some, map, length, max}
+use Rattle.std.specs.List.{AllByRecursion, list_any}
+use Rattle.esr_record.specs.declared.op.Making.{Making}
+use Rattle.esr_record.specs.Op.{IsMaking}
+use Rattle.esr_model.specs.Values.{Bytes, Has, ShardResult}
+use Rattle.esr_core.specs.World.{Op, ShardWork, Done, AllDone, info_of}
+use Rattle.esr_formats.specs.Refs.{ref_of_code}
+use Rattle.esr_formats.specs.Infos.{info_of_code}
+use Rattle.esr_progress.specs.declared.shard.OpenShard.{OpenShard}
+use Rattle.esr_progress.specs.declared.unit.Work.{Work}
+use Rattle.esr_progress.specs.declared.unit.Work.TheVariants as works
+use Rattle.esr_results.specs.Results.{result_of}
+use Rattle.esr_progress.specs.Shards.{work_of_shard, is_pending, waits_for, AreAlike}
+
+-- what an open op makes, and how far it is
+abbrev pub op_with : Making → List Bytes → List OpenShard → Bool → Option ℕ → Op
+op_with m places shards failed aborted =
+    record { name = m.name; uuid = m.uuid.number; moment = m.moment; indices = map ref_of_code m.indices; shards = map (work_of_shard m.indices places) shards; failed = failed; source = None; aborted = aborted }
+
+-- the shard names an index of the list
+abbrev pub Within : List Bytes → OpenShard → Type 0
+Within places s = s.at < length places
+
+-- what holds of every open op: it can be told in a record, and each shard has its index and place
+pub record IsOpenOp (m : Making) (places : List Bytes) (shards : List OpenShard) : Type 0 where
+  pub making : IsMaking m
+  pub placed : length places ≡ length m.indices
+  pub within : AllByRecursion (Within places) shards
+  pub alike : AreAlike shards
+
+-- what it makes
+pub record IsMakingOf (m : Making) (op : Op) : Type 0 where
+  pub name : op.name ≡ m.name
+  pub uuid : op.uuid ≡ m.uuid.number
+  pub moment : op.moment ≡ m.moment
+  pub indices : op.indices ≡ map ref_of_code m.indices
+
+-- it failed or was aborted
+abbrev pub has_stopped : Op → Bool
+has_stopped op = op.failed || is_some op.aborted
+
+-- the shard is pending, and none of the ops waits on one of its id and number
+abbrev pub is_free : List (ℕ × Op) → ShardWork → Bool
+is_free before s = is_pending s.state && not (list_any (λ (e : ℕ × Op). list_any (waits_for s.ref.id s.number) e.1.shards) before)
+
+-- the work on a shard of the op
+abbrev pub IsShardWork : Op → ShardWork → Work → Type 0
+IsShardWork op s (works.Shard uuid shard index place) = (uuid.number ≡ op.uuid) × (shard.index.number ≡ s.ref.id) × (shard.number ≡ s.number) × (index ≡ s.ref.name) × (place ≡ s.place)
+IsShardWork op s (works.Finalize info shards) = ⊥
+IsShardWork op s works.Drop = ⊥
+
+-- the op's shards are done with these results, of which the info tells
+abbrev pub IsFinalWork : Op → Work → Type 0
+IsFinalWork op (works.Shard uuid shard index place) = ⊥
+IsFinalWork op (works.Finalize info shards) = AllDone op.shards (map result_of shards) × (info_of_code info ≡ info_of op (map result_of shards))
+IsFinalWork op works.Drop = ⊥
+
+-- the shard is of this id and number, and done at the generation
+pub record IsDoneAt (index number : ℕ) (s : ShardWork) (generation : ℕ) : Type 0 where
+  pub r : ShardResult
+  pub state : s.state ≡ Done r
+  pub index_is : s.ref.id ≡ index
+  pub number_is : s.number ≡ number
+  pub generation_is : r.generation ≡ generation
+
+-- P holds of some member and the number
+abbrev pub Among : {A : Type 0} → List A → (A → ℕ → Type 0) → ℕ → Type 0
+Among {A} xs P n = (x : A) × Has xs x × P x n
+
+-- the largest number of which P holds, or none where there is none
+abbrev pub IsMost : (ℕ → Type 0) → Option ℕ → Type 0
+IsMost P None = (g : ℕ) → P g → ⊥
+IsMost P (Some most) = P most × ((g : ℕ) → P g → g ≤ most)
+
+-- the larger of two, or the one that is there
+abbrev pub later_of : Option ℕ → Option ℕ → Option ℕ
+later_of None b = b
+later_of (Some x) None = Some x
+later_of (Some x) (Some y) = Some (max x y)

@@ -1,0 +1,68 @@
+-- The list of open ops and their tickets: that part of a world which tells of no blob and no id.
+use Rattle.std.specs.Prelude.{◌≡◌, ℕ, Bool, List, [], Option, Some, None, option_map, refl}
+use Rattle.std.specs.Ordering.{nat_cmp}
+use Rattle.std.specs.FinMap.{FinMap}
+use Rattle.std.specs.FinMap as fin
+use Rattle.esr_model.specs.Values.{SnapInfo, ShardResult}
+use Rattle.esr_model.specs.Shelf.{Shelved}
+use Rattle.esr_core.specs.World.{World, Op, Deletion, Work, Shard, Finalize, Deleting, Drop, Swap, Ticket}
+use Rattle.esr_progress.specs.declared.unit.SeatKind.{SeatKind}
+use Rattle.esr_progress.specs.declared.unit.SeatKind.TheVariants as kinds
+use Rattle.esr_progress.specs.declared.unit.Seat.{Seat as CodeSeat}
+
+-- the kind of a ticket's unit
+pub data UnitKind : Type 0 where
+  OfShard : (index number : ℕ) → UnitKind
+  OfFinalize : UnitKind
+  OfDelete : UnitKind
+  OfDrop : UnitKind
+
+-- what the list of ops keeps of a ticket
+pub record Seat : Type 0 where
+  pub kind : UnitKind
+  pub op : ℕ
+  pub term : ℕ
+  pub raised : Option ℕ
+  pub settled : Bool
+  pub out : Bool
+
+-- the seat that a seat of the code is
+abbrev pub kind_of_code : SeatKind → UnitKind
+kind_of_code (kinds.Shard shard) = OfShard shard.index.number shard.number
+kind_of_code kinds.Finalize = OfFinalize
+kind_of_code kinds.Drop = OfDrop
+
+abbrev pub seat_of_code : CodeSeat → Seat
+seat_of_code s = record { kind = kind_of_code s.kind; op = s.op; term = s.term; raised = s.raised; settled = s.settled; out = s.out }
+
+pub record Plan : Type 0 where
+  -- open snapshots and open deletes, by number
+  pub ops : FinMap nat_cmp Op
+  pub deletes : FinMap nat_cmp Deletion
+  -- the numbers of snapshots in the order in which they completed
+  pub completed : List ℕ
+  pub seats : FinMap nat_cmp Seat
+  pub next_op : ℕ
+  pub next_ticket : ℕ
+
+-- no op and no ticket
+abbrev pub no_plan : Plan
+no_plan = record { ops = fin.empty; deletes = fin.empty; completed = []; seats = fin.empty; next_op = 1; next_ticket = 1 }
+
+abbrev pub kind_of : Work → UnitKind
+kind_of (Shard index number) = OfShard index number
+kind_of (Finalize info results made) = OfFinalize
+kind_of (Deleting uuids swap) = OfDelete
+kind_of Drop = OfDrop
+
+abbrev pub seat_of : Ticket → Seat
+seat_of t = record { kind = kind_of t.work; op = t.op; term = t.term; raised = t.raised; settled = t.settled; out = t.out }
+
+-- the plan is that of the world
+pub record IsPlanOf (w : World) (p : Plan) : Type 0 where
+  pub ops : p.ops ≡ w.ops
+  pub deletes : p.deletes ≡ w.deletes
+  pub completed : p.completed ≡ w.completed
+  pub seats : (k : ℕ) → fin.get p.seats k ≡ option_map seat_of (fin.get w.tickets k)
+  pub next_op : p.next_op ≡ w.next_op
+  pub next_ticket : p.next_ticket ≡ w.next_ticket

@@ -1,0 +1,34 @@
+//! What a caller asks for.
+use esr_names::{IndexName, SnapName};
+use esr_seq::{Seq, Text};
+
+/// An index that a snapshot is to hold.
+#[derive(Debug, Drop)]
+pub struct AskedIndex {
+    pub name: IndexName,
+    /// The count of its shards, 1 to 1,024.
+    pub shards: u32,
+    /// Where its files are.
+    pub place: Text,
+}
+
+/// The indices of a snapshot, in the order of the command.
+pub type AskedIndices = Seq<AskedIndex>;
+
+/// A command.
+#[derive(Debug, Drop)]
+pub enum Command {
+    /// Makes a snapshot of these indices.
+    Create {
+        name: SnapName,
+        indices: AskedIndices,
+        moment: u64,
+    },
+}
+
+/// A command was accepted as this op, for which so many ids were drawn.
+#[derive(Clone, Copy, Debug, PartialEq, Eq)]
+pub struct Accepted {
+    pub op: u64,
+    pub drawn: u64,
+}

@@ -1,0 +1,18 @@
+//! The list of open operations: which commands are accepted, which units are ready, and what the reports of units change.
+#![tactic(auto)]
+
+mod command;
+mod delete;
+mod open_op;
+mod progress;
+mod refusal;
+mod seats;
+mod shard;
+mod unit;
+
+pub use command::{Accepted, AskedIndex, AskedIndices, Command};
+pub use delete::OpenDelete;
+pub use open_op::OpenOp;
+pub use progress::Progress;
+pub use refusal::Refusal;
+pub use unit::{Copied, ReadyUnit, Seat, SeatKind, Work};

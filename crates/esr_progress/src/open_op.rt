@@ -1,0 +1,271 @@
+//! An open op.
+ghost use Rattle.std.specs.Prelude.{◌≡◌, ◌<◌, ◌↔◌, ◌==◌, ℕ, false, true, None, Some, map, length, option_map, IsTrue, IfOk, IfSome, slice_get, position, min, sum_by, ◌-◌, ◌^◌};
+ghost use Rattle.std.specs.List.{list_any};
+ghost use Rattle.esr_core.specs.World.{marked, work_of, Done};
+ghost use Rattle.esr_core.specs.Steps.{given, all_done};
+ghost use Rattle.esr_core.specs.Turns.{fails};
+ghost use Rattle.esr_core.specs.After.{index_id};
+ghost use Rattle.esr_formats.specs.Ids.{number_of};
+ghost use Rattle.esr_formats.specs.Clusters.{op_of};
+ghost use Rattle.esr_record.specs.Op.{IsWork};
+ghost use Rattle.esr_model.specs.Values.{ShardResult as Outcome};
+ghost use Rattle.esr_progress.specs.Shards.{state_of, waits_on};
+ghost use Rattle.esr_progress.specs.Ops.{op_with, IsOpenOp, IsMakingOf, has_stopped, is_free, IsDoneAt, Among, IsMost, later_of, IsShardWork, IsFinalWork};
+
+use crate::shard::{self, OpenShard, ShardState};
+use crate::Work;
+use esr_results::ShardResult;
+use esr_meta::{SnapInfo, indices_copy};
+use esr_names::{Id, IndexName, ShardId};
+use esr_record::{Making, OpWork, RecordOp};
+use esr_seq::{Seq, Text};
+use std::alloc::{AllocError, Global};
+use std::marker::Model;
+
+/// An open snapshot: its number, what it makes, the place of each index's files, and its shards in order.
+#[derive(Debug, Drop)]
+pub struct OpenOp {
+    number: u64,
+    making: Making,
+    places: Seq<Text>,
+    shards: Vec<OpenShard>,
+    failed: bool,
+    aborted: Option<u64>,
+}
+
+impl Model for OpenOp {
+    ghost use Rattle.std.specs.Prelude.{ℕ};
+    ghost use Rattle.esr_core.specs.World.{Op};
+    ghost use Rattle.esr_progress.specs.Ops.{op_with, IsOpenOp};
+
+    ghost Value = { ℕ × Op };
+
+    ghost view = { λ a. (a.number, op_with a.making a.places a.shards.items a.failed a.aborted) };
+
+    ghost invariant = { λ a. IsOpenOp a.making a.places a.shards.items };
+}
+
+impl OpenOp {
+    /// An op that neither failed nor was aborted.
+    pub(crate) fn new(
+        number: u64,
+        making: Making,
+        places: Seq<Text>,
+        shards: Vec<OpenShard>,
+    ) -> OpenOp
+        requires { IsOpenOp making places shards.items }
+        ensures { result ≡ (number, op_with making places shards.items false None) }
+    {
+        OpenOp {
+            number,
+            making,
+            places,
+            shards,
+            failed: false,
+            aborted: None,
+        }
+    }
+
+    pub(crate) fn number(&self) -> u64
+        ensures { result ≡ self.now.0 }
+    {
+        self.number
+    }
+
+    /// What it makes.
+    pub(crate) fn making(&self) -> &Making
+        ensures { IsMakingOf result.now self.now.1 }
+    {
+        &self.making
+    }
+
+    /// The id of its index of this name.
+    pub(crate) fn index_id(&self, name: &IndexName) -> Option<Id>
+        ensures { option_map number_of result ≡ index_id self.now.1.indices name.now }
+    {
+        for index in self.making.indices.as_slice() {
+            if index.name == *name {
+                return Some(index.id);
+            }
+        }
+        None
+    }
+
+    /// Whether it failed or was aborted.
+    pub(crate) fn has_stopped(&self) -> bool
+        ensures { result ≡ has_stopped self.now.1 }
+    {
+        self.failed || self.aborted.is_some()
+    }
+
+    /// Whether all its shards are done.
+    pub(crate) fn is_done(&self) -> bool
+        ensures { result ≡ all_done self.now.1.shards }
+    {
+        shard::are_done(&self.shards)
+    }
+
+    /// Whether all its shards are done once this ticket's is.
+    pub(crate) fn completes(&self, ticket: u64) -> bool
+        ensures { (r : Outcome) → result ≡ all_done (map (marked ticket (Done r)) self.now.1.shards) }
+    {
+        shard::are_done_with(&self.shards, ticket)
+    }
+
+    /// Whether the shard of this id and number is pending or out.
+    pub(crate) fn waits_on(&self, shard: ShardId) -> bool
+        ensures { result ≡ list_any (waits_on shard) self.now.1.shards }
+    {
+        shard::wait(&self.shards, shard)
+    }
+
+    /// The place of the first of its pending shards on which none of the ops before it waits.
+    pub(crate) fn first_free(&self, before: &[OpenOp]) -> Option<usize>
+        ensures { result ≡ position (is_free before.now) self.now.1.shards }
+    {
+        shard::first_free(&self.shards, before)
+    }
+
+    /// The id and number of the shard at a place.
+    pub(crate) fn shard(&self, at: usize) -> ShardId
+        requires { at < length self.now.1.shards }
+        ensures { IfSome (slice_get self.now.1.shards at) (λ s. (s.ref.id ≡ result.index.number) × (s.number ≡ result.number)) }
+    {
+        self.shards[at].shard
+    }
+
+    /// The unit of the shard at a place.
+    pub(crate) fn shard_work(&self, alloc: Global, at: usize) -> Result<Work, AllocError>
+        requires { at < length self.now.1.shards }
+        ensures { IfOk result (λ work. IfSome (slice_get self.now.1.shards at) (λ s. IsShardWork self.now.1 s work)) }
+    {
+        let open = &self.shards[at];
+        Ok(Work::Shard {
+            uuid: self.making.uuid,
+            shard: open.shard,
+            index: self.making.indices.as_slice()[open.at]
+                .name
+                .try_clone(alloc)?,
+            place: self.places.as_slice()[open.at].try_clone(alloc)?,
+        })
+    }
+
+    /// The unit that finalizes it, where all its shards are done.
+    pub(crate) fn finalization(&self, alloc: Global) -> Result<Work, AllocError>
+        requires { all_done self.now.1.shards ≡ true }
+        ensures { IfOk result (IsFinalWork self.now.1) }
+    {
+        let shards = shard::results(alloc, &self.shards)?;
+        let (files, bytes) = sums(shards.as_slice());
+        let info = SnapInfo {
+            bytes,
+            files,
+            indices: indices_copy(alloc, &self.making.indices)?,
+            moment: self.making.moment,
+            name: self.making.name.try_clone(alloc)?,
+            state: 1,
+            uuid: self.making.uuid,
+        };
+        Ok(Work::Finalize { info, shards })
+    }
+
+    /// Gives a shard to a ticket.
+    pub(crate) fn give(&mut self, shard: ShardId, ticket: u64)
+        ensures { self.new ≡ (self.old.0, record self.old.1 { shards = map (given ticket shard.index.number shard.number) self.old.1.shards }) }
+    {
+        shard::give(&mut self.shards, shard, ticket);
+    }
+
+    /// What a ticket has goes on to another state.
+    pub(crate) fn mark(&mut self, ticket: u64, state: ShardState)
+        ensures { self.new ≡ (self.old.0, record self.old.1 { shards = map (marked ticket (state_of state)) self.old.1.shards }) }
+    {
+        shard::mark(&mut self.shards, ticket, state);
+    }
+
+    /// It fails with the unit of a ticket.
+    pub(crate) fn fail(&mut self, ticket: u64)
+        ensures { self.new ≡ (self.old.0, record self.old.1 { shards = map (fails ticket) self.old.1.shards; failed = true }) }
+    {
+        shard::give_up(&mut self.shards, ticket);
+        self.failed = true;
+    }
+
+    /// The largest generation at which it has done the shard.
+    pub(crate) fn generation(&self, shard: ShardId) -> Option<Id>
+        ensures { IsMost (Among self.now.1.shards (IsDoneAt shard.index.number shard.number)) (option_map number_of result) }
+    {
+        let mut most = None;
+        for open in &self.shards {
+            most = later(most, open.generation(shard));
+        }
+        most
+    }
+
+    pub(crate) fn try_clone(&self, alloc: Global) -> Result<OpenOp, AllocError>
+        ensures { IfOk result (λ o. o ≡ self.now) }
+    {
+        Ok(OpenOp {
+            number: self.number,
+            making: self.making.try_clone(alloc)?,
+            places: copy_places(alloc, self.places.as_slice())?,
+            shards: Vec::from_slice(alloc, self.shards.as_slice())?,
+            failed: self.failed,
+            aborted: self.aborted,
+        })
+    }
+
+    /// The op as the cluster record tells it.
+    pub(crate) fn record_op(&self, alloc: Global) -> Result<RecordOp, AllocError>
+        ensures told { IfOk result (λ o. op_of o ≡ (self.now.0, work_of self.now.1)) }
+        ensures valid { IfOk result (λ o. IsWork o.work) }
+    {
+        Ok(RecordOp {
+            op: self.number,
+            work: OpWork::Create {
+                info: self.making.try_clone(alloc)?,
+            },
+        })
+    }
+}
+
+/// Whether some op waits on the shard of this id and number.
+pub(crate) fn wait_on(ops: &[OpenOp], shard: ShardId) -> bool
+    ensures { result ≡ list_any (λ e. list_any (waits_on shard) e.1.shards) ops.now }
+{
+    ops.iter().any(|op| op.waits_on(shard))
+}
+
+/// How many files some shards have, and of how many bytes: each sum stops at 2^63 - 1.
+fn sums(shards: &[ShardResult]) -> (u64, u64)
+    ensures { result ≡ (min (sum_by (λ r. r.files) shards.now) (2 ^ 63 - 1), min (sum_by (λ r. r.bytes) shards.now) (2 ^ 63 - 1)) }
+{
+    let mut files = 0u64;
+    let mut bytes = 0u64;
+    for shard in shards {
+        files = files.saturating_add(shard.files);
+        bytes = bytes.saturating_add(shard.bytes);
+    }
+    (files.min((1 << 63) - 1), bytes.min((1 << 63) - 1))
+}
+
+fn copy_places(alloc: Global, places: &[Text]) -> Result<Seq<Text>, AllocError>
+    ensures { IfOk result (λ v. v ≡ places.now) }
+{
+    let mut copy = Seq::with_capacity(alloc, places.len())?;
+    for place in places {
+        copy.push(place.try_clone(alloc)?)?;
+    }
+    Ok(copy)
+}
+
+/// The larger of two ids, or the one that is there.
+pub(crate) fn later(a: Option<Id>, b: Option<Id>) -> Option<Id>
+    ensures { option_map number_of result ≡ later_of (option_map number_of a) (option_map number_of b) }
+{
+    match (a, b) {
+        (None, b) => b,
+        (a, None) => a,
+        (Some(a), Some(b)) => Some(a.max(b)),
+    }
+}

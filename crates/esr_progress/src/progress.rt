@@ -1,0 +1,83 @@
+//! The list of open ops and their tickets.
+ghost use Rattle.std.specs.Prelude.{◌≡◌, ◌==◌, IfOk, position};
+ghost use Rattle.esr_progress.specs.Plan.{no_plan};
+
+use crate::{OpenDelete, OpenOp, Seat};
+use std::alloc::{AllocError, Global};
+use std::marker::Model;
+
+/// The open ops and deletes by number, the numbers of ops in the order in which they completed, and what is kept of each
+/// ticket from 1 on.
+#[derive(Debug, Drop)]
+pub struct Progress {
+    pub(crate) ops: Vec<OpenOp>,
+    pub(crate) deletes: Vec<OpenDelete>,
+    pub(crate) completed: Vec<u64>,
+    pub(crate) seats: Vec<Seat>,
+    pub(crate) next_op: u64,
+}
+
+impl Model for Progress {
+    ghost use Rattle.esr_progress.specs.Plan.{Plan};
+    ghost use Rattle.esr_progress.specs.Codes.{plan_code};
+
+    ghost Value = { Plan };
+
+    ghost coded = { plan_code };
+
+    ghost use Rattle.esr_progress.specs.Inside.{plan_with, IsProgress};
+
+    ghost view = { λ a. plan_with a.ops.items a.deletes.items a.completed.items a.seats.items a.next_op };
+
+    ghost invariant = { λ a. IsProgress a.ops.items a.deletes.items a.next_op };
+}
+
+impl Progress {
+    /// No op and no ticket; asks for no memory.
+    pub fn new(alloc: Global) -> Progress
+        ensures { result ≡ no_plan }
+    {
+        Progress {
+            ops: Vec::new(alloc),
+            deletes: Vec::new(alloc),
+            completed: Vec::new(alloc),
+            seats: Vec::new(alloc),
+            next_op: 1,
+        }
+    }
+
+    /// A copy.
+    pub fn copy(&self, alloc: Global) -> Result<Progress, AllocError>
+        ensures { IfOk result (λ p. p ≡ self.now) }
+    {
+        let mut ops = Vec::with_capacity(alloc, self.ops.len())?;
+        for op in &self.ops {
+            ops.push(op.try_clone(alloc)?)?;
+        }
+        let deletes = copy_deletes(alloc, &self.deletes)?;
+        Ok(Progress {
+            ops,
+            deletes,
+            completed: Vec::from_slice(alloc, self.completed.as_slice())?,
+            seats: Vec::from_slice(alloc, self.seats.as_slice())?,
+            next_op: self.next_op,
+        })
+    }
+}
+
+fn copy_deletes(alloc: Global, deletes: &[OpenDelete]) -> Result<Vec<OpenDelete>, AllocError>
+    ensures { IfOk result (λ v. v.items ≡ deletes.now) }
+{
+    let mut copy = Vec::with_capacity(alloc, deletes.len())?;
+    for delete in deletes {
+        copy.push(delete.try_clone(alloc)?)?;
+    }
+    Ok(copy)
+}
+
+/// Where the op of a number stands.
+pub(crate) fn place(ops: &[OpenOp], number: u64) -> Option<usize>
+    ensures { result ≡ position (λ e. e.0 == number) ops.now }
+{
+    ops.iter().position(|op| op.number() == number)
+}

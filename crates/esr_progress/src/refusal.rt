@@ -1,0 +1,39 @@
+//! Why a command is not accepted.
+use esr_names::Id;
+use std::alloc::{AllocError, AllocFailed};
+
+/// Why a command is not accepted: the first rule that it breaks. The list of ops is as it was.
+#[derive(Clone, Copy, Debug, PartialEq, Eq)]
+pub enum Refusal {
+    Memory,
+    /// This cleanup is open.
+    CleanupRunning { op: u64 },
+    /// A snapshot with this uuid is listed under the name, or is being made.
+    NameInUse { uuid: Id },
+    /// So many ops are open, which is the limit.
+    TooMany { limit: u64 },
+    /// The term has too few ids left from this one on.
+    IdsSpent { next: Id },
+}
+
+impl From<AllocError> for Refusal {
+    ghost use Rattle.std.specs.Prelude.{◌≡◌};
+    ghost use Rattle.esr_progress.specs.declared.refusal.Refusal.TheVariants.{Memory};
+
+    ghost from_gives = { λ _ r. r ≡ Memory };
+
+    fn from(_: AllocError) -> Refusal {
+        Refusal::Memory
+    }
+}
+
+impl<T: Drop> From<AllocFailed<T>> for Refusal {
+    ghost use Rattle.std.specs.Prelude.{◌≡◌};
+    ghost use Rattle.esr_progress.specs.declared.refusal.Refusal.TheVariants.{Memory};
+
+    ghost from_gives = { λ _ r. r ≡ Memory };
+
+    fn from(_: AllocFailed<T>) -> Refusal {
+        Refusal::Memory
+    }
+}

@@ -1,0 +1,75 @@
+//! Units of work, and what they report.
+ghost use Rattle.std.specs.Prelude.{◌≡◌};
+ghost use Rattle.esr_progress.specs.Plan.{kind_of_code};
+ghost use Rattle.esr_progress.specs.Seats.{is_of_shard};
+
+use esr_meta::SnapInfo;
+use esr_names::{Id, IndexName, ShardId};
+use esr_results::ShardResults;
+use esr_root::RootData;
+use esr_seq::Text;
+
+/// What a unit is to do.
+#[derive(Debug, Drop)]
+pub enum Work {
+    /// Stores the files of a shard for the snapshot `uuid`.
+    Shard {
+        uuid: Id,
+        shard: ShardId,
+        index: IndexName,
+        place: Text,
+    },
+    /// Writes the metadata of a snapshot whose shards are done, and swaps the root.
+    Finalize {
+        info: SnapInfo,
+        shards: ShardResults,
+    },
+    /// Takes away an op that failed.
+    Drop,
+}
+
+/// What a unit may rely on, copied as it was given: the safe root with its generation (-1: none), and the largest live
+/// generation of its shard.
+#[derive(Debug, Drop)]
+pub struct Copied {
+    pub safe: i64,
+    pub root: RootData,
+    pub base: Option<Id>,
+}
+
+/// A unit that is ready, with the ticket that it is given.
+#[derive(Debug, Drop)]
+pub struct ReadyUnit {
+    pub ticket: u64,
+    pub op: u64,
+    pub work: Work,
+    pub copy: Copied,
+}
+
+/// The kind of a ticket's unit.
+#[derive(Clone, Copy, Debug, PartialEq, Eq)]
+pub enum SeatKind {
+    Shard { shard: ShardId },
+    Finalize,
+    Drop,
+}
+
+/// What is kept of a ticket: its unit, its op, the term in which it was given, the generation that it raised, whether it
+/// has settled, and whether it is out.
+#[derive(Clone, Copy, Debug, PartialEq, Eq)]
+pub struct Seat {
+    pub kind: SeatKind,
+    pub op: u64,
+    pub term: u64,
+    pub raised: Option<u64>,
+    pub settled: bool,
+    pub out: bool,
+}
+
+impl SeatKind {
+    pub(crate) fn is_of_shard(&self) -> bool
+        ensures { result ≡ is_of_shard (kind_of_code self.now) }
+    {
+        matches!(self, SeatKind::Shard { .. })
+    }
+}

@@ -1,0 +1,12 @@
+pub mod Choices
+pub mod Named
+pub mod Rising
+pub mod Merged
+pub mod Changed
+pub mod Added
+pub mod Refs
+pub mod Steps
+pub mod Shards
+pub mod Growing
+pub mod Finalizing
+pub mod Examples

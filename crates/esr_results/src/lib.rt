@@ -1,0 +1,11 @@
+//! What the units of shards report, and the root that a finalization makes of it.
+#![tactic(auto)]
+
+mod new_root;
+mod result;
+
+pub use new_root::finalized;
+pub use result::{ShardResult, ShardResults};
+
+#[cfg(test)]
+mod tests;
