@@ -1,5 +1,5 @@
 -- The ticket of a unit as it was taken, and what its steps make of it.
-use Rattle.std.specs.Prelude.{◌≡◌, ℕ, Bool, true, false, List, [], ◌∷◌, map, Option, Some, None, option_map, Result, Ok, Err, if◌then◌else◌}
+use Rattle.std.specs.Prelude.{◌≡◌, ℕ, Bool, true, false, List, [], ◌∷◌, map, ◌⊎◌, Option, Some, None, option_map, Result, Ok, Err, if◌then◌else◌}
 use Rattle.esr_model.specs.Names.{BlobName}
 use Rattle.esr_model.specs.Values.{Bytes, RootData}
 use Rattle.esr_model.specs.Shelf.{Shelved}
@@ -96,3 +96,16 @@ begun_by name (Err e) t = t
 abbrev pub fetched_by : {F : Type 0} → (F → Option Bytes) → BlobName → Option F → Ticket → Ticket
 fetched_by left name None t = t
 fetched_by left name (Some f) t = fetching name (left f) t
+
+-- A record swap that wasn't made leaves the ticket. Where the container failed in it the new record may stand, and the ticket
+-- has gone on as where it was made.
+abbrev pub LeftBy : {X : Type 0} → (Ticket → Type 0) → Result X StepRefusal → Ticket → Ticket → Type 0
+LeftBy gone (Ok x) old new = Unit {0}
+LeftBy gone (Err (steps.Refused DepotFault)) old new = (new ≡ old) ⊎ gone new
+LeftBy gone (Err e) old new = new ≡ old
+
+abbrev pub HasRaised : Ticket → Ticket → Type 0
+HasRaised old new = (n : ℕ) × (new ≡ record old { raised = Some n })
+
+abbrev pub IsSettled : Ticket → Ticket → Type 0
+IsSettled old new = new ≡ record old { settled = true }

@@ -15,7 +15,7 @@ ghost use Rattle.esr_desk.specs.Entries.{why_of};
 ghost use Rattle.esr_desk.specs.Start.{Start, ticket_of, told_bytes};
 ghost use Rattle.esr_desk.specs.Outcome.{Outcome, commit_reply, fetch_reply, take_reply};
 ghost use Rattle.esr_desk.specs.Conditions.{CanDraw, CanCommit, CanPut, CanBegin, Holds, CanFetch, CanRaise, CanSettle, CanEnd, CanFail, CanFinish};
-ghost use Rattle.esr_desk.specs.Taken.{Took, committed_by, begun_by, tried_by, fetched_by};
+ghost use Rattle.esr_desk.specs.Taken.{Took, committed_by, begun_by, tried_by, fetched_by, LeftBy, HasRaised, IsSettled};
 ghost use Rattle.esr_desk.specs.declared.refusal.StepRefusal.{StepRefusal};
 
 use crate::{Look, Named, StepRefusal, Unit, Why};
@@ -146,7 +146,7 @@ pub trait Desk {
         ensures own { IfOk result (λ n. ticket_of start (seen self.new) ticket
             ≡ record (ticket_of start (seen self.old) ticket) { raised = Some n }) }
         ensures range { IfOk result (λ n. n < 2 ^ 63) }
-        ensures kept { OnErr result (ticket_of start (seen self.new) ticket ≡ ticket_of start (seen self.old) ticket) }
+        ensures kept { LeftBy (HasRaised (ticket_of start (seen self.old) ticket)) result (ticket_of start (seen self.old) ticket) (ticket_of start (seen self.new) ticket) }
         ensures holds { holds self.new ticket };
 
     /// Makes the root that the ticket committed the safe one.
@@ -156,7 +156,7 @@ pub trait Desk {
         ensures step { Outcome start (seen self.old) (seen self.new) ticket SettleStep (λ _. WasSettled) result }
         ensures own { OnOk result (ticket_of start (seen self.new) ticket
             ≡ record (ticket_of start (seen self.old) ticket) { settled = true }) }
-        ensures kept { OnErr result (ticket_of start (seen self.new) ticket ≡ ticket_of start (seen self.old) ticket) }
+        ensures kept { LeftBy (IsSettled (ticket_of start (seen self.old) ticket)) result (ticket_of start (seen self.old) ticket) (ticket_of start (seen self.new) ticket) }
         ensures holds { holds self.new ticket };
 
     /// A shard is done; its ticket ends.

@@ -1,14 +1,14 @@
 -- Runs of steps, one after another.
-use Rattle.std.proofs.Common.{◌≡◌, ℕ, true, List, [], ◌∷◌, ◌++◌, Option, Some, None, Result, Ok, Err, append-nil, append_assoc, refl, sym, ap, ◌∙◌, subst}
+use Rattle.std.proofs.Common.{◌≡◌, ◌⊎◌, inl, inr, IfOk, IfErr, ℕ, true, List, [], ◌∷◌, ◌++◌, Option, Some, None, Result, Ok, Err, append-nil, append_assoc, refl, sym, ap, ◌∙◌, subst}
 use Rattle.esr_core.specs.World.{Ticket}
-use Rattle.esr_core.specs.Entry.{Step, Reply, Refusal, Refused, Moment}
+use Rattle.esr_core.specs.Entry.{Step, RaiseStep, RaisedTo, Reply, Refusal, Refused, Moment}
 use Rattle.esr_desk.specs.declared.refusal.StepRefusal.{StepRefusal}
 use Rattle.esr_desk.specs.declared.refusal.StepRefusal.TheVariants as steps
 use Rattle.esr_desk.specs.declared.refusal.EntryRefusal.TheVariants as refusals
 use Rattle.esr_desk.specs.Refusals.{told_refusal}
 use Rattle.esr_desk.specs.Start.{Start, ticket_of}
 use Rattle.esr_desk.specs.Outcome.{Stepped, Refusing, Outcome}
-use Rattle.esr_desk.specs.Taken.{tried, tried_by}
+use Rattle.esr_desk.specs.Taken.{tried, tried_by, LeftBy, HasRaised}
 use Rattle.esr_finish.specs.Went.{Grew, Worked, Went}
 
 pub grew_not : (s : Start) (log : List Moment) → Grew s log log
@@ -82,3 +82,36 @@ tried_by_worked t (Err (steps.Refused (refusals.GenerationsSpent number))) = wor
 tried_by_worked t (Err (steps.Refused (refusals.TermsSpent number))) = worked_not t
 tried_by_worked t (Err (steps.Refused (refusals.IdsSpent next))) = worked_not t
 tried_by_worked t (Err (steps.Refused (refusals.NameTaken name))) = worked_not t
+
+-- what a record swap that was refused left of the ticket
+pub left_cases : {X : Type 0} (gone : Ticket → Type 0) (result : Result X StepRefusal) (t u : Ticket) → LeftBy gone result t u → IfErr result (λ e. (u ≡ t) ⊎ gone u)
+left_cases gone (Ok x) t u h = tt
+left_cases gone (Err steps.Memory) t u h = inl h
+left_cases gone (Err steps.TurnsSpent) t u h = inl h
+left_cases gone (Err (steps.Refused refusals.DepotFault)) t u h = h
+left_cases gone (Err (steps.Refused (refusals.CleanupRunning op))) t u h = inl h
+left_cases gone (Err (steps.Refused (refusals.NameInUse uuid))) t u h = inl h
+left_cases gone (Err (steps.Refused (refusals.TooMany limit))) t u h = inl h
+left_cases gone (Err (steps.Refused (refusals.Deposed entry))) t u h = inl h
+left_cases gone (Err (steps.Refused (refusals.Aborted by))) t u h = inl h
+left_cases gone (Err (steps.Refused (refusals.StaleTerm own now))) t u h = inl h
+left_cases gone (Err (steps.Refused (refusals.GenerationsSpent number))) t u h = inl h
+left_cases gone (Err (steps.Refused (refusals.TermsSpent number))) t u h = inl h
+left_cases gone (Err (steps.Refused (refusals.IdsSpent next))) t u h = inl h
+left_cases gone (Err (steps.Refused (refusals.NameTaken name))) t u h = inl h
+
+raised_worked : (t u : Ticket) → (u ≡ t) ⊎ HasRaised t u → Worked t u
+raised_worked t u (inl same) = worked_to t t u (worked_not t) same
+raised_worked t u (inr gone) = record { noted = t.noted; wrote = t.wrote; raised = Some gone.0; tried = t.tried_latest; is = gone.1 }
+
+raise_worked : (t u : Ticket) (result : Result ℕ StepRefusal) → IfOk result (λ n. u ≡ record t { raised = Some n }) → IfErr result (λ e. (u ≡ t) ⊎ HasRaised t u) → Worked t u
+raise_worked t u (Ok n) own kept = raised_worked t u (inr (n, own))
+raise_worked t u (Err e) own kept = raised_worked t u kept
+
+-- a raise, whatever it was answered
+pub raise_went : (s : Start) (old new : List Moment) (who : ℕ) (result : Result ℕ StepRefusal) → Outcome s old new who RaiseStep (λ n. RaisedTo n) result
+    → IfOk result (λ n. ticket_of s new who ≡ record (ticket_of s old who) { raised = Some n }) → LeftBy (HasRaised (ticket_of s old who)) result (ticket_of s old who) (ticket_of s new who) → Went s old new who
+raise_went s old new who result step own kept = record {
+  grew = outcome_grew s old new who RaiseStep (λ n. RaisedTo n) result step;
+  worked = raise_worked (ticket_of s old who) (ticket_of s new who) result own (left_cases (HasRaised (ticket_of s old who)) result (ticket_of s old who) (ticket_of s new who) kept);
+}

@@ -12,12 +12,12 @@ ghost use Rattle.esr_model.specs.Values.{ShardResult as Outcome};
 ghost use Rattle.esr_progress.specs.Shards.{state_of, waits_on};
 ghost use Rattle.esr_progress.specs.Ops.{op_with, IsOpenOp, IsMakingOf, has_stopped, is_free, IsDoneAt, Among, IsMost, later_of, IsShardWork, IsFinalWork};
 
-use crate::shard::{self, OpenShard, ShardState};
 use crate::Work;
-use esr_results::ShardResult;
+use crate::shard::{self, OpenShard, ShardState};
 use esr_meta::{SnapInfo, indices_copy};
 use esr_names::{Id, IndexName, ShardId};
 use esr_record::{Making, OpWork, RecordOp};
+use esr_results::ShardResult;
 use esr_seq::{Seq, Text};
 use std::alloc::{AllocError, Global};
 use std::marker::Model;

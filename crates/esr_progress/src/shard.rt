@@ -4,10 +4,10 @@ ghost use Rattle.std.specs.List.{list_any, list_all, filter_map};
 ghost use Rattle.esr_core.specs.Steps.{is_done};
 ghost use Rattle.esr_progress.specs.Shards.{given_open, marked_open, failed_open, is_pending, waits, is_done_with, is_open_waiting, is_open_free, generation_open, result_in, state_of};
 
-use crate::open_op::wait_on;
 use crate::OpenOp;
-use esr_results::{ShardResult, ShardResults};
+use crate::open_op::wait_on;
 use esr_names::{Id, ShardId};
+use esr_results::{ShardResult, ShardResults};
 use std::alloc::{AllocError, Global};
 
 /// How far the work on a shard is.

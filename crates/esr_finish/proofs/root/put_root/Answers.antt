@@ -8,6 +8,7 @@ use Rattle.esr_desk.specs.Start.{formats_of, ticket_of}
 use Rattle.esr_finish.specs.Blobs.{root_blob}
 use Rattle.esr_finish.specs.Ticket.{Wrote}
 use Rattle.esr_finish.proofs.Blobs.{root_text_is}
+use Rattle.esr_finish.proofs.Runs.{raise_went}
 use Rattle.esr_finish.proofs.Writing.{root_commits}
 use Rattle.esr_finish.proofs.root.put_root.Goals as goal
 
@@ -34,3 +35,7 @@ returns-clause-ok g c =
     let text = root_text_is s n root c.as_slice.result.now (c.as_slice.ensures ∙ c.in_ok-text.ensures.text) in
     subst (λ (t : Ticket). Wrote t t2 (root_blob (formats_of s) n root ∷ [])) c.in_ok-generation.ensures.own
     (subst (λ (b : Bytes). Wrote t1 t2 ((Root n, b) ∷ [])) text c.in_ok-put.ensures.ok)
+
+pub returns-in_err-generation-clause-went : goal.returns-in_err-generation-clause-went
+returns-in_err-generation-clause-went g c =
+    raise_went g.Q.Desk.start (g.Q.Desk.seen c.args.desk.now) (g.Q.Desk.seen c.raise.new.self) c.args.ticket c.raise.result c.raise.ensures.step c.raise.ensures.own c.raise.ensures.kept

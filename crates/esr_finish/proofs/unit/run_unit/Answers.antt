@@ -1,12 +1,14 @@
+use Rattle.std.proofs.Common.{Err}
+use Rattle.esr_desk.specs.Taken.{IsSettled}
 use Rattle.esr_core.specs.Entry.{SettleStep, FinishStep, FailedStep, OfDepot, WasSettled, HasEnded}
 use Rattle.esr_formats.specs.Infos.{info_of_code}
 use Rattle.esr_formats.specs.Roots.{root_of}
 use Rattle.esr_desk.specs.Start.{ticket_of}
 use Rattle.esr_finish.specs.Ticket.{MayWrite}
 use Rattle.esr_finish.specs.Refused.{IsUnitRefused}
-use Rattle.esr_finish.proofs.Runs.{grew_on, outcome_grew}
+use Rattle.esr_finish.proofs.Runs.{grew_on, outcome_grew, left_cases}
 use Rattle.esr_finish.proofs.Swaps.{took_writes, settle_next}
-use Rattle.esr_finish.proofs.Ends.{stopped_err, ending_refused, finish_refused}
+use Rattle.esr_finish.proofs.Ends.{stopped_err, ending_refused, settle_refused, finish_refused}
 use Rattle.esr_finish.proofs.unit.run_unit.Goals as goal
 use Rattle.esr_finish.proofs.unit.run_unit.Goals.{In-Some}
 
@@ -34,8 +36,9 @@ returns-in_err-settle-in-Ok-clause-refused g c =
     let new = g.Q.Desk.seen c.settle.new.self in
     let who = c.args.unit.now.ready.ticket in
     stopped_err c.from_residual.result (IsUnitRefused s old new who) c.in_err-settle-in-Ok.field-0.0 c.from_residual.ensures.1
-    (ending_refused s old mid new who (info_of_code c.in-Finalize.info) (root_of c.in-Some.root) SettleStep c.in_err-settle-in-Ok.field-0.0 (may_write g (goal.at.returns-in_err-settle-in-Ok-clause-refused g c).In-Some) c.write_swap.ensures.went
-    c.in_err-settle-in-Ok.ensures.kept tt c.in_err-settle-in-Ok.ensures.step)
+    (settle_refused s old mid new who (info_of_code c.in-Finalize.info) (root_of c.in-Some.root) c.in_err-settle-in-Ok.field-0.0 (may_write g (goal.at.returns-in_err-settle-in-Ok-clause-refused g c).In-Some) c.write_swap.ensures.went c.in-Ok.ensures.ok
+    (left_cases {X = Unit {0}} (IsSettled (ticket_of s mid who)) (Err c.in_err-settle-in-Ok.field-0.0) (ticket_of s mid who) (ticket_of s new who) c.in_err-settle-in-Ok.ensures.kept)
+    c.in_err-settle-in-Ok.ensures.step)
 
 pub returns-in_err-finish-in-Ok-clause-refused : goal.returns-in_err-finish-in-Ok-clause-refused
 returns-in_err-finish-in-Ok-clause-refused g c =
