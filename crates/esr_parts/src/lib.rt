@@ -1,0 +1,12 @@
+//! Files are read in pieces: for their prints, and part by part into stages.
+#![tactic(auto)]
+
+mod copy;
+mod hash;
+mod plan;
+#[cfg(test)]
+mod tests;
+
+pub use copy::{CopyError, copy_part};
+pub use hash::hash_file;
+pub use plan::part_plan;

@@ -1,0 +1,8 @@
+//! Which files of a shard its base already has.
+#![tactic(auto)]
+
+mod reuse;
+#[cfg(test)]
+mod tests;
+
+pub use reuse::{Planned, Plans, ReadFile, ReadFiles, plan, reusable};

@@ -1,0 +1,70 @@
+use crate::{ReadFile, plan};
+use esr_hash::Print;
+use esr_names::Id;
+use esr_seq::Seq;
+use esr_shardidx::{FileEntry, PhysicalName, ShardIndex, ShardSnap};
+use std::alloc::Global;
+use std::test::Fail;
+
+fn name_of(alloc: Global, text: &str) -> Result<PhysicalName, Fail> {
+    match PhysicalName::new(alloc, text) {
+        Ok(name) => Ok(name),
+        Err(_) => Err(Fail::new("no name of a file")),
+    }
+}
+
+fn print_of(len: u64, byte: u8) -> Print {
+    Print {
+        len,
+        sha256: [byte; 32],
+    }
+}
+
+/// An index with the files `a` of id 5 and `b` of id 6, each of 3 bytes.
+fn base_of(alloc: Global) -> Result<ShardIndex, Fail> {
+    let mut files = Seq::new(alloc);
+    for (text, id, byte) in [("a", 5, 1), ("b", 6, 2)] {
+        files.push(FileEntry {
+            name: Id { number: id },
+            physical: name_of(alloc, text)?,
+            print: print_of(3, byte),
+            part_size: 4,
+        })?;
+    }
+    match ShardSnap::new(files, Id { number: 1 }) {
+        Some(snap) => Ok(ShardIndex::new(alloc).with_snap(alloc, &snap)?),
+        None => Err(Fail::new("no files of a snapshot")),
+    }
+}
+
+/// The ids that files of this name and print reuse.
+fn id_for(alloc: Global, text: &str, len: u64, byte: u8) -> Result<Option<u128>, Fail> {
+    let mut files = Seq::new(alloc);
+    files.push(ReadFile {
+        physical: name_of(alloc, text)?,
+        print: print_of(len, byte),
+    })?;
+    let base = base_of(alloc)?;
+    let plans = plan(alloc, &base, files.as_slice())?;
+    for planned in plans.as_slice() {
+        if let Some(entry) = &planned.reused {
+            return Ok(Some(entry.name.number));
+        }
+    }
+    Ok(None)
+}
+
+#[test]
+fn name_length_and_digest_count(rt: HostRuntime) -> Result<(), Fail> {
+    let alloc = rt.alloc();
+    for (text, len, byte, id) in [
+        ("a", 3, 1, Some(5)),
+        ("b", 3, 2, Some(6)),
+        ("b", 3, 1, None),
+        ("a", 4, 1, None),
+        ("c", 3, 1, None),
+    ] {
+        assert_eq!(rt; id_for(alloc, text, len, byte)?, id);
+    }
+    Ok(())
+}
