@@ -1,0 +1,4 @@
+pub mod Frames
+pub mod Logs
+pub mod Repos
+pub mod Plain

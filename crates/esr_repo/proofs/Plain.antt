@@ -1,0 +1,145 @@
+-- An entry of a step that doesn't call the container.
+use Rattle.std.proofs.Common.{◌≡◌, ◌⊎◌, ℕ, true, false, List, [], ◌∷◌, ◌++◌, Option, Some, None, refl, sym, ap, ◌∙◌, subst, inl, inr}
+use Rattle.std.specs.Option.{unwrap_or}
+use Rattle.std.specs.FinMap as fin
+use Rattle.esr_model.specs.Values.{ReadsBack}
+use Rattle.esr_model.specs.Image.{Image}
+use Rattle.esr_core.specs.World.{World, record_of}
+use Rattle.esr_core.specs.Entry.{Step, Refused, Refusal, DeposedAt, DepotFault, Entry, Moment}
+use Rattle.esr_core.specs.After.{answered, blobs_in, after}
+use Rattle.esr_core.specs.Allowed.{Allows, IsDeposed, Allowed}
+use Rattle.esr_depot.specs.Look.{Look}
+use Rattle.esr_formats.specs.Clusters.{cluster_kind}
+use Rattle.esr_progress.specs.Plan.{Plan, IsPlanOf}
+use Rattle.esr_desk.specs.Start.{Start, formats_of, world_of, or_no_ticket, ticket_of}
+use Rattle.esr_repo.specs.Log.{calls, log_of}
+use Rattle.esr_repo.specs.Repo.{Kept, IsSteady, IsRepo}
+use Rattle.esr_repo.specs.Next.{Added, IsLive}
+use Rattle.esr_repo.specs.May.{MayNote, MayRefuse}
+use Rattle.esr_repo.specs.Laws.{Laws}
+use Rattle.esr_repo.specs.Grown.{added_ticket}
+use Rattle.esr_repo.proofs.Frames.{IsPlain, NoSwap, ByRule, plain_is, rests_answered}
+use Rattle.esr_repo.proofs.Logs.{goes_same, image_now}
+use Rattle.esr_repo.proofs.Repos.{cluster_is, plan_aside, kept_now, steady_now, image_same, text_same, added, added_repo}
+
+-- what the record, the root and the flag are after a step without a call
+record Stays (w new : World) : Type 0 where
+  record_is : record_of new ≡ record_of w
+  root : new.root ≡ w.root
+  deposed : new.deposed ≡ w.deposed
+
+stays_after : (laws : Laws) (s : Start) (w : World) (m : Moment) → calls m.entry.step m.entry.reply ≡ false → Stays w (after (formats_of s) w m)
+stays_after laws s w m plain = go (plain_is (formats_of s) w m.entry.who m.entry.step m.entry.reply m.image plain)
+  where
+    go : IsPlain (formats_of s) w m.entry.who m.entry.step m.entry.reply m.image → Stays w (after (formats_of s) w m)
+    go (NoSwap e) =
+        let rests = rests_answered (formats_of s) w m.entry.who m.entry.step m.entry.reply m.image e in
+        record { record_is = laws.record_stays (formats_of s) w m e; root = rests.root; deposed = rests.deposed }
+    go (ByRule e) = record { record_is = ap record_of e; root = ap (λ (x : World). x.root) e; deposed = ap (λ (x : World). x.deposed) e }
+
+-- such a step is allowed where its answer is
+allowed_plain : (laws : Laws) (s : Start) (log : List Moment) (l : Look) (e : Entry) → IsSteady s log l → calls e.step e.reply ≡ false
+    → (((world_of s log).deposed ≡ false) × Allows (formats_of s) s.part_size (world_of s log) e.who e.step e.reply (image_now l)) ⊎ IsDeposed (world_of s log) (record { entry = e; image = image_now l })
+    → Allowed (formats_of s) s.part_size (world_of s log) (record { entry = e; image = image_now l })
+allowed_plain laws s log l e h plain answer =
+    let m : Moment = record { entry = e; image = image_now l } in
+    let same = (stays_after laws s (world_of s log) m plain).record_is in
+    let f = formats_of s in
+    record {
+      answered = answer;
+      record_back = subst (λ kind. ReadsBack kind (record_of (after f (world_of s log) m))) (sym (cluster_is s)) (subst (λ r. ReadsBack cluster_kind r) (sym same) h.record_back);
+      text = λ image is. text_same s log l h image is ∙ ap (λ r. Some (f.cluster.text r)) (sym same);
+    }
+
+module _ (laws : Laws) (l : Look) (s : Start) (clock : ℕ) (es mid es' : List Entry) (k : Kept) (d : Option ℕ) (seen : List Moment) (e : Entry)
+    (r : IsRepo l s clock es k d) (view : log_of l clock es ≡ seen) (reserved : mid ≡ es) (pushed : es' ≡ mid ++ e ∷ []) where
+  more : es' ≡ es ++ e ∷ []
+  more = pushed ∙ ap (λ (x : List Entry). x ++ e ∷ []) reserved
+
+  abbrev entry_moment : Moment
+  entry_moment = record { entry = e; image = image_now l }
+
+  here : IsSteady s seen l
+  here = steady_now l s clock es k d seen r view
+
+  -- ---- a record swap has failed before
+
+  module _ (place : ℕ) (fell : d ≡ Some place) (refused : e.reply ≡ Refused (DeposedAt place)) where
+    by_rule : calls e.step e.reply ≡ false
+    by_rule = ap (calls e.step) refused
+
+    is_deposed : (world_of s seen).deposed ≡ true
+    is_deposed = ap (λ v. (world_of s v).deposed) (sym view) ∙ r.fallen place fell
+
+    deposed_allowed : Allowed (formats_of s) s.part_size (world_of s seen) entry_moment
+    deposed_allowed = allowed_plain laws s seen l e here by_rule (inr (record { deposed = is_deposed; place = place; refused = refused; same = image_same s seen l here }))
+
+    pub deposed_added : Added s seen (log_of l clock es') e.who e.step e.reply
+    deposed_added = added l l s clock es es' k k d d seen e laws r view (goes_same l e by_rule) r.tells more deposed_allowed
+
+    pub deposed_repo : IsRepo l s clock es' k d
+    deposed_repo =
+        added_repo l l s clock es es' k k d d seen e laws r view (goes_same l e by_rule) r.tells more deposed_allowed
+        (λ none. absurd (never place (sym fell ∙ none)))
+        (λ other n. (stays_after laws s (world_of s seen) entry_moment by_rule).deposed ∙ is_deposed)
+      where
+        never : (n : ℕ) → Some n ≡ None → ⊥
+        never n q = cc
+
+  -- ---- none has
+
+  module _ (live : IsLive s seen) (plan : Option Plan) (next : ℕ) (may : MayNote s seen e.who e.step e.reply plan next) (new : Plan) (new_is : new ≡ unwrap_or plan k.plan) where
+    abbrev kept_then : Kept
+    kept_then = record { cluster = k.cluster; root = k.root; plan = new; next = next }
+
+    note_allowed : Allowed (formats_of s) s.part_size (world_of s seen) entry_moment
+    note_allowed = allowed_plain laws s seen l e here may.plain (inl (live, may.allows (image_now l) (image_same s seen l here)))
+
+    pub note_added : Added s seen (log_of l clock es') e.who e.step e.reply
+    note_added = added l l s clock es es' k kept_then d d seen e laws r view (goes_same l e may.plain) r.tells more note_allowed
+
+    pub note_repo : IsRepo l s clock es' kept_then d
+    note_repo =
+        let now = kept_now l s clock es k d seen r view live in
+        let stays = stays_after laws s (world_of s seen) entry_moment may.plain in
+        let w : World = answered (formats_of s) (world_of s seen) e.who e.step e.reply (image_now l) in
+        added_repo l l s clock es es' k kept_then d d seen e laws r view (goes_same l e may.plain) r.tells more note_allowed
+        (λ none. (
+          stays.deposed ∙ live,
+          record {
+            cluster = now.1.cluster ∙ sym stays.record_is;
+            root = now.1.root ∙ sym stays.root;
+            plan = plan_aside w (blobs_in (image_now l) (world_of s seen).blobs) w.deposed new (subst (IsPlanOf w) (sym new_is) (may.plan_is (image_now l) k.plan now.1.plan));
+            next = may.next_is (image_now l);
+          },
+        ))
+        (λ place n. absurd (never place (sym n ∙ now.0)))
+      where
+        never : (n : ℕ) → Some n ≡ None → ⊥
+        never n q = cc
+
+-- ---- a refusal by rule
+
+-- it changes nothing but the history
+pub refused_answer : (s : Start) (w : World) (who : ℕ) (step : Step) (refusal : Refusal) (image : Option Image) → calls step (Refused refusal) ≡ false → answered (formats_of s) w who step (Refused refusal) image ≡ w
+refused_answer s w who step refusal image plain = by refusal plain
+  where
+    by : (x : Refusal) → calls step (Refused x) ≡ false → answered (formats_of s) w who step (Refused x) image ≡ w
+    by DepotFault e = absurd (swaps e)
+      where
+        swaps : true ≡ false → ⊥
+        swaps q = cc
+    by x e = refl
+
+pub refused_tickets : (s : Start) (old new : List Moment) (who : ℕ) (step : Step) (refusal : Refusal) → calls step (Refused refusal) ≡ false → Added s old new who step (Refused refusal) → (j : ℕ) → ticket_of s new j ≡ ticket_of s old j
+refused_tickets s old new who step refusal plain a j =
+    added_ticket s old new who step (Refused refusal) a j ∙ ap (λ (w : World). or_no_ticket (fin.get w.tickets j)) (refused_answer s (world_of s old) who step refusal a.image plain)
+
+-- it is a step without a call of the container that leaves what is kept
+pub may_refuse : (s : Start) (log : List Moment) (who : ℕ) (step : Step) (refusal : Refusal) (next : ℕ) → next ≡ (world_of s log).next_id → MayRefuse s log who step refusal → MayNote s log who step (Refused refusal) None next
+may_refuse s log who step refusal next is may = record {
+  plain = may.plain;
+  allows = may.allows;
+  plan_is = λ image old h. subst (λ (w : World). IsPlanOf w old) (sym (refused_answer s (world_of s log) who step refusal image may.plain)) h;
+  next_is = λ image. is ∙ ap (λ (w : World). w.next_id) (sym (refused_answer s (world_of s log) who step refusal image may.plain));
+}

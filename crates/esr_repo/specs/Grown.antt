@@ -1,0 +1,64 @@
+-- Histories that go on by one moment, and what it makes of tickets.
+use Rattle.std.specs.Prelude.{◌≡◌, ℕ, Bool, true, cond, List, [], ◌∷◌, ◌++◌, Option, Some, None}
+use Rattle.std.proofs.Common.{refl, sym, ap, ◌∙◌}
+use Rattle.std.specs.Ordering.{nat_cmp}
+use Rattle.std.specs.Cmp.{nat_cmp_total, eq_by_cmp_equiv}
+use Rattle.std.specs.FinMap.{FinMap}
+use Rattle.std.specs.FinMap as fin
+use Rattle.esr_model.specs.Values.{Formats}
+use Rattle.esr_core.specs.World.{World, Ticket}
+use Rattle.esr_core.specs.Steps.{IsOut}
+use Rattle.esr_core.specs.Entry.{Step, Reply, Moment}
+use Rattle.esr_core.specs.After.{with_given, change, answered, after}
+use Rattle.esr_core.specs.Allowed.{Allowed}
+use Rattle.esr_core.specs.History.{world_from, IsLegal}
+use Rattle.esr_desk.specs.Start.{Start, formats_of, world_of, Legal, no_ticket, or_no_ticket, ticket_of}
+use Rattle.esr_repo.specs.Next.{Added}
+
+world_from-append : (f : Formats) (w : World) (xs ys : List Moment) → world_from f w (xs ++ ys) ≡ world_from f (world_from f w xs) ys
+world_from-append f w [] ys = refl
+world_from-append f w (x ∷ xs) ys = world_from-append f (after f w x) xs ys
+
+legal-append : (f : Formats) (n : ℕ) (w : World) (xs ys : List Moment) → IsLegal f n w xs → IsLegal f n (world_from f w xs) ys → IsLegal f n w (xs ++ ys)
+legal-append f n w [] ys h k = k
+legal-append f n w (x ∷ xs) ys h k = (h.0, legal-append f n (after f w x) xs ys h.1 k)
+
+-- a history that is legal, and a moment that is allowed after it
+pub legal_step : (s : Start) (log : List Moment) (m : Moment) → Legal s log → Allowed (formats_of s) s.part_size (world_of s log) m → Legal s (log ++ m ∷ [])
+legal_step s log m legal allowed = legal-append (formats_of s) s.part_size s.world log (m ∷ []) legal (allowed, tt)
+
+pub world_step : (s : Start) (log : List Moment) (m : Moment) → world_of s (log ++ m ∷ []) ≡ after (formats_of s) (world_of s log) m
+world_step s log m = world_from-append (formats_of s) s.world log (m ∷ [])
+
+-- the world after an added entry
+pub added_world : (s : Start) (old new : List Moment) (who : ℕ) (step : Step) (reply : Reply) (a : Added s old new who step reply)
+    → world_of s new ≡ after (formats_of s) (world_of s old) (record { entry = record { who = who; step = step; reply = reply }; image = a.image })
+added_world s old new who step reply a = ap (world_of s) a.is ∙ world_step s old (record { entry = record { who = who; step = step; reply = reply }; image = a.image })
+
+-- a ticket after an added entry
+pub added_ticket : (s : Start) (old new : List Moment) (who : ℕ) (step : Step) (reply : Reply) (a : Added s old new who step reply) (k : ℕ)
+    → ticket_of s new k ≡ or_no_ticket (fin.get (answered (formats_of s) (world_of s old) who step reply a.image).tickets k)
+added_ticket s old new who step reply a k = ap (λ (w : World). or_no_ticket (fin.get w.tickets k)) (added_world s old new who step reply a)
+
+not_out : no_ticket.out ≡ true → ⊥
+not_out e = cc
+
+-- a ticket that is out was given
+pub out_is : (s : Start) (log : List Moment) (k : ℕ) → (ticket_of s log k).out ≡ true → IsOut (world_of s log) k (ticket_of s log k)
+out_is s log k out = go (fin.get (world_of s log).tickets k) refl out
+  where
+    go : (o : Option Ticket) → fin.get (world_of s log).tickets k ≡ o → (or_no_ticket o).out ≡ true → IsOut (world_of s log) k (ticket_of s log k)
+    go None e h = absurd (not_out h)
+    go (Some t) e h =
+        let is : t ≡ ticket_of s log k = sym (ap or_no_ticket e) in
+        record { there = e ∙ ap Some is; out = ap (λ (x : Ticket). x.out) (sym is) ∙ h }
+
+-- what was put is there
+pub put_there : (tickets : FinMap nat_cmp Ticket) (k : ℕ) (t : Ticket) → fin.get (fin.insert tickets k t) k ≡ Some t
+put_there tickets k t = fin.get-insert nat_cmp_total tickets k t k ∙ ap (λ (b : Bool). cond b (Some t) (fin.get tickets k)) ((eq_by_cmp_equiv nat_cmp_total).refl k)
+
+-- a ticket that is out, given anew
+pub changed_ticket : (s : Start) (log : List Moment) (k : ℕ) (g : Ticket → Ticket) → (ticket_of s log k).out ≡ true → or_no_ticket (fin.get (change (world_of s log) k g).tickets k) ≡ g (ticket_of s log k)
+changed_ticket s log k g out =
+    let there = (out_is s log k out).there in
+    ap (λ (o : Option Ticket). or_no_ticket (fin.get (with_given (world_of s log) k g o).tickets k)) there ∙ ap or_no_ticket (put_there (world_of s log).tickets k (g (ticket_of s log k)))

@@ -1,0 +1,12 @@
+-- The laws of steps on which a repository rests.
+use Rattle.std.specs.Prelude.{◌≡◌, ℕ, false}
+use Rattle.esr_model.specs.Values.{Formats}
+use Rattle.esr_core.specs.World.{World, record_of}
+use Rattle.esr_core.specs.Entry.{Moment}
+use Rattle.esr_core.specs.After.{swaps_record, after}
+use Rattle.esr_core.specs.Allowed.{Allowed}
+use Rattle.esr_core.specs.Tracked.{Tracked}
+
+pub record Laws : Type 0 where
+  pub tracked : (f : Formats) (part_size : ℕ) (w : World) (m : Moment) → Tracked w → Allowed f part_size w m → Tracked (after f w m)
+  pub record_stays : (f : Formats) (w : World) (m : Moment) → swaps_record m.entry.step ≡ false → record_of (after f w m) ≡ record_of w

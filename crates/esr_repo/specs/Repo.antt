@@ -1,0 +1,66 @@
+-- A container beside the history of its steps, and what is kept of the world that they lead to.
+use Rattle.std.specs.Prelude.{◌≡◌, ℕ, ◌+◌, ◌-◌, ◌^◌, ◌≤◌, Bool, true, false, List, length, Option, Some, None}
+use Rattle.std.specs.FinMap as fin
+use Rattle.esr_model.specs.Values.{ReadsBack}
+use Rattle.esr_core.specs.World.{World, Deleting, Swap, Ticket, record_of}
+use Rattle.esr_core.specs.World as core
+use Rattle.esr_core.specs.Entry.{Entry, Moment}
+use Rattle.esr_core.specs.Tracked.{Tracked}
+use Rattle.esr_root.specs.Root.{Root}
+use Rattle.esr_record.specs.Record.{Record}
+use Rattle.esr_depot.specs.Image.{Image as Held}
+use Rattle.esr_depot.specs.Look.{Look, now}
+use Rattle.esr_formats.specs.Roots.{root_of}
+use Rattle.esr_formats.specs.Clusters.{cluster_of, cluster_kind}
+use Rattle.esr_progress.specs.Plan.{Plan, IsPlanOf}
+use Rattle.esr_desk.specs.Start.{Start, formats_of, world_of, Legal}
+use Rattle.esr_repo.specs.Log.{image_of, ticks, log_of}
+
+-- what a repository keeps of the world, apart from the container
+pub record Kept : Type 0 where
+  pub cluster : Record
+  pub root : Root
+  pub plan : Plan
+  pub next : ℕ
+
+-- it is that of the world
+pub record IsKeptOf (w : World) (k : Kept) : Type 0 where
+  pub cluster : cluster_of k.cluster ≡ record_of w
+  pub root : root_of k.root ≡ w.root
+  pub plan : IsPlanOf w k.plan
+  pub next : k.next ≡ w.next_id
+
+-- it was told that the container tells its image exactly where it does
+pub record TellsSo (l : Look) (tells : Bool) : Type 0 where
+  pub untold : now l ≡ None → tells ≡ false
+  pub told : (i : Held) → now l ≡ Some i → tells ≡ true
+
+-- no ticket is of a delete or a cleanup
+abbrev pub NoDeleting : World → Type 0
+NoDeleting w = (k : ℕ) (t : Ticket) (uuids : List ℕ) (plan : Option Swap) → fin.get w.tickets k ≡ Some t → t.work ≡ Deleting uuids plan → ⊥
+
+-- what holds of the world, whatever is kept
+pub record IsSteady (s : Start) (log : List Moment) (l : Look) : Type 0 where
+  pub legal : Legal s log
+  pub image : (i : Held) → now l ≡ Some i → image_of i ≡ core.image_of (formats_of s) (world_of s log)
+  pub record_back : ReadsBack cluster_kind (record_of (world_of s log))
+  pub tracked : Tracked (world_of s log)
+  pub no_deletes : (world_of s log).deletes ≡ fin.empty
+  pub no_deleting : NoDeleting (world_of s log)
+  pub few_ops : (world_of s log).next_op ≤ s.world.next_op + length log
+  pub few_tickets : (world_of s log).next_ticket ≤ s.world.next_ticket + length log
+
+-- The history is legal from what was told at the start to what the container has now. After a record swap that failed,
+-- at the place that is kept, nothing is said of what is kept.
+pub record IsRepo (l : Look) (s : Start) (clock : ℕ) (es : List Entry) (k : Kept) (deposed : Option ℕ) : Type 0 where
+  pub bounded : clock ≤ 2 ^ 64 - 1
+  pub clock_is : l.clock ≡ ticks clock es
+  pub tells : TellsSo l s.tells
+  pub steady : IsSteady s (log_of l clock es) l
+  pub live : deposed ≡ None → ((world_of s (log_of l clock es)).deposed ≡ false) × IsKeptOf (world_of s (log_of l clock es)) k
+  pub fallen : (place : ℕ) → deposed ≡ Some place → (world_of s (log_of l clock es)).deposed ≡ true
+
+-- a start from which there can be as many steps as anyone makes
+pub record IsRoomy (s : Start) : Type 0 where
+  pub ops : s.world.next_op ≤ 2 ^ 61
+  pub tickets : s.world.next_ticket ≤ 2 ^ 61

@@ -1,0 +1,101 @@
+//! A container beside the history of its steps, and what is kept of the world that they lead to.
+ghost use Rattle.std.specs.Prelude.{◌≡◌, ℕ, [], List, Option, None};
+ghost use Rattle.esr_repo.specs.Laws.{Laws};
+ghost use Rattle.esr_repo.specs.Log.{log_of};
+ghost use Rattle.esr_repo.specs.Repo.{Kept, IsRepo};
+
+use crate::Told;
+use esr_depot::Depot;
+use esr_desk::{Entry, History};
+use esr_names::Id;
+use esr_progress::Progress;
+use esr_record::ClusterRecord;
+use esr_root::RootData;
+use std::alloc::Global;
+use std::marker::{Model, PhantomData};
+
+/// A container with the history of the steps that were made on it.
+pub struct Repo<D: Depot, K: Told> {
+    pub(crate) depot: D,
+    pub(crate) history: Vec<Entry>,
+    /// The cluster record, the safe root and the list of ops, and the next id.
+    pub(crate) cluster: ClusterRecord,
+    pub(crate) root: RootData,
+    pub(crate) progress: Progress,
+    pub(crate) next: Id,
+    /// The place in the history of the record swap that failed.
+    pub(crate) deposed: Option<u64>,
+    of: PhantomData<K>,
+}
+
+impl<D: Depot, K: Told> Model for Repo<D, K> {
+    ghost use Rattle.std.specs.Prelude.{List};
+    ghost use Rattle.esr_core.specs.Entry.{Moment};
+    ghost use Rattle.std.specs.Coded.{codes};
+    ghost use Rattle.esr_depot.specs.Image.{blobs_code};
+
+    ghost Value = { List Moment };
+
+    ghost coded = { Prim.hlevel (codes, blobs_code) };
+
+    ghost use Rattle.esr_repo.specs.Log.{log_of};
+    ghost use Rattle.esr_repo.specs.Repo.{IsRepo};
+
+    ghost view = { λ r. log_of (D.look r.depot) K.clock r.history.items };
+
+    ghost invariant = { λ r. IsRepo (D.look r.depot) K.start K.clock r.history.items
+        (record { cluster = r.cluster; root = r.root; plan = r.progress; next = r.next.number }) r.deposed };
+}
+
+impl<D: Depot, K: Told> Repo<D, K> {
+    /// A container to which nothing was done yet.
+    pub fn new(
+        alloc: Global,
+        depot: D,
+        cluster: ClusterRecord,
+        root: RootData,
+        next: Id,
+        progress: Progress,
+    ) -> Repo<D, K>
+        requires { IsRepo (D.look depot) K.start K.clock []
+            (record { cluster = cluster; root = root; plan = progress; next = next.number }) None }
+        ensures { result ≡ [] }
+    {
+        Repo {
+            depot,
+            history: Vec::new(alloc),
+            cluster,
+            root,
+            progress,
+            next,
+            deposed: None,
+            of: PhantomData,
+        }
+    }
+
+    /// The container and the history of its steps.
+    pub fn into_parts(self) -> (D, History)
+        ensures repo { (k : Kept) × (deposed : Option ℕ) × IsRepo (D.look result.0) K.start K.clock result.1 k deposed }
+        ensures log { log_of (D.look result.0) K.clock result.1 ≡ self }
+    {
+        let Repo {
+            depot,
+            history,
+            cluster: _,
+            root: _,
+            progress: _,
+            next: _,
+            deposed: _,
+            of: _,
+        } = self;
+        (depot, History::from_vec(history))
+    }
+
+    /// The laws of steps.
+    pub(crate) fn laws()
+        ensures { Laws }
+    {
+        esr_core::each_step_is_tracked();
+        esr_core::the_record_stays();
+    }
+}

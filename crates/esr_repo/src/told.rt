@@ -1,0 +1,21 @@
+//! What was told of the container when it was opened.
+ghost use Rattle.std.specs.Prelude.{ℕ, List, [], false};
+ghost use Rattle.std.specs.FinMap as fin;
+ghost use Rattle.esr_core.specs.World.{opened, no_record, no_root};
+ghost use Rattle.esr_desk.specs.Start.{Start};
+
+use std::marker::Brand;
+
+/// What was told of the container when it was opened. Each run picks it.
+pub trait Told {
+    ghost start: { Start };
+
+    /// The clock of the container at the start.
+    ghost clock: { ℕ };
+}
+
+impl Told for Brand {
+    ghost start = { record { known = λ _ _ _. false; told = λ _ _ _. []; part_size = 1; tells = false; world = opened fin.empty no_record no_root } };
+
+    ghost clock = { 0 };
+}
