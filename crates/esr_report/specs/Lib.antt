@@ -1,0 +1,4 @@
+pub mod Replies
+pub mod Lines
+pub mod Status
+pub mod Code

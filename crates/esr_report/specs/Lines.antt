@@ -1,0 +1,83 @@
+-- The text of a report.
+use Rattle.std.specs.Prelude.{ℕ, ◌==◌, if◌then◌else◌, Bool, true, List, [], ◌∷◌, ◌++◌, length, codes, decimal, Option, Some, None}
+use Rattle.std.specs.Ordering.{nat_cmp}
+use Rattle.std.specs.Cmp.Lexicographic.{slice_cmp}
+use Rattle.esr_names.specs.IdText.{id_text}
+use Rattle.esr_model.specs.Names.{BlobName}
+use Rattle.esr_model.specs.Values.{RootSnap}
+use Rattle.esr_model.specs.Places.{by_order, sorted_by}
+use Rattle.esr_core.specs.Entry.{Why, OfDepot, OfSource, OfChange, OfDamage, Refusal, CleanupRunning, NameInUse, TooMany, DeposedAt, AbortedBy, StaleTerm, GenerationsSpent, TermsSpent, IdsSpent, NameTaken, DepotFault}
+use Rattle.esr_formats.specs.Names.{name_kind}
+use Rattle.esr_script.specs.declared.item.Item.{Item}
+use Rattle.esr_script.specs.declared.item.Item.TheVariants as items
+use Rattle.esr_script.specs.declared.item.ScriptLine.{ScriptLine}
+use Rattle.esr_report.specs.Replies.{Reply, Made, Waited, Listed, Refused, Failed, Deposed}
+
+abbrev pub Text : Type 0
+Text = List ℕ
+
+-- the word of a failure, with what it carries
+abbrev pub why_text : Why → Text
+why_text OfDepot = codes "depot"
+why_text OfSource = codes "source"
+why_text (OfChange len digest len2 digest2) = codes "changed"
+why_text (OfDamage name) = codes "damaged " ++ name_kind.text name
+
+-- a rule that refused a command, or a number that is spent
+abbrev pub refusal_text : Refusal → Text
+refusal_text (NameInUse uuid) = codes " refused name-in-use " ++ id_text uuid
+refusal_text (TooMany limit) = codes " refused too-many " ++ decimal limit
+refusal_text (CleanupRunning op) = codes " refused cleanup-running " ++ decimal op
+refusal_text (AbortedBy op) = codes " aborted " ++ decimal op
+refusal_text (DeposedAt place) = codes " deposed"
+refusal_text (StaleTerm own now) = codes " deposed"
+refusal_text (GenerationsSpent pending) = codes " failed spent"
+refusal_text (TermsSpent term) = codes " failed spent"
+refusal_text (IdsSpent next) = codes " failed spent"
+refusal_text (NameTaken name) = codes " failed name-taken " ++ name_kind.text name
+refusal_text DepotFault = codes " failed depot"
+
+-- 1 is success and 3 partial
+abbrev pub state_text : ℕ → Text
+state_text state = if state == 1 then codes "success" else (if state == 3 then codes "partial" else codes "state " ++ decimal state)
+
+abbrev pub snap_text : RootSnap → Text
+snap_text s = codes "- " ++ s.name ++ codes " " ++ id_text s.uuid ++ codes " " ++ state_text s.state ++ codes "\n"
+
+abbrev pub snap_texts : List RootSnap → Text
+snap_texts [] = []
+snap_texts (s ∷ ss) = snap_text s ++ snap_texts ss
+
+-- by the byte order of names
+abbrev pub name_first : RootSnap → RootSnap → Bool
+name_first a b = by_order (slice_cmp nat_cmp a.name b.name) true
+
+-- what follows a command's beginning, with the newline and the lines of a listing
+abbrev pub reply_text : Reply → Text
+reply_text (Made uuid) = codes " ok " ++ id_text uuid ++ codes "\n"
+reply_text Waited = codes "\n"
+reply_text (Listed snapshots) = codes " " ++ decimal (length snapshots) ++ codes "\n" ++ snap_texts (sorted_by name_first snapshots)
+reply_text (Refused refusal) = refusal_text refusal ++ codes "\n"
+reply_text (Failed why) = codes " failed " ++ why_text why ++ codes "\n"
+reply_text Deposed = codes " deposed\n"
+
+-- a command's beginning, its number aside
+abbrev pub item_text : Item → Text
+item_text (items.Snapshot name indices) = codes " snapshot " ++ name
+item_text (items.Clone source name indices) = codes " clone " ++ name
+item_text (items.Delete names) = codes " delete"
+item_text (items.Restore name place) = codes " restore " ++ name
+item_text items.Cleanup = codes " cleanup"
+item_text items.Failover = codes " failover"
+item_text items.Wait = codes " wait"
+item_text items.List = codes " list"
+item_text items.Check = codes " check"
+item_text items.Verify = codes " verify"
+
+unfoldable pub line_text : ScriptLine → Reply → Text
+line_text line reply = decimal line.number ++ item_text line.item ++ reply_text reply
+
+-- the lines of the commands that were answered
+abbrev pub lines_text : List ScriptLine → List Reply → Text
+lines_text (line ∷ lines) (reply ∷ replies) = line_text line reply ++ lines_text lines replies
+lines_text lines replies = []

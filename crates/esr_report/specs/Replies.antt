@@ -1,0 +1,159 @@
+-- What each line of a script was answered, by the history alone.
+use Rattle.std.specs.Prelude.{ℕ, Bool, true, false, ◌==◌, ◌&&◌, ◌||◌, if◌then◌else◌, List, [], ◌∷◌, Option, Some, None, option_map}
+use Rattle.esr_model.specs.Values.{RootSnap}
+use Rattle.esr_core.specs.After.{or_else, swaps_record}
+use Rattle.esr_core.specs.Entry as entry
+use Rattle.esr_core.specs.Entry.{Given, GivenShard, GivenFinalize, GivenDrop, Why, OfDepot, Step, AskStep, SettleStep, FailedStep, LookStep, Refusal, DeposedAt, DepotFault, Accepted, Gave, WasSettled, HasEnded, Looked, Entry}
+use Rattle.esr_script.specs.declared.item.Item.{Item}
+use Rattle.esr_script.specs.declared.item.Item.TheVariants as items
+use Rattle.esr_script.specs.declared.item.ScriptLine.{ScriptLine}
+
+pub data Reply : Type 0 where
+  -- the snapshot of this uuid is in the root
+  Made : (uuid : ℕ) → Reply
+  Waited : Reply
+  Listed : (snapshots : List RootSnap) → Reply
+  -- a rule refused the command
+  Refused : (refusal : Refusal) → Reply
+  Failed : (why : Why) → Reply
+  -- a record swap had failed
+  Deposed : Reply
+
+-- ---- tickets
+
+-- the op that a take gave to this ticket
+abbrev pub op_by : entry.Reply → ℕ → Option ℕ
+op_by (Gave ticket op unit) k = if ticket == k then Some op else None
+op_by reply k = None
+
+-- the op of a ticket
+abbrev pub op_of_ticket : List Entry → ℕ → Option ℕ
+op_of_ticket [] k = None
+op_of_ticket (e ∷ es) k = or_else (op_by e.reply k) (op_of_ticket es k)
+
+-- the uuid of the snapshot that a finalization is of
+abbrev pub uuid_of_unit : Given → Option ℕ
+uuid_of_unit (GivenFinalize info results) = Some info.uuid
+uuid_of_unit (GivenShard index number base) = None
+uuid_of_unit GivenDrop = None
+
+abbrev pub uuid_by : entry.Reply → ℕ → Option ℕ
+uuid_by (Gave ticket op unit) k = if ticket == k then uuid_of_unit unit else None
+uuid_by reply k = None
+
+abbrev pub uuid_of_ticket : List Entry → ℕ → Option ℕ
+uuid_of_ticket [] k = None
+uuid_of_ticket (e ∷ es) k = or_else (uuid_by e.reply k) (uuid_of_ticket es k)
+
+-- ---- the end of an op
+
+abbrev pub is_op : ℕ → Option ℕ → Bool
+is_op op None = false
+is_op op (Some o) = o == op
+
+-- what a step of a ticket answers the command of its op: the root is settled, or the unit failed
+abbrev pub ends_by : List Entry → ℕ → Step → entry.Reply → Option Reply
+ends_by all who SettleStep WasSettled = option_map Made (uuid_of_ticket all who)
+ends_by all who (FailedStep why) HasEnded = Some (Failed why)
+ends_by all who step reply = None
+
+abbrev pub ends_at : List Entry → ℕ → Entry → Option Reply
+ends_at all op e = if is_op op (op_of_ticket all e.who) then ends_by all e.who e.step e.reply else None
+
+-- the first of these
+abbrev pub end_of_op : List Entry → ℕ → List Entry → Option Reply
+end_of_op all op [] = None
+end_of_op all op (e ∷ es) = or_else (ends_at all op e) (end_of_op all op es)
+
+-- ---- a record swap that failed
+
+abbrev pub fails_swap : Step → entry.Reply → Bool
+fails_swap step (entry.Refused DepotFault) = swaps_record step
+fails_swap step reply = false
+
+abbrev pub has_fallen : List Entry → Bool
+has_fallen [] = false
+has_fallen (e ∷ es) = fails_swap e.step e.reply || has_fallen es
+
+-- Deposed where a record swap failed
+abbrev pub deposed_by : Bool → Option Reply
+deposed_by true = Some Deposed
+deposed_by false = None
+
+-- ---- lines
+
+-- an accepted command is answered by the end of its op, else by a record swap that failed
+abbrev pub ask_reply : List Entry → entry.Reply → Option Reply
+ask_reply all (Accepted op) = or_else (end_of_op all op all) (deposed_by (has_fallen all))
+ask_reply all (entry.Refused DepotFault) = Some (Failed OfDepot)
+ask_reply all (entry.Refused (DeposedAt place)) = Some Deposed
+ask_reply all (entry.Refused refusal) = Some (Refused refusal)
+ask_reply all reply = None
+
+abbrev pub look_reply : entry.Reply → Option Reply
+look_reply (Looked snapshots safe) = Some (Listed snapshots)
+look_reply (entry.Refused (DeposedAt place)) = Some Deposed
+look_reply reply = None
+
+abbrev pub answer_at : List Entry → Step → entry.Reply → Option Reply
+answer_at all (AskStep command) reply = ask_reply all reply
+answer_at all LookStep reply = look_reply reply
+answer_at all step reply = None
+
+abbrev pub is_line_step : Step → Bool
+is_line_step (AskStep command) = true
+is_line_step LookStep = true
+is_line_step step = false
+
+-- an ask or a look of who 0 belongs to a line
+abbrev pub is_of_line : Entry → Bool
+is_of_line e = (e.who == 0) && is_line_step e.step
+
+-- the entries from the next one on that belongs to a line
+abbrev pub from_line : List Entry → List Entry
+from_line [] = []
+from_line (e ∷ es) = if is_of_line e then e ∷ es else from_line es
+
+-- a record swap failed before that one
+abbrev pub falls_before : List Entry → Bool
+falls_before [] = false
+falls_before (e ∷ es) = if is_of_line e then false else (fails_swap e.step e.reply || falls_before es)
+
+-- what the line of the first of these entries was answered, and the entries after it
+abbrev pub line_reply : List Entry → List Entry → Option (Reply × List Entry)
+line_reply all [] = None
+line_reply all (e ∷ es) = option_map (λ (r : Reply). (r, es)) (answer_at all e.step e.reply)
+
+-- a record swap failed in the first of them
+abbrev pub falls_first : List Entry → Bool
+falls_first [] = false
+falls_first (e ∷ es) = fails_swap e.step e.reply
+
+-- a wait is answered when its units have ended, or by a record swap that had failed by then
+abbrev pub wait_reply : Bool → Reply
+wait_reply true = Deposed
+wait_reply false = Waited
+
+abbrev pub is_wait : Item → Bool
+is_wait items.Wait = true
+is_wait item = false
+
+-- the reply of a line and those after it; a line without an answer ends the list
+abbrev pub and_more : Option (Reply × List Entry) → (List Entry → List Reply) → List Reply
+and_more None more = []
+and_more (Some p) more = p.0 ∷ more p.1
+
+-- `down`: a record swap failed before these entries
+abbrev pub replies_from : List Entry → List ScriptLine → Bool → List Entry → List Reply
+replies_from all [] down rest = []
+replies_from all (line ∷ lines) down rest =
+    if is_wait line.item then wait_reply (down || falls_before rest) ∷ replies_from all lines down rest
+    else and_more (line_reply all (from_line rest)) (replies_from all lines (down || (falls_before rest || falls_first (from_line rest))))
+
+-- the replies of the lines, in order, as far as there is an answer
+unfoldable pub replies : List ScriptLine → List Entry → List Reply
+replies script history = replies_from history script false history
+
+-- what the wait at the script's end is answered
+abbrev pub end_reply : List Entry → Reply
+end_reply history = wait_reply (has_fallen history)

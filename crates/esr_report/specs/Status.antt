@@ -1,0 +1,81 @@
+-- The exit status of a run's replies, and the report's last line.
+use Rattle.std.specs.Prelude.{ℕ, Bool, true, false, ◌||◌, nat_lt, if◌then◌else◌, List, [], ◌∷◌, ◌++◌, length, codes, Option, Some, None}
+use Rattle.std.specs.List.{list_any}
+use Rattle.esr_model.specs.Names.{BlobName}
+use Rattle.esr_core.specs.After.{or_else}
+use Rattle.esr_core.specs.Entry.{Why, OfDamage, Refusal, GenerationsSpent, TermsSpent, IdsSpent, Entry}
+use Rattle.esr_formats.specs.Names.{name_kind}
+use Rattle.esr_script.specs.declared.item.ScriptLine.{ScriptLine}
+use Rattle.esr_report.specs.Replies.{Reply, Made, Waited, Listed, Refused, Failed, Deposed, replies, end_reply}
+use Rattle.esr_report.specs.Lines.{Text, lines_text}
+
+abbrev pub is_deposed : Reply → Bool
+is_deposed Deposed = true
+is_deposed reply = false
+
+abbrev pub damaged_name : Reply → Option BlobName
+damaged_name (Failed (OfDamage name)) = Some name
+damaged_name reply = None
+
+-- the first blob that was damaged, in the order of lines
+abbrev pub first_damaged : List Reply → Option BlobName
+first_damaged [] = None
+first_damaged (r ∷ rs) = or_else (damaged_name r) (first_damaged rs)
+
+abbrev pub is_spent : Reply → Bool
+is_spent (Refused (GenerationsSpent pending)) = true
+is_spent (Refused (TermsSpent term)) = true
+is_spent (Refused (IdsSpent next)) = true
+is_spent reply = false
+
+abbrev pub is_ok : Reply → Bool
+is_ok (Made uuid) = true
+is_ok Waited = true
+is_ok (Listed snapshots) = true
+is_ok (Refused refusal) = false
+is_ok (Failed why) = false
+is_ok Deposed = false
+
+abbrev pub are_ok : List Reply → Bool
+are_ok [] = true
+are_ok (r ∷ rs) = if is_ok r then are_ok rs else false
+
+-- Why a run doesn't end with 0. A record swap failed; a blob is damaged; numbers are spent, or a desk's turns are, so that
+-- not all lines were answered; a command was refused or failed.
+pub data Ending : Type 0 where
+  AllOk : Ending
+  SomeRefused : Ending
+  SwapFailed : Ending
+  BlobDamaged : (name : BlobName) → Ending
+  NumbersSpent : Ending
+
+abbrev pub ending_by : Option BlobName → Bool → Bool → Ending
+ending_by (Some name) spent ok = BlobDamaged name
+ending_by None true ok = NumbersSpent
+ending_by None false true = AllOk
+ending_by None false false = SomeRefused
+
+-- the first that holds
+unfoldable pub ending : List ScriptLine → List Entry → Ending
+ending script history =
+    let rs : List Reply = replies script history in
+    if is_deposed (end_reply history) || list_any is_deposed rs then SwapFailed
+    else ending_by (first_damaged rs) (list_any is_spent rs || nat_lt (length rs) (length script)) (are_ok rs)
+
+abbrev pub status_of : Ending → ℕ
+status_of AllOk = 0
+status_of SomeRefused = 1
+status_of SwapFailed = 3
+status_of (BlobDamaged name) = 4
+status_of NumbersSpent = 7
+
+abbrev pub last_line : Ending → Text
+last_line AllOk = []
+last_line SomeRefused = []
+last_line SwapFailed = codes "deposed\n"
+last_line (BlobDamaged name) = codes "damaged " ++ name_kind.text name ++ codes "\n"
+last_line NumbersSpent = codes "numbers spent\n"
+
+-- the whole report of a run that opened the container
+unfoldable pub report_text : List ScriptLine → List Entry → Text
+report_text script history = lines_text script (replies script history) ++ last_line (ending script history)

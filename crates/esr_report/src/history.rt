@@ -1,0 +1,184 @@
+//! The replies of a script's lines.
+ghost use Rattle.std.specs.Prelude.{◌≡◌, map, IfOk, option_map};
+ghost use Rattle.esr_report.specs.Replies.{fails_swap, has_fallen, is_of_line, from_line, falls_before, deposed_by, end_of_op, ask_reply, look_reply, answer_at, is_wait, wait_reply, replies};
+ghost use Rattle.esr_core.specs.After.{or_else, swaps_record};
+ghost use Rattle.esr_desk.specs.Entries.{step_of, answer_of};
+ghost use Rattle.esr_report.specs.Code.{reply_of};
+
+use crate::tickets::end_of_op;
+use crate::{Replies, Reply};
+use esr_desk::{Answer, Entry, EntryRefusal, History, Step, Why};
+use esr_script::{Item, Script};
+use std::alloc::{AllocError, Global};
+
+fn swaps_record(step: &Step) -> bool
+    ensures { result ≡ swaps_record (step_of step.now) }
+{
+    match step {
+        Step::Ask { command: _ } => true,
+        Step::Raise => true,
+        Step::Settle => true,
+        Step::Dropped => true,
+        Step::Elect => true,
+        _ => false,
+    }
+}
+
+/// A record swap failed in it.
+fn fails_swap(entry: &Entry) -> bool
+    ensures { result ≡ fails_swap entry.now.step entry.now.reply }
+{
+    match &entry.answer {
+        Answer::Refused {
+            refusal: EntryRefusal::DepotFault,
+        } => swaps_record(&entry.step),
+        _ => false,
+    }
+}
+
+/// A record swap failed in one of them.
+pub fn has_fallen(entries: &[Entry]) -> bool
+    ensures { result ≡ has_fallen entries.now }
+{
+    for entry in entries {
+        if fails_swap(entry) {
+            return true;
+        }
+    }
+    false
+}
+
+/// It belongs to a line: an ask or a look of who 0.
+fn is_of_line(entry: &Entry) -> bool
+    ensures { result ≡ is_of_line entry.now }
+{
+    let is_line = match &entry.step {
+        Step::Ask { command: _ } => true,
+        Step::Look => true,
+        _ => false,
+    };
+    entry.who == 0 && is_line
+}
+
+/// The entries from the first one on that belongs to a line.
+fn from_line(entries: &[Entry]) -> &[Entry]
+    ensures { result.now ≡ from_line entries.now }
+{
+    let mut rest = entries;
+    while let [first, more @ ..] = rest {
+        if is_of_line(first) {
+            return rest;
+        }
+        rest = more;
+    }
+    rest
+}
+
+/// A record swap failed before that one.
+fn falls_before(entries: &[Entry]) -> bool
+    ensures { result ≡ falls_before entries.now }
+{
+    for entry in entries {
+        if is_of_line(entry) {
+            return false;
+        }
+        if fails_swap(entry) {
+            return true;
+        }
+    }
+    false
+}
+
+/// What an accepted command is answered: by the end of its op, else by a record swap that failed.
+fn op_reply(entries: &[Entry], op: u64) -> Option<Reply>
+    ensures { option_map reply_of result ≡ or_else (end_of_op entries.now op entries.now) (deposed_by (has_fallen entries.now)) }
+{
+    match end_of_op(entries, op) {
+        Some(reply) => Some(reply),
+        None => has_fallen(entries).then_some(Reply::Deposed),
+    }
+}
+
+/// What the ask of a command is answered.
+fn ask_reply(entries: &[Entry], answer: &Answer) -> Option<Reply>
+    ensures { option_map reply_of result ≡ ask_reply entries.now (answer_of answer.now) }
+{
+    match answer {
+        Answer::Accepted { op } => op_reply(entries, *op),
+        Answer::Refused {
+            refusal: EntryRefusal::DepotFault,
+        } => Some(Reply::Failed { why: Why::Depot }),
+        Answer::Refused {
+            refusal: EntryRefusal::Deposed { entry: _ },
+        } => Some(Reply::Deposed),
+        Answer::Refused { refusal } => Some(Reply::Refused { refusal: *refusal }),
+        _ => None,
+    }
+}
+
+/// What a look is answered.
+fn look_reply(alloc: Global, answer: &Answer) -> Result<Option<Reply>, AllocError>
+    ensures { IfOk result (λ r. option_map reply_of r ≡ look_reply (answer_of answer.now)) }
+{
+    match answer {
+        Answer::Looked { snapshots, safe: _ } => Ok(Some(Reply::Listed {
+            snapshots: snapshots.try_clone(alloc)?,
+        })),
+        Answer::Refused {
+            refusal: EntryRefusal::Deposed { entry: _ },
+        } => Ok(Some(Reply::Deposed)),
+        _ => Ok(None),
+    }
+}
+
+/// What the line of an entry is answered.
+fn answer_at(alloc: Global, entries: &[Entry], entry: &Entry) -> Result<Option<Reply>, AllocError>
+    ensures { IfOk result (λ r. option_map reply_of r ≡ answer_at entries.now entry.now.step entry.now.reply) }
+{
+    match &entry.step {
+        Step::Ask { command: _ } => Ok(ask_reply(entries, &entry.answer)),
+        Step::Look => look_reply(alloc, &entry.answer),
+        _ => Ok(None),
+    }
+}
+
+fn is_wait(item: &Item) -> bool
+    ensures { result ≡ is_wait item.now }
+{
+    matches!(item, Item::Wait)
+}
+
+/// What a wait is answered, after which a record swap had failed or not.
+pub fn wait_reply(down: bool) -> Reply
+    ensures { reply_of result ≡ wait_reply down }
+{
+    if down { Reply::Deposed } else { Reply::Waited }
+}
+
+/// The replies of the lines, in order, as far as there is an answer.
+#[tactic(auto, unfolding(crate::specs::Replies::replies))]
+pub fn replies(alloc: Global, script: &Script, history: &History) -> Result<Replies, AllocError>
+    ensures { IfOk result (λ rs. map reply_of rs ≡ replies script.now history.now) }
+{
+    let entries = history.as_slice();
+    let mut rest = entries;
+    let mut down = false;
+    let mut replies = Replies::new(alloc);
+    for line in script.as_slice() {
+        let falls = down || falls_before(rest);
+        if is_wait(&line.item) {
+            replies.push(wait_reply(falls))?;
+            continue;
+        }
+        let [entry, more @ ..] = from_line(rest) else {
+            return Ok(replies);
+        };
+        let Some(reply) = answer_at(alloc, entries, entry)? else {
+            return Ok(replies);
+        };
+        replies.push(reply)?;
+        down = falls || fails_swap(entry);
+        rest = more;
+    }
+    Ok(replies)
+}

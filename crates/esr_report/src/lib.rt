@@ -1,0 +1,14 @@
+//! The report of a run: what each line of its script was answered, by the history alone.
+#![tactic(auto)]
+
+mod ended;
+mod history;
+mod reply;
+mod tickets;
+
+pub use ended::{Ending, end_of_run};
+pub use history::replies;
+pub use reply::{Replies, Reply};
+
+#[cfg(test)]
+mod tests;
