@@ -174,60 +174,6 @@ fn the_listed_snapshots_survive_with_their_files(rt: HostRuntime) -> Result<(), 
     Ok(())
 }
 
-/// A snapshot of files, each by its id's counter and its physical name.
-fn snap_with(
-    alloc: Global,
-    files: &[(u64, &str)],
-    uuid: Id,
-) -> Result<Option<ShardSnap>, PhysicalRefusal> {
-    let mut entries = Seq::new(alloc);
-    for (counter, physical) in files {
-        let entry = entry(alloc, Id::new(1, *counter), physical, 3, 16_777_216)?;
-        if entries.push(entry).is_err() {
-            return Err(PhysicalRefusal::Memory);
-        }
-    }
-    Ok(ShardSnap::new(entries, uuid))
-}
-
-/// Whether these are the counters of the files' ids.
-fn are_counters(files: &[FileEntry], counters: &[u64]) -> bool {
-    files.len() == counters.len()
-        && files
-            .iter()
-            .zip(counters)
-            .all(|(file, counter)| file.name == Id::new(1, *counter))
-}
-
-#[test]
-fn new_files_stand_by_id_among_the_others(rt: HostRuntime) -> Result<(), Fail> {
-    let alloc = rt.alloc();
-    let (first, second) = (Id::new(1, 1), Id::new(1, 4));
-    let old = snap_with(alloc, &[(5, "_1")], first)?.expect(&rt, "one file");
-    let new = snap_with(alloc, &[(9, "_0"), (5, "_1"), (2, "_2")], second)?.expect(
-        &rt,
-        "three files",
-    );
-    let index = ShardIndex::new(alloc)
-        .with_snap(alloc, &old)?
-        .with_snap(alloc, &new)?;
-    assert!(rt; are_counters(index.files(), &[2, 5, 9]));
-    let list = index.list(second).expect(&rt, "its list");
-    assert_eq!(rt;
-        list.files.as_slice(),
-        [Id::new(1, 9), Id::new(1, 5), Id::new(1, 2)].as_slice()
-    );
-    let again = index.with_snap(alloc, &new)?;
-    assert_eq!(rt; again.snapshots().len(), 2);
-    let mut listed = Seq::new(alloc);
-    listed.push(Id::new(1, 7))?;
-    listed.push(first)?;
-    let left = index.survivors(alloc, &listed)?;
-    assert!(rt; are_counters(left.files(), &[5]));
-    assert_eq!(rt; left.snapshots().len(), 1);
-    Ok(())
-}
-
 #[test]
 fn a_file_is_one_blob_up_to_the_part_size(rt: HostRuntime) -> Result<(), Fail> {
     let alloc = rt.alloc();
@@ -332,10 +278,6 @@ fn the_first_refusal_of_the_other_members(rt: HostRuntime) -> Result<(), Fail> {
             Reason::Missing { key: Key::PartSize },
         ),
         (
-            r#""part_size":"4","physical_name":"""#,
-            Reason::WrongKind { key: Key::PartSize },
-        ),
-        (
             r#""part_size":0,"physical_name":"""#,
             out_of_range(Key::PartSize, 1),
         ),
@@ -350,22 +292,12 @@ fn the_first_refusal_of_the_other_members(rt: HostRuntime) -> Result<(), Fail> {
             },
         ),
         (
-            r#""part_size":4,"physical_name":null,"sha256":"""#,
-            Reason::WrongKind {
-                key: Key::PhysicalName,
-            },
-        ),
-        (
             r#""part_size":4,"physical_name":"a/b","sha256":"""#,
             Reason::BadName,
         ),
         (
             r#""part_size":4,"physical_name":"_0""#,
             Reason::Missing { key: Key::Sha256 },
-        ),
-        (
-            r#""part_size":4,"physical_name":"_0","sha256":7"#,
-            Reason::WrongKind { key: Key::Sha256 },
         ),
         (
             r#""part_size":4,"physical_name":"_0","sha256":"BA7816BF8F01CFEA414140DE5DAE2223B00361A396177A9CB410FF61F20015AD""#,
@@ -495,19 +427,7 @@ fn the_first_refusal_of_the_lists_of_an_index(rt: HostRuntime) -> Result<(), Fai
             Reason::WrongKind { key: Key::Files },
         ),
         (r#"[{"files":["__"],"uuid":1}]"#, Reason::BadId),
-        (
-            r#"[{"files":["AAAAAAAAAAEAAAAAAAAAAw"],"uuid":1}]"#,
-            Reason::BadId,
-        ),
         (r#"[{"files":[]}]"#, Reason::Missing { key: Key::Uuid }),
-        (
-            r#"[{"files":[],"uuid":1}]"#,
-            Reason::WrongKind { key: Key::Uuid },
-        ),
-        (
-            r#"[{"files":["__AAAAAAAAAAEAAAAAAAAAAw"],"uuid":"AAAAAAAAAAEAAAAAAAAAAR"}]"#,
-            Reason::BadId,
-        ),
         (twice, Reason::Duplicate),
         (
             r#"[{"files":["__AAAAAAAAAAEAAAAAAAAAAw","__AAAAAAAAAAEAAAAAAAAAAw"],"uuid":"AAAAAAAAAAEAAAAAAAAAAA"}]"#,
@@ -522,61 +442,6 @@ fn the_first_refusal_of_the_lists_of_an_index(rt: HostRuntime) -> Result<(), Fai
         let text = format!(in rt.alloc(); "{{\"files\":[],\"snapshots\":{snapshots}}}")?;
         assert_eq!(rt; index_reason(rt.alloc(), text.as_str()), Some(why));
     }
-    Ok(())
-}
-
-/// The index of two files, `g` and `w`, with lists by the last characters of their files' ids.
-fn lists_text(alloc: Global, lists: &[(&str, &[&str])]) -> Result<String, AllocError> {
-    let first = entry_text(alloc, "g", "_0", ABC)?;
-    let second = entry_text(alloc, "w", "_1", ABC)?;
-    let mut text = format!(in alloc; "{{\"files\":[{first},{second}],\"snapshots\":[")?;
-    for (place, (uuid, files)) in lists.iter().enumerate() {
-        if place > 0 {
-            text.push_str(",")?;
-        }
-        text.push_str("{\"files\":[")?;
-        for (place, file) in files.iter().enumerate() {
-            if place > 0 {
-                text.push_str(",")?;
-            }
-            text.push_str("\"__AAAAAAAAAAEAAAAAAAAAA")?;
-            text.push_str(file)?;
-            text.push_str("\"")?;
-        }
-        text.push_str("],\"uuid\":\"AAAAAAAAAAEAAAAAAAAAA")?;
-        text.push_str(uuid)?;
-        text.push_str("\"}")?;
-    }
-    text.push_str("]}")?;
-    Ok(text)
-}
-
-#[test]
-fn files_stand_once_in_a_list_and_are_there(rt: HostRuntime) -> Result<(), Fail> {
-    let alloc = rt.alloc();
-    let twice = Some(Reason::Duplicate);
-    let absent = Some(Reason::Unlisted);
-    let cases: [(&[(&str, &[&str])], Option<Reason>); 8] = [
-        (&[("A", &["w", "g"]), ("Q", &["g", "w"])], None),
-        (&[("A", &["w", "g", "w"])], twice),
-        (&[("A", &["A", "g", "A"])], twice),
-        (&[("A", &["w", "A", "w"])], twice),
-        (&[("A", &["w", "A", "g"])], absent),
-        (&[("A", &["w"]), ("Q", &["w", "Q"])], absent),
-        (&[("A", &["w"]), ("A", &["Q"])], twice),
-        (&[("A", &["A"]), ("A", &["w", "w"])], absent),
-    ];
-    for (lists, why) in cases {
-        let text = lists_text(alloc, lists)?;
-        assert_eq!(rt; index_reason(alloc, text.as_str()), why, "{text}");
-    }
-    let both = lists_text(alloc, &[("A", &["w", "g"]), ("Q", &["g"])])?;
-    let index = shard_index_read(alloc, both.as_bytes())?;
-    assert!(rt; is_text_of(alloc, &index, both.as_str())?);
-    let one = lists_text(alloc, &[("A", &["w"])])?;
-    let index = shard_index_read(alloc, one.as_bytes())?;
-    assert_eq!(rt; index.files().len(), 1);
-    assert!(rt; index.file(Id::new(1, 3)).is_some());
     Ok(())
 }
 
