@@ -1,9 +1,8 @@
 -- The text of a report.
-use Rattle.std.specs.Prelude.{ℕ, ◌==◌, if◌then◌else◌, Bool, true, List, [], ◌∷◌, ◌++◌, length, codes, decimal, Option, Some, None}
+use Rattle.std.specs.Prelude.{ℕ, ◌==◌, if◌then◌else◌, Bool, true, List, [], ◌∷◌, ◌++◌, length, codes, decimal}
 use Rattle.std.specs.Ordering.{nat_cmp}
 use Rattle.std.specs.Cmp.Lexicographic.{slice_cmp}
 use Rattle.esr_names.specs.IdText.{id_text}
-use Rattle.esr_model.specs.Names.{BlobName}
 use Rattle.esr_model.specs.Values.{RootSnap}
 use Rattle.esr_model.specs.Places.{by_order, sorted_by}
 use Rattle.esr_core.specs.Entry.{Why, OfDepot, OfSource, OfChange, OfDamage, Refusal, CleanupRunning, NameInUse, TooMany, DeposedAt, AbortedBy, StaleTerm, GenerationsSpent, TermsSpent, IdsSpent, NameTaken, DepotFault}

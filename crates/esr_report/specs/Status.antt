@@ -3,7 +3,7 @@ use Rattle.std.specs.Prelude.{ℕ, Bool, true, false, ◌||◌, nat_lt, if◌the
 use Rattle.std.specs.List.{list_any}
 use Rattle.esr_model.specs.Names.{BlobName}
 use Rattle.esr_core.specs.After.{or_else}
-use Rattle.esr_core.specs.Entry.{Why, OfDamage, Refusal, GenerationsSpent, TermsSpent, IdsSpent, Entry}
+use Rattle.esr_core.specs.Entry.{OfDamage, GenerationsSpent, TermsSpent, IdsSpent, Entry}
 use Rattle.esr_formats.specs.Names.{name_kind}
 use Rattle.esr_script.specs.declared.item.ScriptLine.{ScriptLine}
 use Rattle.esr_report.specs.Replies.{Reply, Made, Waited, Listed, Refused, Failed, Deposed, replies, end_reply}

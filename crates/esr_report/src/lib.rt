@@ -3,11 +3,15 @@
 
 mod ended;
 mod history;
+mod lines;
 mod reply;
+mod sorted;
+mod text;
 mod tickets;
 
 pub use ended::{Ending, end_of_run};
 pub use history::replies;
+pub use lines::report;
 pub use reply::{Replies, Reply};
 
 #[cfg(test)]

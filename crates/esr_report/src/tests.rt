@@ -1,7 +1,7 @@
 //! What lines are answered by short histories.
 use super::*;
 use esr_desk::{Answer, Entry, EntryRefusal, History, Step};
-use esr_root::RootSnaps;
+use esr_root::{RootSnaps, root_read};
 use esr_script::script_read;
 use std::alloc::Global;
 use std::test::Fail;
@@ -40,5 +40,44 @@ fn lines_are_answered_by_the_history(rt: HostRuntime) -> Result<(), Fail> {
     let answers = replies(alloc, &script, &nothing)?;
     assert_eq!(rt; answers.len(), 0);
     assert_eq!(rt; end_of_run(&script, &nothing, &answers).status(), 7);
+    Ok(())
+}
+
+/// Snapshots of the states partial, another and success.
+const ROOT: &str =
+    "{\"indices\":{},\"snapshots\":[{\"name\":\"s2\",\"state\":3,\"uuid\":\"AAAAAAAAAAEAAAAAAAAAAg\"},{\"name\":\"s10\",\"state\":2,\"uuid\":\"AAAAAAAAAAEAAAAAAAAAAQ\"},{\"name\":\"s1\",\"state\":1,\"uuid\":\"AAAAAAAAAAEAAAAAAAAAAA\"}]}";
+
+#[test]
+fn a_report_lists_by_name(rt: HostRuntime) -> Result<(), Fail> {
+    let alloc = rt.alloc();
+    let script = script_read(alloc, b"list\nwait\n")?;
+    let snapshots = root_read(alloc, ROOT.as_bytes())?
+        .snapshots
+        .try_clone(alloc)?;
+    let history = look(alloc, Answer::Looked { snapshots, safe: 7 })?;
+    let answers = replies(alloc, &script, &history)?;
+    let text = report(alloc, &script, &history, &answers)?;
+    let expected = "1 list 3\n\
+        - s1 AAAAAAAAAAEAAAAAAAAAAA success\n\
+        - s10 AAAAAAAAAAEAAAAAAAAAAQ state 2\n\
+        - s2 AAAAAAAAAAEAAAAAAAAAAg partial\n\
+        2 wait\n";
+    assert_eq!(rt; text.as_slice(), expected.as_bytes());
+    Ok(())
+}
+
+#[test]
+fn a_report_tells_what_ended_it(rt: HostRuntime) -> Result<(), Fail> {
+    let alloc = rt.alloc();
+    let script = script_read(alloc, b"list\n")?;
+    let refusal = EntryRefusal::Deposed { entry: 0 };
+    let deposed = look(alloc, Answer::Refused { refusal })?;
+    let answers = replies(alloc, &script, &deposed)?;
+    let text = report(alloc, &script, &deposed, &answers)?;
+    assert_eq!(rt; text.as_slice(), "1 list deposed\ndeposed\n".as_bytes());
+    let nothing = History::new(alloc);
+    let answers = replies(alloc, &script, &nothing)?;
+    let text = report(alloc, &script, &nothing, &answers)?;
+    assert_eq!(rt; text.as_slice(), "numbers spent\n".as_bytes());
     Ok(())
 }

@@ -1,0 +1,189 @@
+//! The text of a report.
+ghost use Rattle.std.specs.Prelude.{◌≡◌, ◌++◌, map, codes, decimal, IfOk, OnOk};
+ghost use Rattle.esr_names.specs.IdText.{id_text as text_of_id};
+ghost use Rattle.esr_formats.specs.Names.{name_kind, name_of};
+ghost use Rattle.esr_formats.specs.Roots.{root_snap_of};
+ghost use Rattle.esr_desk.specs.Refusals.{refusal_of};
+ghost use Rattle.esr_desk.specs.Entries.{why_of};
+ghost use Rattle.esr_report.specs.Lines.{why_text, refusal_text, state_text, snap_text, snap_texts, reply_text, item_text, line_text, lines_text};
+ghost use Rattle.esr_report.specs.Status.{last_line};
+ghost use Rattle.esr_report.specs.Code.{reply_of, ending_of};
+
+use crate::{Ending, Reply};
+use esr_desk::{EntryRefusal, Why};
+use esr_formats::append_name;
+use esr_names::{BlobName, Id, id_text};
+use esr_root::RootSnap;
+use esr_script::Item;
+use esr_seq::Bytes;
+use itoa::Buffer;
+use std::alloc::AllocError;
+
+pub fn push(out: &mut Bytes, text: &[u8]) -> Result<(), AllocError>
+    ensures { OnOk result (out.new ≡ out.old ++ text.now) }
+{
+    out.extend_from_slice(text)
+}
+
+pub fn push_number(out: &mut Bytes, number: u64) -> Result<(), AllocError>
+    ensures { OnOk result (out.new ≡ out.old ++ decimal number) }
+{
+    let mut digits = Buffer::new();
+    out.extend_from_slice(digits.format(number).as_bytes())
+}
+
+pub fn push_id(out: &mut Bytes, id: Id) -> Result<(), AllocError>
+    ensures { OnOk result (out.new ≡ out.old ++ text_of_id id.number) }
+{
+    out.extend_from_slice(&id_text(id))
+}
+
+pub fn push_why(out: &mut Bytes, why: &Why) -> Result<(), AllocError>
+    ensures { OnOk result (out.new ≡ out.old ++ why_text (why_of why.now)) }
+{
+    match why {
+        Why::Depot => push(out, b"depot"),
+        Why::Source => push(out, b"source"),
+        Why::Changed {
+            first: _,
+            second: _,
+        } => push(out, b"changed"),
+        Why::Damaged { name } => {
+            push(out, b"damaged ")?;
+            append_name(out, name)
+        }
+    }
+}
+
+fn push_in_use(out: &mut Bytes, uuid: Id) -> Result<(), AllocError>
+    ensures { OnOk result (out.new ≡ out.old ++ (codes " refused name-in-use " ++ text_of_id uuid.number)) }
+{
+    push(out, b" refused name-in-use ")?;
+    push_id(out, uuid)
+}
+
+fn push_too_many(out: &mut Bytes, limit: u64) -> Result<(), AllocError>
+    ensures { OnOk result (out.new ≡ out.old ++ (codes " refused too-many " ++ decimal limit)) }
+{
+    push(out, b" refused too-many ")?;
+    push_number(out, limit)
+}
+
+fn push_cleanup(out: &mut Bytes, op: u64) -> Result<(), AllocError>
+    ensures { OnOk result (out.new ≡ out.old ++ (codes " refused cleanup-running " ++ decimal op)) }
+{
+    push(out, b" refused cleanup-running ")?;
+    push_number(out, op)
+}
+
+fn push_aborted(out: &mut Bytes, by: u64) -> Result<(), AllocError>
+    ensures { OnOk result (out.new ≡ out.old ++ (codes " aborted " ++ decimal by)) }
+{
+    push(out, b" aborted ")?;
+    push_number(out, by)
+}
+
+fn push_taken(out: &mut Bytes, name: &BlobName) -> Result<(), AllocError>
+    ensures { OnOk result (out.new ≡ out.old ++ (codes " failed name-taken " ++ name_kind.text (name_of name.now))) }
+{
+    push(out, b" failed name-taken ")?;
+    append_name(out, name)
+}
+
+pub fn push_refusal(out: &mut Bytes, refusal: &EntryRefusal) -> Result<(), AllocError>
+    ensures { OnOk result (out.new ≡ out.old ++ refusal_text (refusal_of refusal.now)) }
+{
+    match refusal {
+        EntryRefusal::CleanupRunning { op } => push_cleanup(out, *op),
+        EntryRefusal::NameInUse { uuid } => push_in_use(out, *uuid),
+        EntryRefusal::TooMany { limit } => push_too_many(out, *limit),
+        EntryRefusal::Deposed { entry: _ } => push(out, b" deposed"),
+        EntryRefusal::Aborted { by } => push_aborted(out, *by),
+        EntryRefusal::StaleTerm { own: _, now: _ } => push(out, b" deposed"),
+        EntryRefusal::GenerationsSpent { number: _ } => push(out, b" failed spent"),
+        EntryRefusal::TermsSpent { number: _ } => push(out, b" failed spent"),
+        EntryRefusal::IdsSpent { next: _ } => push(out, b" failed spent"),
+        EntryRefusal::NameTaken { name } => push_taken(out, name),
+        EntryRefusal::DepotFault => push(out, b" failed depot"),
+    }
+}
+
+fn push_state(out: &mut Bytes, state: u8) -> Result<(), AllocError>
+    ensures { OnOk result (out.new ≡ out.old ++ state_text state) }
+{
+    if state == 1 {
+        return push(out, b"success");
+    }
+    if state == 3 {
+        return push(out, b"partial");
+    }
+    push(out, b"state ")?;
+    push_number(out, u64::from(state))
+}
+
+pub fn push_snap(out: &mut Bytes, snap: &RootSnap) -> Result<(), AllocError>
+    ensures { OnOk result (out.new ≡ out.old ++ snap_text (root_snap_of snap.now)) }
+{
+    push(out, b"- ")?;
+    push(out, snap.name.as_str().as_bytes())?;
+    push(out, b" ")?;
+    push_id(out, snap.uuid)?;
+    push(out, b" ")?;
+    push_state(out, snap.state)?;
+    push(out, b"\n")
+}
+
+fn push_item(out: &mut Bytes, item: &Item) -> Result<(), AllocError>
+    ensures { OnOk result (out.new ≡ out.old ++ item_text item.now) }
+{
+    match item {
+        Item::Snapshot { name, indices: _ } => {
+            push(out, b" snapshot ")?;
+            push(out, name.as_str().as_bytes())
+        }
+        Item::Clone {
+            source: _,
+            name,
+            indices: _,
+        } => {
+            push(out, b" clone ")?;
+            push(out, name.as_str().as_bytes())
+        }
+        Item::Delete { names: _ } => push(out, b" delete"),
+        Item::Restore { name, place: _ } => {
+            push(out, b" restore ")?;
+            push(out, name.as_str().as_bytes())
+        }
+        Item::Cleanup => push(out, b" cleanup"),
+        Item::Failover => push(out, b" failover"),
+        Item::Wait => push(out, b" wait"),
+        Item::List => push(out, b" list"),
+        Item::Check => push(out, b" check"),
+        Item::Verify => push(out, b" verify"),
+    }
+}
+
+/// Appends the line after the commands' lines, if there is one.
+pub fn push_last(out: &mut Bytes, ending: Ending) -> Result<(), AllocError>
+    ensures { OnOk result (out.new ≡ out.old ++ last_line (ending_of ending)) }
+{
+    match ending {
+        Ending::SwapFailed => push(out, b"deposed\n"),
+        Ending::BlobDamaged { name } => {
+            push(out, b"damaged ")?;
+            append_name(out, &name)?;
+            push(out, b"\n")
+        }
+        Ending::NumbersSpent => push(out, b"numbers spent\n"),
+        Ending::SomeRefused => Ok(()),
+        Ending::AllOk => Ok(()),
+    }
+}
+
+/// Appends the beginning of a command's line, with its number.
+pub fn push_beginning(out: &mut Bytes, number: u64, item: &Item) -> Result<(), AllocError>
+    ensures { OnOk result (out.new ≡ out.old ++ (decimal number ++ item_text item.now)) }
+{
+    push_number(out, number)?;
+    push_item(out, item)
+}
