@@ -6,3 +6,15 @@ pub mod Entries
 pub mod Numbers
 pub mod SeatMaps
 pub mod Plans
+pub mod Firsts
+pub mod Added
+pub mod Begun
+pub mod Finds
+pub mod Drawn
+pub mod Accepts
+pub mod Changing
+pub mod Reporting
+pub mod Recorded
+pub mod Takes
+pub mod Choices
+pub mod NextUnits

@@ -1,11 +1,13 @@
 -- What accepting a command answers.
-use Rattle.std.specs.Prelude.{◌≡◌, ℕ, suc, ◌+◌, ◌<◌, ◌≤◌, true, Some, Result, Ok, Err}
+use Rattle.std.specs.Prelude.{◌≡◌, ℕ, Bool, List, suc, ◌+◌, ◌<◌, ◌≤◌, true, Some, Result, Ok, Err}
 use Rattle.std.specs.FinMap as fin
 use Rattle.esr_model.specs.Values.{Bytes, RootData}
 use Rattle.esr_model.specs.Kept.{first_id}
 use Rattle.esr_core.specs.World.{World, Deletion}
 use Rattle.esr_core.specs.Entry.{AskedIndex, Asked, Snapshot}
-use Rattle.esr_core.specs.After.{asked, new_names}
+use Rattle.esr_core.specs.After.{asked, asked_op, new_names}
+use Rattle.esr_core.specs.Generations.{OpTexts}
+use Rattle.esr_formats.specs.Formats.{formats}
 use Rattle.esr_core.specs.Allowed.{NoCleanup, IsNameOf, IsUnused, open_count}
 use Rattle.esr_progress.specs.declared.refusal.Refusal.{Refusal}
 use Rattle.esr_progress.specs.declared.refusal.Refusal.TheVariants as refusals
@@ -22,12 +24,18 @@ pub record MayAccept (w : World) (name : Bytes) : Type 0 where
   pub unused : IsUnused w name
   pub room : open_count w < 1000
 
+-- the texts of its op can be written
+abbrev pub TextsAreWritable : World → Asked → Type 0
+TextsAreWritable w (Snapshot name indices moment) =
+    (known : Bytes → Bytes → ℕ → Bool) (told : Bytes → Bytes → ℕ → List (Bytes × Bytes)) → OpTexts (formats known told) (asked_op w name indices moment)
+
 -- the op was added; its uuid is the next id
 pub record IsAccepted (w : World) (command : Asked) (new : Plan) (accepted : Accepted) : Type 0 where
   pub number : accepted.op ≡ w.next_op
   pub drawn : accepted.drawn ≡ drawn_by w command
   pub fits : w.next_id + accepted.drawn < first_id (suc w.term)
   pub plan : IsPlanOf (asked w command) new
+  pub texts : TextsAreWritable w command
 
 -- the first rule that refuses it
 abbrev pub IsRefused : World → Bytes → Asked → Refusal → Type 0
@@ -40,6 +48,7 @@ IsRefused w name command (refusals.IdsSpent next) = (next.number ≡ w.next_id) 
 abbrev pub name_asked : Asked → Bytes
 name_asked (Snapshot name indices moment) = name
 
-abbrev pub Accepting : World → Asked → Plan → Result Accepted Refusal → Type 0
-Accepting w command new (Ok accepted) = MayAccept w (name_asked command) × IsAccepted w command new accepted
-Accepting w command new (Err refusal) = IsRefused w (name_asked command) command refusal
+-- by the list of ops that is answered
+abbrev pub Accepting : World → Asked → Result (Plan × Accepted) Refusal → Type 0
+Accepting w command (Ok (new, accepted)) = MayAccept w (name_asked command) × IsAccepted w command new accepted
+Accepting w command (Err refusal) = IsRefused w (name_asked command) command refusal

@@ -7,4 +7,7 @@ pub mod Seats
 pub mod Codes
 pub mod Inside
 pub mod Accepting
+pub mod Asking
 pub mod Units
+pub mod Changes
+pub mod Choice

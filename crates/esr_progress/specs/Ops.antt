@@ -18,9 +18,9 @@ abbrev pub op_with : Making → List Bytes → List OpenShard → Bool → Optio
 op_with m places shards failed aborted =
     record { name = m.name; uuid = m.uuid.number; moment = m.moment; indices = map ref_of_code m.indices; shards = map (work_of_shard m.indices places) shards; failed = failed; source = None; aborted = aborted }
 
--- the shard names an index of the list
+-- the shard names an index of the list, and its number is one of the layout
 abbrev pub Within : List Bytes → OpenShard → Type 0
-Within places s = s.at < length places
+Within places s = (s.at < length places) × (s.shard.number < 1024)
 
 -- what holds of every open op: it can be told in a record, and each shard has its index and place
 pub record IsOpenOp (m : Making) (places : List Bytes) (shards : List OpenShard) : Type 0 where

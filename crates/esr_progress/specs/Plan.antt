@@ -3,7 +3,7 @@ use Rattle.std.specs.Prelude.{◌≡◌, ℕ, Bool, List, [], Option, Some, None
 use Rattle.std.specs.Ordering.{nat_cmp}
 use Rattle.std.specs.FinMap.{FinMap}
 use Rattle.std.specs.FinMap as fin
-use Rattle.esr_model.specs.Values.{SnapInfo, ShardResult}
+use Rattle.esr_model.specs.Values.{RootData, SnapInfo, ShardResult}
 use Rattle.esr_model.specs.Shelf.{Shelved}
 use Rattle.esr_core.specs.World.{World, Op, Deletion, Work, Shard, Finalize, Deleting, Drop, Swap, Ticket}
 use Rattle.esr_progress.specs.declared.unit.SeatKind.{SeatKind}
@@ -66,3 +66,17 @@ pub record IsPlanOf (w : World) (p : Plan) : Type 0 where
   pub seats : (k : ℕ) → fin.get p.seats k ≡ option_map seat_of (fin.get w.tickets k)
   pub next_op : p.next_op ≡ w.next_op
   pub next_ticket : p.next_ticket ≡ w.next_ticket
+
+-- a world with this plan, this root and the next id, in this term
+pub record IsAskedIn (p : Plan) (root : RootData) (term next : ℕ) (w : World) : Type 0 where
+  pub plan : IsPlanOf w p
+  pub root_is : w.root ≡ root
+  pub term_is : w.term ≡ term
+  pub next_is : w.next_id ≡ next
+
+-- a world with this plan, so many roots up to the safe one, and that root, in this term
+pub record IsGivenIn (p : Plan) (root : RootData) (safe term : ℕ) (w : World) : Type 0 where
+  pub plan : IsPlanOf w p
+  pub root_is : w.root ≡ root
+  pub safe_is : w.safe ≡ safe
+  pub term_is : w.term ≡ term

@@ -1,8 +1,11 @@
 -- The unit that is given, as the definitions see it.
-use Rattle.std.specs.Prelude.{◌≡◌, ℕ, ◌<◌, map, Option, option_map}
-use Rattle.esr_model.specs.Values.{Bytes}
+use Rattle.std.specs.Prelude.{◌≡◌, ℕ, ◌<◌, map, Option, Some, None, option_map}
+use Rattle.std.specs.FinMap as fin
+use Rattle.esr_model.specs.Values.{Bytes, Formats}
 use Rattle.esr_core.specs.World.{World, Op, info_of}
-use Rattle.esr_core.specs.Ready.{ReadyFinalize, ReadyDrop}
+use Rattle.esr_core.specs.Ready.{ReadyFinalize, ReadyDrop, AnyReady}
+use Rattle.esr_core.specs.After.{taken_by}
+use Rattle.esr_progress.specs.Plan.{Plan, IsPlanOf}
 use Rattle.esr_core.specs.Entry.{Given, GivenShard, GivenFinalize, GivenDrop}
 use Rattle.esr_core.specs.Allowed.{HasReady, GivesShard}
 use Rattle.esr_formats.specs.Ids.{number_of}
@@ -35,6 +38,7 @@ pub record ShardGiven (w : World) (o index number : ℕ) (base : Option ℕ) (uu
   pub uuid_is : uuid ≡ gives.op.uuid
   pub name_is : name ≡ gives.s.ref.name
   pub place_is : place ≡ gives.s.place
+  pub few : number < 1024
 
 -- a finalization carries its info, with the sums, and the results of its shards
 abbrev pub GivesWork : World → ℕ → Work → Copied → Type 0
@@ -48,3 +52,8 @@ pub record GivesUnit (w : World) (u : ReadyUnit) : Type 0 where
   pub lowest : (p : ℕ) → p < u.op → HasReady w p → ⊥
   pub gives : GivesWork w u.op u.work u.copy
   pub copy : IsCopyOf w u.copy
+
+-- the unit that is given, with the list of ops in which its ticket is out; or no unit is ready
+abbrev pub NextUnit : World → Option (Plan × ReadyUnit) → Type 0
+NextUnit w None = AnyReady w → ⊥
+NextUnit w (Some (new, u)) = GivesUnit w u × ((f : Formats) → IsPlanOf (taken_by f w u.op (given_of u) (fin.get w.ops u.op)) new)

@@ -1,13 +1,19 @@
 //! The list of open operations: which commands are accepted, which units are ready, and what the reports of units change.
 #![tactic(auto)]
 
+mod accept;
+mod changes;
 mod command;
 mod delete;
 mod open_op;
 mod progress;
+mod ready;
 mod refusal;
+mod reports;
 mod seats;
 mod shard;
+#[cfg(test)]
+mod tests;
 mod unit;
 
 pub use command::{Accepted, AskedIndex, AskedIndices, Command};

@@ -11,6 +11,7 @@ ghost use Rattle.esr_record.specs.Op.{IsWork};
 ghost use Rattle.esr_model.specs.Values.{ShardResult as Outcome};
 ghost use Rattle.esr_progress.specs.Shards.{state_of, waits_on};
 ghost use Rattle.esr_progress.specs.Ops.{op_with, IsOpenOp, IsMakingOf, has_stopped, is_free, IsDoneAt, Among, IsMost, later_of, IsShardWork, IsFinalWork};
+ghost use Rattle.esr_progress.specs.Choice.{AreShards};
 
 use crate::Work;
 use crate::shard::{self, OpenShard, ShardState};
@@ -132,6 +133,13 @@ impl OpenOp {
         ensures { IfSome (slice_get self.now.1.shards at) (λ s. (s.ref.id ≡ result.index.number) × (s.number ≡ result.number)) }
     {
         self.shards[at].shard
+    }
+
+    /// What holds of its shards.
+    pub(crate) fn rule(&self)
+        ensures { AreShards self.now.1.shards }
+    {
+        let _shards = &self.shards;
     }
 
     /// The unit of the shard at a place.

@@ -65,7 +65,10 @@ impl Progress {
     }
 }
 
-fn copy_deletes(alloc: Global, deletes: &[OpenDelete]) -> Result<Vec<OpenDelete>, AllocError>
+pub(crate) fn copy_deletes(
+    alloc: Global,
+    deletes: &[OpenDelete],
+) -> Result<Vec<OpenDelete>, AllocError>
     ensures { IfOk result (λ v. v.items ≡ deletes.now) }
 {
     let mut copy = Vec::with_capacity(alloc, deletes.len())?;

@@ -1,0 +1,353 @@
+-- When a unit of an op is ready.
+use Rattle.std.proofs.Common.{◌≡◌, ◌≢◌, ◌⊎◌, ℕ, suc, zero, ◌+◌, ◌<◌, ◌≤◌, Bool, true, false, ◌&&◌, ◌||◌, List, [], ◌∷◌, Option, Some, None, cond, eqb, option_map, map, length, get_or, take, refl, sym, ap, ◌∙◌, subst, inl, inr, true≢false, arith, eq-eqb, nat_cmp}
+use Rattle.std.specs.Prelude.{not, is_some, slice_get, ◌==◌}
+use Rattle.std.specs.List.{list_any, position}
+use Rattle.std.specs.FinMap as fin
+use Rattle.std.proofs.lemmas.Bool.{cases_lt}
+use Rattle.std.proofs.lemmas.List.Quantifiers.{position-Some}
+use Rattle.std.proofs.lemmas.Option.{slice_get_read, slice_get_within, slice_get-get_or, get_or_from_slice_get}
+use Rattle.esr_model.specs.Values.{Has, ShardResult}
+use Rattle.esr_core.specs.World.{Op, ShardState, Pending, Out, Done, GivenUp, ShardWork, AllDone}
+use Rattle.esr_core.specs.Ready.{Goes, Stopped, Waits, Before}
+use Rattle.esr_core.specs.Steps.{all_done, is_done}
+use Rattle.esr_core.specs.Allowed.{StandsBefore}
+use Rattle.esr_core.specs.After.{shard_of}
+use Rattle.esr_progress.specs.declared.ready.Kind.{Kind}
+use Rattle.esr_progress.specs.declared.ready.Kind.TheVariants as ready
+use Rattle.esr_progress.specs.declared.unit.Seat.{Seat as CodeSeat}
+use Rattle.esr_progress.specs.Shards.{is_pending, waits, waits_for, is_shard}
+use Rattle.esr_progress.specs.Ops.{has_stopped, is_free}
+use Rattle.esr_progress.specs.Inside.{numbers_of, Rise}
+use Rattle.esr_progress.specs.Choice.{goes_in, is_first_at, is_earliest, is_out_of, is_swapping, ready_by, is_final, ready_of, NoneBefore, IsReadyAt, IsPossible, AreShards}
+use Rattle.esr_progress.proofs.Lists.{Has-at, Has-map, position-None, some_same, none_some}
+use Rattle.esr_progress.proofs.Entries.{eqb_is, find-member}
+use Rattle.esr_progress.proofs.Numbers.{found_member}
+
+-- ---- the search
+
+module _ (ops : List (ℕ × Op)) (completed : List ℕ) (seats : List CodeSeat) (term : ℕ) where
+  pub ready_here : (at : ℕ) (e : ℕ × Op) (kind : Kind) → at < length ops → e ≡ get_or ops at e → ready_of ops completed seats term (take at ops) e ≡ Some kind → NoneBefore ops completed seats term at
+      → IsReadyAt ops completed seats term at kind
+  ready_here at e kind lt is found before = record { e = e; there = slice_get_read ops (length ops) at e refl lt is; is = found; before = before }
+
+  pub none_more : (at : ℕ) (e : ℕ × Op) → at < length ops → e ≡ get_or ops at e → ready_of ops completed seats term (take at ops) e ≡ None → NoneBefore ops completed seats term at → NoneBefore ops completed seats term (at + 1)
+  none_more at e lt is none before k x below there = elim (lt_or_same k at below) [
+    | inl less ↦ before k x less there
+    | inr same ↦
+        let one : e ≡ x = some_same e x (sym (slice_get_read ops (length ops) at e refl lt is) ∙ ap (slice_get ops) (sym same) ∙ there) in
+        (λ i. ready_of ops completed seats term (take (same i) ops) (sym one i)) ∙ none
+  ]
+    where
+      lt_or_same : (k at : ℕ) → k < at + 1 → (k < at) ⊎ (k ≡ at)
+      lt_or_same k at lt = elim (cases_lt k at) [ inl less ↦ inl less | inr le ↦ inr (omega arith) ]
+
+-- ---- tests over lists
+
+pub or_true : (a b : Bool) → (a || b) ≡ true → (a ≡ true) ⊎ (b ≡ true)
+or_true true b e = inl refl
+or_true false b e = inr e
+
+pub or_left : (a b : Bool) → a ≡ true → (a || b) ≡ true
+or_left a b e = ap (λ c. c || b) e
+
+pub or_right : (a b : Bool) → b ≡ true → (a || b) ≡ true
+or_right true b e = refl
+or_right false b e = e
+
+pub both_true : (a b : Bool) → a ≡ true → b ≡ true → (a && b) ≡ true
+both_true a b p q = λ i. p i && q i
+
+pub and_true : (a b : Bool) → (a && b) ≡ true → (a ≡ true) × (b ≡ true)
+and_true true b e = (refl, e)
+and_true false b e = absurd (true≢false (sym e))
+
+pub not_true : (b : Bool) → not b ≡ true → b ≡ false
+not_true true e = absurd (true≢false (sym e))
+not_true false e = refl
+
+pub is_false : (b : Bool) → (b ≡ true → ⊥) → b ≡ false
+is_false true h = absurd (h refl)
+is_false false h = refl
+
+pub is_true : (b : Bool) → (b ≡ false → ⊥) → b ≡ true
+is_true true h = refl
+is_true false h = absurd (h refl)
+
+pub clash : (b : Bool) → b ≡ true → b ≡ false → ⊥
+clash b p q = true≢false (sym p ∙ q)
+
+module _ {A : Type 0} (p : A → Bool) where
+  pub any_true : (xs : List A) → list_any p xs ≡ true → (x : A) × Has xs x × (p x ≡ true)
+  any_true [] e = absurd (true≢false (sym e))
+  any_true (x ∷ xs) e = elim (or_true (p x) (list_any p xs) e) [ inl h ↦ (x, inl refl, h) | inr h ↦ let (y, m, is) = any_true xs h in (y, inr m, is) ]
+
+  pub any_here : (xs : List A) (x : A) → Has xs x → p x ≡ true → list_any p xs ≡ true
+  any_here [] x m e = absurd m
+  any_here (y ∷ xs) x (inl is) e = or_left (p y) (list_any p xs) (ap p is ∙ e)
+  any_here (y ∷ xs) x (inr m) e = or_right (p y) (list_any p xs) (any_here xs x m e)
+
+-- ---- members by their places
+
+module _ {A : Type 0} where
+  pub place_of : (xs : List A) (x : A) → Has xs x → (k : ℕ) × (slice_get xs k ≡ Some x)
+  place_of [] x m = absurd m
+  place_of (y ∷ xs) x (inl is) = (0, ap (λ z. Some z) is)
+  place_of (y ∷ xs) x (inr m) = let (k, e) = place_of xs x m in (suc k, e)
+
+  pub place_below : (xs : List A) (n : ℕ) (x : A) → Has (take n xs) x → (k : ℕ) × (k < n) × (slice_get xs k ≡ Some x)
+  place_below [] zero x m = absurd m
+  place_below [] (suc n) x m = absurd m
+  place_below (y ∷ xs) zero x m = absurd m
+  place_below (y ∷ xs) (suc n) x (inl is) = (0, omega arith, ap (λ z. Some z) is)
+  place_below (y ∷ xs) (suc n) x (inr m) = let (k, lt, e) = place_below xs n x m in (suc k, omega (arith, lt), e)
+
+  pub Has-taken : (xs : List A) (n : ℕ) (x : A) → Has (take n xs) x → Has xs x
+  Has-taken [] zero x m = m
+  Has-taken [] (suc n) x m = m
+  Has-taken (y ∷ xs) zero x m = absurd m
+  Has-taken (y ∷ xs) (suc n) x (inl is) = inl is
+  Has-taken (y ∷ xs) (suc n) x (inr m) = inr (Has-taken xs n x m)
+
+-- the first place at which a test passes
+pub first_place : {A : Type 0} (p : A → Bool) (xs : List A) (i : ℕ) (x : A) → position p xs ≡ Some i → slice_get xs i ≡ Some x → (p x ≡ true) × ((z : A) → Has (take i xs) z → p z ≡ false)
+first_place p xs i x e there =
+    let (lt, here, before) = position-Some p xs i x e in
+    (ap p (sym (get_or_from_slice_get xs i x x there)) ∙ here, λ z m. let (k, below, is) = place_below xs i z m in ap p (sym (get_or_from_slice_get xs k z x is)) ∙ before k below)
+
+pub place_within : {A : Type 0} (p : A → Bool) (xs : List A) (i : ℕ) → position p xs ≡ Some i → (i < length xs) × ((x : A) × (slice_get xs i ≡ Some x))
+place_within p [] i e = absurd (none_some i e)
+place_within p (y ∷ xs) i e = let lt = (position-Some p (y ∷ xs) i y e).0 in (lt, (get_or (y ∷ xs) i y, slice_get-get_or (y ∷ xs) i y lt))
+
+-- ---- entries below a place have the lower numbers
+
+module _ {A : Type 0} where
+  pub number_below : (es : List (ℕ × A)) → Rise (numbers_of es) → (at : ℕ) (e : ℕ × A) → slice_get es at ≡ Some e → (x : ℕ × A) → Has (take at es) x → x.0 < e.0
+  number_below [] r at e there x m = absurd (none_some e there)
+  number_below (y ∷ es) r zero e there x m = absurd m
+  number_below (y ∷ es) r (suc at) e there x (inl is) = subst (λ (z : ℕ × A). z.0 < e.0) is (r.0 e.0 (Has-map (λ (z : ℕ × A). z.0) es e (Has-at es at e there)))
+  number_below (y ∷ es) r (suc at) e there x (inr m) = number_below es r.1 at e there x m
+
+  pub place_lower : (es : List (ℕ × A)) → Rise (numbers_of es) → (at : ℕ) (e : ℕ × A) → slice_get es at ≡ Some e → (x : ℕ × A) → Has es x → x.0 < e.0 → Has (take at es) x
+  place_lower [] r at e there x m lt = absurd m
+  place_lower (y ∷ es) r zero e there x (inl is) lt = absurd (omega (arith, ap (λ (z : ℕ × A). z.0) is, ap (λ (z : ℕ × A). z.0) (some_same y e there)))
+  place_lower (y ∷ es) r zero e there x (inr m) lt = let above : y.0 < x.0 = r.0 x.0 (Has-map (λ (z : ℕ × A). z.0) es x m) in absurd (omega (arith, ap (λ (z : ℕ × A). z.0) (some_same y e there)))
+  place_lower (y ∷ es) r (suc at) e there x (inl is) lt = inl is
+  place_lower (y ∷ es) r (suc at) e there x (inr m) lt = inr (place_lower es r.1 at e there x m lt)
+
+-- ---- ops that go
+
+pub goes_by : (op : Op) → has_stopped op ≡ false → Goes op
+goes_by op e = record { unfailed = (parts op.failed op.aborted e).0; unaborted = (parts op.failed op.aborted e).1 }
+  where
+    parts : (b : Bool) (o : Option ℕ) → (b || is_some o) ≡ false → (b ≡ false) × (o ≡ None)
+    parts true o e = absurd (true≢false e)
+    parts false (Some x) e = absurd (true≢false e)
+    parts false None e = (refl, refl)
+
+pub goes_on : (op : Op) → Goes op → has_stopped op ≡ false
+goes_on op g = λ i. g.unfailed i || is_some (g.unaborted i)
+
+pub stopped_by : (op : Op) → has_stopped op ≡ true → Stopped op
+stopped_by op e = parts op.failed op.aborted e
+  where
+    parts : (b : Bool) (o : Option ℕ) → (b || is_some o) ≡ true → (b ≡ true) ⊎ ((by : ℕ) × (o ≡ Some by))
+    parts true o e = inl refl
+    parts false (Some x) e = inr (x, refl)
+    parts false None e = absurd (true≢false (sym e))
+
+pub has_by : (op : Op) → Stopped op → has_stopped op ≡ true
+has_by op (inl e) = or_left op.failed (is_some op.aborted) e
+has_by op (inr h) = or_right op.failed (is_some op.aborted) (ap is_some h.1)
+
+-- ---- free shards
+
+pub pending_by : (st : ShardState) → is_pending st ≡ true → st ≡ Pending
+pending_by Pending e = refl
+pending_by (Out k) e = absurd (true≢false (sym e))
+pending_by (Done r) e = absurd (true≢false (sym e))
+pending_by GivenUp e = absurd (true≢false (sym e))
+
+waiting : (st : ShardState) → Waits st → waits st ≡ true
+waiting Pending h = refl
+waiting (Out k) h = refl
+waiting (Done r) h = absurd h
+waiting GivenUp h = absurd h
+
+waits_by : (st : ShardState) → waits st ≡ true → Waits st
+waits_by Pending e = tt
+waits_by (Out k) e = tt
+waits_by (Done r) e = true≢false (sym e)
+waits_by GivenUp e = true≢false (sym e)
+
+-- no op of a lower number waits on the shard
+abbrev pub NoneWaits : List (ℕ × Op) → ℕ → ShardWork → Type 0
+NoneWaits ops number s = (p : ℕ) (q : Op) (z : ShardWork) → p < number → fin.find nat_cmp p ops ≡ Some q → Has q.shards z → z.ref.id ≡ s.ref.id → z.number ≡ s.number → Waits z.state → ⊥
+
+module _ (ops : List (ℕ × Op)) (rise : Rise (numbers_of ops)) (at : ℕ) (e : ℕ × Op) (there : slice_get ops at ≡ Some e) where
+  pub free_says : (s : ShardWork) → is_free (take at ops) s ≡ true → (s.state ≡ Pending) × NoneWaits ops e.0 s
+  free_says s free =
+      let (pending, rest) = and_true _ _ free in (
+        pending_by s.state pending,
+        λ p q z lt found m id number w.
+            clash (list_any (λ (x : ℕ × Op). list_any (waits_for s.ref.id s.number) x.1.shards) (take at ops))
+            (any_here (λ (x : ℕ × Op). list_any (waits_for s.ref.id s.number) x.1.shards) (take at ops) (p, q) (place_lower ops rise at e there (p, q) (find-member p ops q found) lt)
+            (any_here (waits_for s.ref.id s.number) q.shards z m (both_true _ _ (both_true _ _ (eq-eqb z.ref.id s.ref.id id) (eq-eqb z.number s.number number)) (waiting z.state w))))
+            (not_true _ rest),
+      )
+
+  pub says_free : (s : ShardWork) → s.state ≡ Pending → NoneWaits ops e.0 s → is_free (take at ops) s ≡ true
+  says_free s pending none = both_true _ _ (ap is_pending pending) (ap not (is_false _ (λ any.
+      let (x, m, waits_there) = any_true (λ (x : ℕ × Op). list_any (waits_for s.ref.id s.number) x.1.shards) (take at ops) any in
+      let (z, hz, h) = any_true (waits_for s.ref.id s.number) x.1.shards waits_there in
+      let (same, w) = and_true _ _ h in
+      let (id, number) = and_true _ _ same in
+      none x.0 x.1 z (number_below ops rise at e there x m) (found_member ops rise x (Has-taken ops at x m)) hz (eqb_is _ _ id) (eqb_is _ _ number) (waits_by z.state w))))
+
+-- ---- what completed first
+
+pub Before-member : (xs : List ℕ) (a b : ℕ) → Before xs a b → Has xs b
+Before-member [] a b h = absurd h
+Before-member (x ∷ xs) a b (ne, inl h) = inr h.1
+Before-member (x ∷ xs) a b (ne, inr h) = inr (Before-member xs a b h)
+
+module _ (p o : ℕ) where
+  pub taken_before : (xs : List ℕ) (i : ℕ) → slice_get xs i ≡ Some o → ((z : ℕ) → Has (take i xs) z → z ≢ o) → Has (take i xs) p → Before xs p o
+  taken_before [] i there ne m = absurd (none_some o there)
+  taken_before (x ∷ xs) zero there ne m = absurd m
+  taken_before (x ∷ xs) (suc i) there ne (inl is) = (ne x (inl refl), inl (is, Has-at xs i o there))
+  taken_before (x ∷ xs) (suc i) there ne (inr m) = (ne x (inl refl), inr (taken_before xs i there (λ z h. ne z (inr h)) m))
+
+  pub before_taken : (xs : List ℕ) (i : ℕ) → slice_get xs i ≡ Some o → Before xs p o → Has (take i xs) p
+  before_taken [] i there h = absurd h
+  before_taken (x ∷ xs) zero there (ne, h) = absurd (ne (some_same x o there))
+  before_taken (x ∷ xs) (suc i) there (ne, inl h) = inl h.0
+  before_taken (x ∷ xs) (suc i) there (ne, inr h) = inr (before_taken xs i there h)
+
+-- an op that goes and stands before the number
+pub record Earlier (ops : List (ℕ × Op)) (completed : List ℕ) (number : ℕ) : Type 0 where
+  pub p : ℕ
+  pub q : Op
+  pub found : fin.find nat_cmp p ops ≡ Some q
+  pub goes : has_stopped q ≡ false
+  pub before : Before completed p number
+
+module _ (ops : List (ℕ × Op)) (rise : Rise (numbers_of ops)) (completed : List ℕ) (number : ℕ) where
+  going : (p : ℕ) → goes_in ops p ≡ true → (q : Op) × (fin.find nat_cmp p ops ≡ Some q) × (has_stopped q ≡ false)
+  going p e =
+      let (x, m, h) = any_true (λ (x : ℕ × Op). (x.0 == p) && not (has_stopped x.1)) ops e in
+      let (same, on) = and_true _ _ h in
+      (x.1, subst (λ (k : ℕ). fin.find nat_cmp k ops ≡ Some x.1) (eqb_is x.0 p same) (found_member ops rise x m), not_true _ on)
+
+  gone : (p : ℕ) (q : Op) → fin.find nat_cmp p ops ≡ Some q → has_stopped q ≡ false → goes_in ops p ≡ true
+  gone p q found on = any_here (λ (x : ℕ × Op). (x.0 == p) && not (has_stopped x.1)) ops (p, q) (find-member p ops q found) (both_true _ _ (eq-eqb p p refl) (ap not on))
+
+  late : (o : Option ℕ) → position (λ n. n == number) completed ≡ o → is_first_at ops completed o ≡ false → Earlier ops completed number
+  late None e h = absurd (true≢false h)
+  late (Some i) e h =
+      let (within, at) = place_within (λ n. n == number) completed i e in
+      let (here, earlier) = first_place (λ n. n == number) completed i at.0 e at.1 in
+      let there : slice_get completed i ≡ Some number = at.1 ∙ ap (λ n. Some n) (eqb_is at.0 number here) in
+      let some : list_any (goes_in ops) (take i completed) ≡ true = is_true _ (λ f. true≢false (ap not (sym f) ∙ h)) in
+      let (p, m, on) = any_true (goes_in ops) (take i completed) some in
+      let (q, found, goes) = going p on in
+      record { p = p; q = q; found = found; goes = goes; before = taken_before p number completed i there (λ z hz is. clash (z == number) (eq-eqb z number is) (earlier z hz)) m }
+
+  early : (o : Option ℕ) → position (λ n. n == number) completed ≡ o → is_first_at ops completed o ≡ true → Earlier ops completed number → ⊥
+  early None e h x = clash (number == number) (eq-eqb number number refl) (position-None (λ n. n == number) completed e number (Before-member completed x.p number x.before))
+  early (Some i) e h x =
+      let (within, at) = place_within (λ n. n == number) completed i e in
+      let (here, earlier) = first_place (λ n. n == number) completed i at.0 e at.1 in
+      let there : slice_get completed i ≡ Some number = at.1 ∙ ap (λ n. Some n) (eqb_is at.0 number here) in
+      clash _ (any_here (goes_in ops) (take i completed) x.p (before_taken x.p number completed i there x.before) (gone x.p x.q x.found x.goes)) (not_true _ h)
+
+  pub not_earliest : is_earliest ops completed number ≡ false → Earlier ops completed number
+  not_earliest h = late (position (λ n. n == number) completed) refl h
+
+  pub none_earlier : is_earliest ops completed number ≡ true → Earlier ops completed number → ⊥
+  none_earlier h x = early (position (λ n. n == number) completed) refl h x
+
+-- ---- shards that are done
+
+pub all_done_by : (shards : List ShardWork) (results : List ShardResult) → AllDone shards results → all_done shards ≡ true
+all_done_by [] [] h = refl
+all_done_by [] (r ∷ rs) h = refl
+all_done_by (s ∷ shards) [] h = absurd h
+all_done_by (s ∷ shards) (r ∷ rs) h = both_true _ _ (ap is_done h.0) (all_done_by shards rs h.1)
+
+-- ---- which unit
+
+-- how the choice of a unit came out
+abbrev pub WasPicked : Option Kind → Bool → Bool → Option ℕ → Bool → Type 0
+WasPicked (Some (ready.Shard i)) stopped out free final = (stopped ≡ false) × (free ≡ Some i)
+WasPicked (Some ready.Finalize) stopped out free final = (stopped ≡ false) × (free ≡ None) × (final ≡ true)
+WasPicked (Some ready.Drop) stopped out free final = (stopped ≡ true) × (out ≡ false)
+WasPicked None stopped out free final = ((stopped ≡ true) × (out ≡ true)) ⊎ ((stopped ≡ false) × (free ≡ None) × (final ≡ false))
+
+picked_so : (stopped out : Bool) (free : Option ℕ) (final : Bool) → WasPicked (cond stopped (cond out None (Some ready.Drop)) (ready_by free final)) stopped out free final
+picked_so true true free final = inl (refl, refl)
+picked_so true false free final = (refl, refl)
+picked_so false out (Some i) final = (refl, refl)
+picked_so false out None true = (refl, refl, refl)
+picked_so false out None false = inr (refl, refl, refl)
+
+pub picked : (ops : List (ℕ × Op)) (completed : List ℕ) (seats : List CodeSeat) (term : ℕ) (before : List (ℕ × Op)) (e : ℕ × Op) (kind : Option Kind) → ready_of ops completed seats term before e ≡ kind
+    → WasPicked kind (has_stopped e.1) (is_out_of seats term e.0) (position (is_free before) e.1.shards) (is_final ops completed seats term e)
+picked ops completed seats term before e kind is =
+    subst (λ (k : Option Kind). WasPicked k (has_stopped e.1) (is_out_of seats term e.0) (position (is_free before) e.1.shards) (is_final ops completed seats term e)) is
+    (picked_so (has_stopped e.1) (is_out_of seats term e.0) (position (is_free before) e.1.shards) (is_final ops completed seats term e))
+
+-- ---- the first shard of its id and number
+
+found_by : (b : Bool) (x s : ShardWork) (rest : Option ShardWork) → b ≡ true → x ≡ s → cond b (Some x) rest ≡ Some s
+found_by b x s rest e is = ap (λ c. cond c (Some x) rest) e ∙ ap (λ z. Some z) is
+
+pub shard_found : (index number : ℕ) (xs : List ShardWork) (i : ℕ) (s : ShardWork) → slice_get xs i ≡ Some s → s.ref.id ≡ index → s.number ≡ number
+    → ((z : ShardWork) → Has (take i xs) z → z.ref.id ≡ index → z.number ≡ number → ⊥) → shard_of xs index number ≡ Some s
+shard_found index number [] i s there id n other = absurd (none_some s there)
+shard_found index number (x ∷ xs) zero s there id n other =
+    let is : x ≡ s = some_same x s there in
+    found_by _ x s _ (both_true _ _ (eq-eqb x.ref.id index (ap (λ (z : ShardWork). z.ref.id) is ∙ id)) (eq-eqb x.number number (ap (λ (z : ShardWork). z.number) is ∙ n))) is
+shard_found index number (x ∷ xs) (suc i) s there id n other =
+    let not_this : ((x.ref.id == index) && (x.number == number)) ≡ false = is_false _ (λ e. let (a, b) = and_true _ _ e in other x (inl refl) (eqb_is _ _ a) (eqb_is _ _ b)) in
+    ap (λ c. cond c (Some x) (shard_of xs index number)) not_this ∙ shard_found index number xs i s there id n (λ z m. other z (inr m))
+
+pub stands_taken : (xs : List ShardWork) (i : ℕ) (z s : ShardWork) → slice_get xs i ≡ Some s → StandsBefore xs z s → Has (take i xs) z
+stands_taken [] i z s there h = absurd h
+stands_taken (x ∷ xs) zero z s there (ne, h) = absurd (ne (some_same x s there))
+stands_taken (x ∷ xs) (suc i) z s there (ne, inl h) = inl h.0
+stands_taken (x ∷ xs) (suc i) z s there (ne, inr h) = inr (stands_taken xs i z s there h)
+
+-- shards that are alike are free alike
+pub free_alike : (before : List (ℕ × Op)) (a b : ShardWork) → a.ref.id ≡ b.ref.id → a.number ≡ b.number → a.state ≡ b.state → is_free before a ≡ is_free before b
+free_alike before a b id number state = λ i. is_pending (state i) && not (list_any (λ (e : ℕ × Op). list_any (waits_for (id i) (number i)) e.1.shards) before)
+
+-- an op can give the unit that is found
+pub possible : (ops : List (ℕ × Op)) (completed : List ℕ) (seats : List CodeSeat) (term : ℕ) (before : List (ℕ × Op)) (e : ℕ × Op) (kind : Kind) → ready_of ops completed seats term before e ≡ Some kind → IsPossible e.1 kind
+possible ops completed seats term before e (ready.Shard i) is = (place_within (is_free before) e.1.shards i (picked ops completed seats term before e (Some (ready.Shard i)) is).1).0
+possible ops completed seats term before e ready.Finalize is = (and_true _ _ (picked ops completed seats term before e (Some ready.Finalize) is).2).0
+possible ops completed seats term before e ready.Drop is = tt
+
+-- ---- the same, of equal lists
+
+module _ (ops here : List (ℕ × Op)) (same : here ≡ ops) where
+  pub none_in : (completed done : List ℕ) → done ≡ completed → (seats sat : List CodeSeat) → sat ≡ seats → (term : ℕ) → NoneBefore here done sat term (length here) → NoneBefore ops completed seats term (length ops)
+  none_in completed done d seats sat s term h =
+      subst (λ (es : List (ℕ × Op)). NoneBefore es completed seats term (length es)) same
+      (subst (λ (ns : List ℕ). NoneBefore here ns seats term (length here)) d (subst (λ (cs : List CodeSeat). NoneBefore here done cs term (length here)) s h))
+
+  pub ready_in : (completed done : List ℕ) → done ≡ completed → (seats sat : List CodeSeat) → sat ≡ seats → (term at : ℕ) (kind : Kind) → IsReadyAt here done sat term at kind → IsReadyAt ops completed seats term at kind
+  ready_in completed done d seats sat s term at kind h =
+      subst (λ (es : List (ℕ × Op)). IsReadyAt es completed seats term at kind) same
+      (subst (λ (ns : List ℕ). IsReadyAt here ns seats term at kind) d (subst (λ (cs : List CodeSeat). IsReadyAt here done cs term at kind) s h))
+
+-- the op at the place, read
+module _ (ops here : List (ℕ × Op)) (same : here ≡ ops) (completed : List ℕ) (seats : List CodeSeat) (term at : ℕ) (kind : Kind) (r : IsReadyAt here completed seats term at kind) (e : ℕ × Op) (is : e ≡ get_or ops at e) where
+  pub read_there : slice_get ops at ≡ Some e
+  read_there =
+      let there : slice_get ops at ≡ Some r.e = ap (λ es. slice_get es at) (sym same) ∙ r.there in
+      slice_get_read ops (length ops) at e refl (slice_get_within ops at r.e there) is
+
+  pub possible_there : IsPossible e.1 kind
+  possible_there =
+      let one : r.e ≡ e = some_same r.e e (sym r.there ∙ ap (λ es. slice_get es at) same ∙ read_there) in
+      subst (λ (x : ℕ × Op). IsPossible x.1 kind) one (possible here completed seats term (take at here) r.e kind r.is)

@@ -1,0 +1,450 @@
+-- The unit that is given, in a world of which the list tells.
+use Rattle.std.proofs.Common.{◌≡◌, ◌≢◌, ◌⊎◌, ℕ, suc, zero, ◌+◌, ◌<◌, ◌≤◌, Bool, true, false, ◌&&◌, ◌||◌, List, [], ◌∷◌, Option, Some, None, cond, eqb, option_map, map, length, get_or, take, refl, sym, ap, ◌∙◌, subst, inl, inr, true≢false, arith, eq-eqb, nat_cmp}
+use Rattle.std.specs.Prelude.{not, is_some, slice_get, ◌==◌, IfSome}
+use Rattle.std.specs.List.{list_any, position}
+use Rattle.std.specs.FinMap as fin
+use Rattle.std.proofs.Math.ListN.{set}
+use Rattle.std.proofs.lemmas.Option.{slice_get_within, slice_get-get_or, get_or_from_slice_get}
+use Rattle.esr_names.specs.declared.ids.Id.{Id}
+use Rattle.esr_names.specs.declared.blob.ShardId.{ShardId}
+use Rattle.esr_model.specs.Values.{Bytes, Has, RootData, ShardResult, Formats}
+use Rattle.esr_core.specs.Entry.{GivenShard}
+use Rattle.esr_model.specs.Image.{Generation}
+use Rattle.esr_core.specs.World.{World, Op, Deletion, ShardState, Pending, ShardWork, Ticket, Work, Shard, Finalize, Deleting, Drop, AllDone, info_of}
+use Rattle.esr_core.specs.Ready.{Barrier, Goes, Stopped, Waits, Before, IsMaster, IsShard, SwapIsOut, UnitIsOut, ReadyShard, ReadyFinalize, ReadyDrop, ReadyDelete, ReadyCleanup, AnyReady, AShard, AFinalize, ADrop, ADelete, ACleanup}
+use Rattle.esr_core.specs.Steps.{all_done, given, Largest, final_ticket, shard_ticket}
+use Rattle.esr_core.specs.Turns.{plain_ticket}
+use Rattle.esr_core.specs.Generations.{IsLive, DoneAt}
+use Rattle.esr_core.specs.Allowed.{HasReady, StandsBefore, GivesShard}
+use Rattle.esr_core.specs.After.{shard_of, taken_by, taken_shard}
+use Rattle.esr_formats.specs.Ids.{number_of}
+use Rattle.esr_formats.specs.Infos.{info_of_code}
+use Rattle.esr_formats.specs.Roots.{root_of}
+use Rattle.esr_formats.specs.Clusters.{count_of}
+use Rattle.esr_results.specs.Results.{result_of}
+use Rattle.esr_progress.specs.declared.ready.Kind.{Kind}
+use Rattle.esr_progress.specs.declared.ready.Kind.TheVariants as ready
+use Rattle.esr_progress.specs.declared.unit.Seat.{Seat as CodeSeat}
+use Rattle.esr_progress.specs.declared.unit.SeatKind.{SeatKind}
+use Rattle.esr_progress.specs.declared.unit.SeatKind.TheVariants as kinds
+use Rattle.esr_progress.specs.declared.unit.Work.{Work as CodeWork}
+use Rattle.esr_progress.specs.declared.unit.Work.TheVariants as works
+use Rattle.esr_progress.specs.declared.unit.Copied.{Copied}
+use Rattle.esr_progress.specs.declared.unit.ReadyUnit.{ReadyUnit}
+use Rattle.esr_progress.specs.Plan.{Plan, Seat, UnitKind, OfShard, OfFinalize, OfDelete, OfDrop, kind_of, seat_of, seat_of_code, IsPlanOf, IsGivenIn}
+use Rattle.esr_progress.specs.Seats.{seat_at, is_swap_out, is_unit_out, is_master, is_of_shard}
+use Rattle.esr_progress.specs.Ops.{has_stopped, is_free, IsDoneAt, Among, IsMost, IsShardWork, IsFinalWork}
+use Rattle.esr_progress.specs.Inside.{plan_with, seats_with, numbers_of, Rise, IsProgress}
+use Rattle.esr_progress.specs.Units.{given_by, given_of, IsCopyOf, ShardGiven, GivesWork, GivesUnit, NextUnit}
+use Rattle.esr_progress.specs.Choice.{is_earliest, is_out_of, is_swapping, is_final, ready_of, NoneBefore, IsReadyAt, IsFirstReady, IsPossible, IsWorkFor, IsSeatOf, IsSeatFor, IsLiveIn, IsBaseFor, given_entry, AreShards}
+use Rattle.esr_progress.proofs.Lists.{Has-at, position-None, some_same, none_some}
+use Rattle.esr_progress.proofs.Entries.{FirstAt, first_at, from_set, get_from, find-member, eqb_is}
+use Rattle.esr_progress.proofs.Numbers.{found_member, entries_from, numbers-set}
+use Rattle.esr_progress.proofs.SeatMaps.{get-seats}
+use Rattle.esr_progress.proofs.Plans.{ticket_of, seats_put}
+use Rattle.esr_progress.proofs.Results.{most_like}
+use Rattle.esr_progress.proofs.Takes.{set_same}
+use Rattle.esr_progress.proofs.Choices.{Has-taken, or_true, or_left, or_right, both_true, and_true, not_true, is_false, is_true, clash, any_true, any_here, place_of, place_below, first_place, place_within, number_below, place_lower, goes_by, goes_on, stopped_by, has_by, NoneWaits, free_says, says_free, Earlier, not_earliest, none_earlier, all_done_by, picked, shard_found, stands_taken, free_alike}
+
+-- ---- kinds of work
+
+shard_kind : (work : Work) → IsShard work → is_of_shard (kind_of work) ≡ true
+shard_kind (Shard index number) h = refl
+shard_kind (Finalize info results made) h = absurd h
+shard_kind (Deleting uuids plan) h = absurd h
+shard_kind Drop h = absurd h
+
+kind_shard : (work : Work) → is_of_shard (kind_of work) ≡ true → IsShard work
+kind_shard (Shard index number) e = tt
+kind_shard (Finalize info results made) e = true≢false (sym e)
+kind_shard (Deleting uuids plan) e = true≢false (sym e)
+kind_shard Drop e = true≢false (sym e)
+
+master_kind : (work : Work) → IsMaster work → is_master (kind_of work) ≡ true
+master_kind (Shard index number) h = absurd h
+master_kind (Finalize info results made) h = refl
+master_kind (Deleting uuids plan) h = refl
+master_kind Drop h = absurd h
+
+kind_master : (work : Work) → is_master (kind_of work) ≡ true → IsMaster work
+kind_master (Shard index number) e = true≢false (sym e)
+kind_master (Finalize info results made) e = tt
+kind_master (Deleting uuids plan) e = tt
+kind_master Drop e = true≢false (sym e)
+
+-- ---- seats by their tickets
+
+coded : (o : Option CodeSeat) (s : Seat) → option_map seat_of_code o ≡ Some s → (c : CodeSeat) × (o ≡ Some c) × (seat_of_code c ≡ s)
+coded None s e = absurd (none_some s e)
+coded (Some c) s e = (c, refl, some_same (seat_of_code c) s e)
+
+seat_member : (seats : List CodeSeat) (k : ℕ) (c : CodeSeat) → seat_at seats k ≡ Some c → Has seats c
+seat_member seats zero c e = absurd (none_some c e)
+seat_member seats (suc k) c e = Has-at seats k c e
+
+if_some : {A : Type 0} (o : Option A) (P : A → Type 0) (x : A) → o ≡ Some x → IfSome o P → P x
+if_some {A} o P x e h = subst (λ (z : Option A). IfSome z P) e h
+
+-- the entry of a number that rises
+has_taken : {A : Type 0} (xs : List A) (i j : ℕ) (x : A) → j < i → slice_get xs j ≡ Some x → Has (take i xs) x
+has_taken [] i j x lt e = absurd (none_some x e)
+has_taken (y ∷ xs) zero j x lt e = absurd (omega arith)
+has_taken (y ∷ xs) (suc i) zero x lt e = inl (some_same y x e)
+has_taken (y ∷ xs) (suc i) (suc j) x lt e = inr (has_taken xs i j x (omega arith) e)
+
+pub entry_at : (ops : List (ℕ × Op)) → Rise (numbers_of ops) → (at : ℕ) (e : ℕ × Op) → slice_get ops at ≡ Some e → FirstAt ops e.0 at
+entry_at ops rise at e there =
+    let lt : at < length ops = slice_get_within ops at e there in
+    first_at ops e.0 at e lt (ap (λ (x : ℕ × Op). x.0) (get_or_from_slice_get ops at e e there))
+    (λ j below same. let less = number_below ops rise at e there (get_or ops j e) (has_taken ops at j (get_or ops j e) below (slice_get-get_or ops j e (omega arith))) in absurd (omega (arith, less, same)))
+
+-- the numbers stay where a shard is given
+given_numbers : (ops : List (ℕ × Op)) → Rise (numbers_of ops) → (at : ℕ) (e : ℕ × Op) → slice_get ops at ≡ Some e → (seat : SeatKind) (ticket : ℕ) → numbers_of (set ops at (given_entry seat ticket e)) ≡ numbers_of ops
+given_numbers ops rise at e there (kinds.Shard shard) ticket = numbers-set ops e.0 at (record e.1 { shards = map (given ticket shard.index.number shard.number) e.1.shards }) (entry_at ops rise at e there)
+given_numbers ops rise at e there kinds.Finalize ticket = numbers-set ops e.0 at e.1 (entry_at ops rise at e there)
+given_numbers ops rise at e there kinds.Drop ticket = numbers-set ops e.0 at e.1 (entry_at ops rise at e there)
+
+pub same_numbers : (ops here : List (ℕ × Op)) → here ≡ ops → (deletes : List (ℕ × Deletion)) (completed : List ℕ) (seats : List CodeSeat) (next : ℕ) (now : Plan) → plan_with ops deletes completed seats next ≡ now → IsProgress ops deletes next
+    → (at : ℕ) (e : ℕ × Op) → slice_get ops at ≡ Some e → (seat : SeatKind) (ticket : ℕ) (given_list : List (ℕ × Op)) → IfSome (slice_get here at) (λ (x : ℕ × Op). given_list ≡ set here at (given_entry seat ticket x))
+    → numbers_of given_list ≡ numbers_of (fin.entries now.ops)
+same_numbers ops here same deletes completed seats next now view h at e there seat ticket given_list given_is =
+    let list_is : given_list ≡ set here at (given_entry seat ticket e) = if_some (slice_get here at) (λ (x : ℕ × Op). given_list ≡ set here at (given_entry seat ticket x)) e (ap (λ es. slice_get es at) same ∙ there) given_is in
+    ap numbers_of (list_is ∙ ap (λ es. set es at (given_entry seat ticket e)) same) ∙ given_numbers ops h.ops_numbered.rise at e there seat ticket
+    ∙ ap numbers_of (sym (entries_from ops h.ops_numbered.rise)) ∙ ap (λ (p : Plan). numbers_of (fin.entries p.ops)) view
+
+module _ (ops : List (ℕ × Op)) (deletes : List (ℕ × Deletion)) (completed : List ℕ) (seats : List CodeSeat) (next : ℕ) (now : Plan) (view : plan_with ops deletes completed seats next ≡ now) (h : IsProgress ops deletes next)
+    (no_delete : now.deletes ≡ fin.empty) (root : RootData) (safe term : ℕ) (w : World) (is : IsGivenIn now root safe term w) where
+  rise : Rise (numbers_of ops)
+  rise = h.ops_numbered.rise
+
+  find_op : (q : ℕ) → fin.get w.ops q ≡ fin.find nat_cmp q ops
+  find_op q = ap (λ m. fin.get m q) (sym is.plan.ops) ∙ ap (λ (p : Plan). fin.get p.ops q) (sym view) ∙ get_from ops q
+
+  gone : (d : ℕ) (x : Deletion) → fin.get w.deletes d ≡ Some x → ⊥
+  gone d x e = none_some x (sym (fin.get-empty nat_cmp d) ∙ ap (λ (m : fin.FinMap nat_cmp Deletion). fin.get m d) (sym no_delete ∙ is.plan.deletes) ∙ e)
+
+  barrier : (o : ℕ) → Barrier w.deletes o → ⊥
+  barrier o b = gone b.number b.deletion b.there
+
+  completed_is : completed ≡ w.completed
+  completed_is = ap (λ (p : Plan). p.completed) view ∙ is.plan.completed
+
+  -- ---- tickets that are out
+
+  seat_is : (k : ℕ) → fin.get now.seats k ≡ option_map seat_of_code (seat_at seats k)
+  seat_is k = ap (λ (p : Plan). fin.get p.seats k) (sym view) ∙ get-seats seats k
+
+  seat_by : (k : ℕ) (t : Ticket) → fin.get w.tickets k ≡ Some t → (c : CodeSeat) × Has seats c × (seat_of_code c ≡ seat_of t)
+  seat_by k t e =
+      let (c, at, same) = coded (seat_at seats k) (seat_of t) (sym (seat_is k) ∙ is.plan.seats k ∙ ap (option_map seat_of) e) in
+      (c, seat_member seats k c at, same)
+
+  by_seat : (c : CodeSeat) → Has seats c → (k : ℕ) × ((t : Ticket) × (fin.get w.tickets k ≡ Some t) × (seat_of t ≡ seat_of_code c))
+  by_seat c m = let (k, at) = place_of seats c m in (suc k, ticket_of w now is.plan (suc k) (seat_of_code c) (seat_is (suc k) ∙ ap (option_map seat_of_code) at))
+
+  none_out : (o : ℕ) → is_out_of seats term o ≡ false → (k : ℕ) → UnitIsOut w.tickets w.term o k → ⊥
+  none_out o e k u =
+      let (c, m, same) = seat_by k u.t u.there in
+      let counts : (is_of_shard (kind_of u.t.work) || (u.t.term == term)) ≡ true = elim u.counts [
+        | inl shard ↦ or_left _ _ (shard_kind u.t.work shard)
+        | inr present ↦ or_right _ _ (eq-eqb u.t.term term (present ∙ is.term_is))
+      ] in
+      clash _ (any_here (λ (s : CodeSeat). is_unit_out term o (seat_of_code s)) seats c m (ap (is_unit_out term o) same ∙ both_true _ _ (both_true _ _ u.out (eq-eqb u.t.op o u.op_is)) counts)) e
+
+  some_out : (o : ℕ) → is_out_of seats term o ≡ true → (k : ℕ) × UnitIsOut w.tickets w.term o k
+  some_out o e =
+      let (c, m, test) = any_true (λ (s : CodeSeat). is_unit_out term o (seat_of_code s)) seats e in
+      let (k, found) = by_seat c m in
+      let t : Ticket = found.0 in
+      let tested : is_unit_out term o (seat_of t) ≡ true = ap (is_unit_out term o) found.2 ∙ test in
+      let (first, counts) = and_true _ _ tested in
+      let (out, op_is) = and_true _ _ first in
+      (k, record { t = t; there = found.1; out = out; op_is = eqb_is t.op o op_is; counts = elim (or_true _ _ counts) [ inl shard ↦ inl (kind_shard t.work shard) | inr present ↦ inr (eqb_is t.term term present ∙ sym is.term_is) ] })
+
+  none_swapping : is_swapping seats term ≡ false → (k : ℕ) → SwapIsOut w.tickets w.term k → ⊥
+  none_swapping e k u =
+      let (c, m, same) = seat_by k u.t u.there in
+      clash _ (any_here (λ (s : CodeSeat). is_swap_out term (seat_of_code s)) seats c m
+      (ap (is_swap_out term) same ∙ both_true _ _ (both_true _ _ (both_true _ _ u.out (ap not u.unsettled)) (eq-eqb u.t.term term (u.present ∙ is.term_is))) (master_kind u.t.work u.swaps))) e
+
+  some_swapping : is_swapping seats term ≡ true → (k : ℕ) × SwapIsOut w.tickets w.term k
+  some_swapping e =
+      let (c, m, test) = any_true (λ (s : CodeSeat). is_swap_out term (seat_of_code s)) seats e in
+      let (k, found) = by_seat c m in
+      let t : Ticket = found.0 in
+      let tested : is_swap_out term (seat_of t) ≡ true = ap (is_swap_out term) found.2 ∙ test in
+      let (first, swaps) = and_true _ _ tested in
+      let (second, present) = and_true _ _ first in
+      let (out, unsettled) = and_true _ _ second in
+      (k, record { t = t; there = found.1; out = out; unsettled = not_true _ unsettled; present = eqb_is t.term term present ∙ sym is.term_is; swaps = kind_master t.work swaps })
+
+  -- ---- units of the op at a place
+
+  module _ (at : ℕ) (e : ℕ × Op) (there : slice_get ops at ≡ Some e) where
+    found : fin.find nat_cmp e.0 ops ≡ Some e.1
+    found = found_member ops rise e (Has-at ops at e there)
+
+    got : fin.get w.ops e.0 ≡ Some e.1
+    got = find_op e.0 ∙ found
+
+    same_op : (op : Op) → fin.get w.ops e.0 ≡ Some op → op ≡ e.1
+    same_op op o = some_same op e.1 (sym o ∙ got)
+
+    shard_ready : (s : ShardWork) → ReadyShard w e.0 e.1 s → is_free (take at ops) s ≡ true
+    shard_ready s r = says_free ops rise at e there s r.pending (λ p q z lt f. r.first p q z lt (find_op p ∙ f))
+
+    ready_shard : (s : ShardWork) → has_stopped e.1 ≡ false → Has e.1.shards s → is_free (take at ops) s ≡ true → ReadyShard w e.0 e.1 s
+    ready_shard s goes m free =
+        let (pending, none) = free_says ops rise at e there s free in
+        record { op_there = got; s_there = m; pending = pending; goes = goes_by e.1 goes; no_barrier = barrier e.0; first = λ p q z lt f. none p q z lt (sym (find_op p) ∙ f) }
+
+    final_ready : (results : List ShardResult) → ReadyFinalize w e.0 e.1 results → is_final ops completed seats term e ≡ true
+    final_ready results r = both_true _ _ (all_done_by e.1.shards results r.done) (both_true _ _
+        (ap not (is_false _ (λ s. let (k, out) = some_swapping s in r.no_swap k out)))
+        (is_true _ (λ s. let x = not_earliest ops rise completed e.0 s in r.earliest x.p x.q (find_op x.p ∙ x.found) (goes_by x.q x.goes) (barrier x.p) (subst (λ (ns : List ℕ). Before ns x.p e.0) completed_is x.before))))
+
+    ready_final : (results : List ShardResult) → has_stopped e.1 ≡ false → AllDone e.1.shards results → is_final ops completed seats term e ≡ true → ReadyFinalize w e.0 e.1 results
+    ready_final results goes done final =
+        let (all, rest) = and_true _ _ final in
+        let (swap, early) = and_true _ _ rest in
+        record {
+          op_there = got;
+          done = done;
+          goes = goes_by e.1 goes;
+          no_barrier = barrier e.0;
+          no_swap = none_swapping (not_true _ swap);
+          earliest = λ p q f g b before. none_earlier ops rise completed e.0 early (record { p = p; q = q; found = sym (find_op p) ∙ f; goes = goes_on q g; before = subst (λ (ns : List ℕ). Before ns p e.0) (sym completed_is) before });
+        }
+
+    drop_ready : ReadyDrop w e.0 → (has_stopped e.1 ≡ true) × (is_out_of seats term e.0 ≡ false)
+    drop_ready r = (
+      elim r.stopped [ inl x ↦ ap has_stopped (sym (same_op x.0 x.1)) ∙ has_by x.0 x.2 | inr x ↦ absurd (gone e.0 x.0 x.1) ],
+      is_false _ (λ s. let (k, out) = some_out e.0 s in r.idle k out),
+    )
+
+    ready_drop : has_stopped e.1 ≡ true → is_out_of seats term e.0 ≡ false → ReadyDrop w e.0
+    ready_drop stopped out = record { stopped = inl (e.1, got, stopped_by e.1 stopped); idle = none_out e.0 out }
+
+    -- where the search finds none, none is ready
+    none_ready : ready_of ops completed seats term (take at ops) e ≡ None → HasReady w e.0 → ⊥
+    none_ready none (inl (op, s, r0)) =
+        let r = subst (λ (o : Op). ReadyShard w e.0 o s) (same_op op r0.op_there) r0 in
+        elim (picked ops completed seats term (take at ops) e None none) [
+          | inl x ↦ clash _ x.0 (goes_on e.1 r.goes)
+          | inr x ↦ clash _ (shard_ready s r) (position-None (is_free (take at ops)) e.1.shards x.1 s r.s_there)
+        ]
+    none_ready none (inr (inl (op, results, r0))) =
+        let r = subst (λ (o : Op). ReadyFinalize w e.0 o results) (same_op op r0.op_there) r0 in
+        elim (picked ops completed seats term (take at ops) e None none) [
+          | inl x ↦ clash _ x.0 (goes_on e.1 r.goes)
+          | inr x ↦ clash _ (final_ready results r) x.2
+        ]
+    none_ready none (inr (inr (inl r))) =
+        let (stopped, out) = drop_ready r in
+        elim (picked ops completed seats term (take at ops) e None none) [
+          | inl x ↦ clash _ x.1 out
+          | inr x ↦ clash _ stopped x.0
+        ]
+    none_ready none (inr (inr (inr (x, inl r)))) = gone e.0 x r.there
+    none_ready none (inr (inr (inr (x, inr r)))) = gone e.0 x r.there
+
+  -- an op of which a unit is ready is in the list
+  open_of : (o : ℕ) → HasReady w o → (op : Op) × Has ops (o, op)
+  open_of o (inl (op, s, r)) = (op, find-member o ops op (sym (find_op o) ∙ r.op_there))
+  open_of o (inr (inl (op, results, r))) = (op, find-member o ops op (sym (find_op o) ∙ r.op_there))
+  open_of o (inr (inr (inl r))) = elim r.stopped [ inl x ↦ (x.0, find-member o ops x.0 (sym (find_op o) ∙ x.1)) | inr x ↦ absurd (gone o x.0 x.1) ]
+  open_of o (inr (inr (inr (x, inl r)))) = absurd (gone o x r.there)
+  open_of o (inr (inr (inr (x, inr r)))) = absurd (gone o x r.there)
+
+  lowest : (at : ℕ) (e : ℕ × Op) → slice_get ops at ≡ Some e → NoneBefore ops completed seats term at → (p : ℕ) → p < e.0 → HasReady w p → ⊥
+  lowest at e there before p lt r =
+      let (op, m) = open_of p r in
+      let (k, below, here) = place_below ops at (p, op) (place_lower ops rise at e there (p, op) m lt) in
+      none_ready k (p, op) here (before k (p, op) below here) r
+
+  any_of : AnyReady w → (o : ℕ) × HasReady w o
+  any_of (AShard o op s r) = (o, inl (op, s, r))
+  any_of (AFinalize o op results r) = (o, inr (inl (op, results, r)))
+  any_of (ADrop o r) = (o, inr (inr (inl r)))
+  any_of (ADelete d x r) = (d, inr (inr (inr (x, inl r))))
+  any_of (ACleanup d x r) = (d, inr (inr (inr (x, inr r))))
+
+  pub nothing : NoneBefore ops completed seats term (length ops) → AnyReady w → ⊥
+  nothing before any =
+      let (o, r) = any_of any in
+      let (op, m) = open_of o r in
+      let (k, here) = place_of ops (o, op) m in
+      none_ready k (o, op) here (before k (o, op) (slice_get_within ops k (o, op) here) here) r
+
+  -- ---- what is given
+
+  -- a ticket more
+  ticketed : (t : Ticket) (s : Seat) (ops_now : fin.FinMap nat_cmp Op) (ops_then : fin.FinMap nat_cmp Op) → ops_now ≡ ops_then → seat_of t ≡ s
+      → IsPlanOf (record w { ops = ops_then; tickets = fin.insert w.tickets w.next_ticket t; next_ticket = suc w.next_ticket })
+      (record now { ops = ops_now; seats = fin.insert now.seats now.next_ticket s; next_ticket = suc now.next_ticket })
+  ticketed t s ops_now ops_then ops_is seat = record {
+    ops = ops_is;
+    deletes = is.plan.deletes;
+    completed = is.plan.completed;
+    seats = λ k. ap (λ n. fin.get (fin.insert now.seats n s) k) is.plan.next_ticket ∙ seats_put w now is.plan w.next_ticket t s seat k;
+    next_op = is.plan.next_op;
+    next_ticket = ap suc is.plan.next_ticket;
+  }
+
+  ops_is : fin.from_entries {R = nat_cmp} ops ≡ w.ops
+  ops_is = ap (λ (p : Plan). p.ops) view ∙ is.plan.ops
+
+  -- the seat, and the list, of a unit of this op
+  abbrev seat_for : SeatKind → ℕ → CodeSeat
+  seat_for kind o = record { kind = kind; op = o; term = term; raised = None; settled = false; out = true }
+
+  abbrev seated : SeatKind → ℕ × Op → ℕ → ℕ → Plan
+  seated kind e at ticket = record now { ops = fin.from_entries (set ops at (given_entry kind ticket e)); seats = fin.insert now.seats now.next_ticket (seat_of_code (seat_for kind e.0)); next_ticket = suc now.next_ticket }
+
+  -- what the unit is, and the list with its ticket
+  abbrev IsGivenBy : ℕ × Op → ℕ → ℕ → CodeWork → SeatKind → Copied → Type 0
+  IsGivenBy e at ticket work kind copy = GivesWork w e.0 work copy × ((f : Formats) → IsPlanOf (taken_by f w e.0 (given_by work copy) (fin.get w.ops e.0)) (seated kind e at ticket))
+
+  module _ (at : ℕ) (e : ℕ × Op) (there : slice_get ops at ≡ Some e) (rule : AreShards e.1.shards) (ticket : ℕ) (ticket_is : ticket ≡ suc (length seats)) (copy : Copied) where
+    unchanged : (kind : SeatKind) → given_entry kind ticket e ≡ e → fin.from_entries {R = nat_cmp} (set ops at (given_entry kind ticket e)) ≡ w.ops
+    unchanged kind same = ap (λ (x : ℕ × Op). fin.from_entries {R = nat_cmp} (set ops at x)) same ∙ ap (λ (es : List (ℕ × Op)). fin.from_entries {R = nat_cmp} es) (set_same ops at e there) ∙ ops_is
+
+    gives_drop : ready_of ops completed seats term (take at ops) e ≡ Some ready.Drop → IsGivenBy e at ticket works.Drop kinds.Drop copy
+    gives_drop chosen =
+        let (stopped, out) = picked ops completed seats term (take at ops) e (Some ready.Drop) chosen in (
+          ready_drop at e there stopped out,
+          λ f. ticketed (plain_ticket w e.0 Drop) (seat_of_code (seat_for kinds.Drop e.0)) _ w.ops (unchanged kinds.Drop refl)
+              (λ i. record { kind = OfDrop; op = e.0; term = is.term_is i; raised = None; settled = false; out = true }),
+        )
+
+    gives_final : (work : CodeWork) → ready_of ops completed seats term (take at ops) e ≡ Some ready.Finalize → IsFinalWork e.1 work → IsGivenBy e at ticket work kinds.Finalize copy
+    gives_final (works.Shard uuid shard index place) chosen h = absurd h
+    gives_final works.Drop chosen h = absurd h
+    gives_final (works.Finalize info shards) chosen h =
+        let (goes, free, final) = picked ops completed seats term (take at ops) e (Some ready.Finalize) chosen in (
+          (e.1, ready_final at e there (map result_of shards) goes h.0 final, h.1),
+          λ f.
+              subst (λ (o : Option Op). IsPlanOf (taken_by f w e.0 (given_by (works.Finalize info shards) copy) o) (seated kinds.Finalize e at ticket)) (sym (got at e there))
+              (ticketed (final_ticket f w e.0 e.1 (map result_of shards)) (seat_of_code (seat_for kinds.Finalize e.0)) _ w.ops (unchanged kinds.Finalize refl)
+              (λ i. record { kind = OfFinalize; op = e.0; term = is.term_is i; raised = None; settled = false; out = true })),
+        )
+
+    largest_by : (index number : ℕ) (base : Option ℕ) → IsMost (IsLive w.root w.ops index number) base → Largest w index number base
+    largest_by index number None m = m
+    largest_by index number (Some b) m = m
+
+    live : (index number : ℕ) (base : Option ℕ) → IsMost (IsLiveIn root ops index number) base → IsMost (IsLive w.root w.ops index number) base
+    live index number base m = most_like (IsLiveIn root ops index number) (IsLive w.root w.ops index number) base to back m
+      where
+        to : (g : ℕ) → IsLiveIn root ops index number g → IsLive w.root w.ops index number g
+        to g (inl x) = inl (subst (λ (r : RootData). Generation r index number g) (sym is.root_is) x)
+        to g (inr (x, hx, (s, hs, d))) = inr (
+          x.1.uuid,
+          record {
+            number = x.0;
+            op = x.1;
+            there = find_op x.0 ∙ found_member ops rise x hx;
+            uuid_is = refl;
+            s = s;
+            s_there = hs;
+            r = d.r;
+            state = d.state;
+            index_is = d.index_is;
+            shard_is = d.number_is;
+            generation_is = d.generation_is;
+          },
+        )
+
+        back : (g : ℕ) → IsLive w.root w.ops index number g → IsLiveIn root ops index number g
+        back g (inl x) = inl (subst (λ (r : RootData). Generation r index number g) is.root_is x)
+        back g (inr (uuid, d)) = inr ((d.number, d.op), find-member d.number ops d.op (sym (find_op d.number) ∙ d.there), (d.s, d.s_there, record { r = d.r; state = d.state; index_is = d.index_is; number_is = d.shard_is; generation_is = d.generation_is }))
+
+    module _ (i : ℕ) (found : ready_of ops completed seats term (take at ops) e ≡ Some (ready.Shard i)) (s : ShardWork) (here : slice_get e.1.shards i ≡ Some s) where
+      free_at : position (is_free (take at ops)) e.1.shards ≡ Some i
+      free_at = (picked ops completed seats term (take at ops) e (Some (ready.Shard i)) found).1
+
+      before_it : (z : ShardWork) → Has (take i e.1.shards) z → is_free (take at ops) z ≡ false
+      before_it = (first_place (is_free (take at ops)) e.1.shards i s free_at here).1
+
+      is_ready : ReadyShard w e.0 e.1 s
+      is_ready = ready_shard at e there s (picked ops completed seats term (take at ops) e (Some (ready.Shard i)) found).0 (Has-at e.1.shards i s here) (first_place (is_free (take at ops)) e.1.shards i s free_at here).0
+
+      is_found : (index number : ℕ) → s.ref.id ≡ index → s.number ≡ number → shard_of e.1.shards index number ≡ Some s
+      is_found index number id n = shard_found index number e.1.shards i s here id n
+          (λ z m zid zn.
+          let hz = Has-taken e.1.shards i z m in
+          let same : is_free (take at ops) s ≡ is_free (take at ops) z = free_alike (take at ops) s z (id ∙ sym zid) (n ∙ sym zn) (rule.alike s z (Has-at e.1.shards i s here) hz (id ∙ sym zid) (n ∙ sym zn)) in
+          clash _ (sym same ∙ (first_place (is_free (take at ops)) e.1.shards i s free_at here).0) (before_it z m))
+
+      gives_one : (index number uuid : ℕ) (name place : Bytes) (base : Option ℕ) → s.ref.id ≡ index → s.number ≡ number → uuid ≡ e.1.uuid → name ≡ s.ref.name → place ≡ s.place
+          → IsMost (IsLiveIn root ops s.ref.id s.number) base → ShardGiven w e.0 index number base uuid name place
+      gives_one index number uuid name place base id n uuid_is name_is place_is most = record {
+        gives = record {
+          op = e.1;
+          s = s;
+          found = is_found index number id n;
+          ready = is_ready;
+          first = λ z before r. clash _ (shard_ready at e there z r) (before_it z (stands_taken e.1.shards i z s here before));
+          largest = largest_by s.ref.id s.number base (live s.ref.id s.number base most);
+        };
+        uuid_is = uuid_is;
+        name_is = name_is;
+        place_is = place_is;
+        few = subst (λ (k : ℕ). k < 1024) n (rule.few s (Has-at e.1.shards i s here));
+      }
+
+      -- the list in which it is given
+      takes_one : (index number : ℕ) (base : Option ℕ) (own : ShardId) → s.ref.id ≡ index → s.number ≡ number → s.ref.id ≡ own.index.number → s.number ≡ own.number
+          → (f : Formats) → IsPlanOf (taken_by f w e.0 (GivenShard index number base) (fin.get w.ops e.0)) (seated (kinds.Shard own) e at ticket)
+      takes_one index number base own id n own_id own_number f =
+          let count : ticket ≡ w.next_ticket = ticket_is ∙ ap (λ (p : Plan). p.next_ticket) view ∙ is.plan.next_ticket in
+          let put : fin.from_entries {R = nat_cmp} (set ops at (given_entry (kinds.Shard own) ticket e)) ≡ fin.insert w.ops e.0 (record e.1 { shards = map (given w.next_ticket s.ref.id s.number) e.1.shards }) =
+          from_set ops e.0 at (record e.1 { shards = map (given ticket own.index.number own.number) e.1.shards }) (entry_at ops rise at e there)
+          ∙ (λ j. fin.insert (ops_is j) e.0 (record e.1 { shards = map (given (count j) (sym own_id j) (sym own_number j)) e.1.shards })) in
+          subst (λ (o : Option Op). IsPlanOf (taken_by f w e.0 (GivenShard index number base) o) (seated (kinds.Shard own) e at ticket)) (sym (got at e there))
+          (subst (λ (o : Option ShardWork). IsPlanOf (taken_shard w e.0 e.1 base o) (seated (kinds.Shard own) e at ticket)) (sym (is_found index number id n))
+          (ticketed (shard_ticket w e.0 e.1 s base) (seat_of_code (seat_for (kinds.Shard own) e.0)) _ _ put
+          (λ j. record { kind = OfShard (own_id j) (own_number j); op = e.0; term = is.term_is j; raised = None; settled = false; out = true })))
+
+      gives_shard : (work : CodeWork) (kind : SeatKind) → IsShardWork e.1 s work → IsSeatOf s kind → IsBaseFor root ops kind copy.base → IsGivenBy e at ticket work kind copy
+      gives_shard (works.Finalize info shards) kind h seat base = absurd h
+      gives_shard works.Drop kind h seat base = absurd h
+      gives_shard (works.Shard uuid shard index place) kinds.Finalize h seat base = absurd seat
+      gives_shard (works.Shard uuid shard index place) kinds.Drop h seat base = absurd seat
+      gives_shard (works.Shard uuid shard index place) (kinds.Shard own) h seat base =
+          let most : IsMost (IsLiveIn root ops s.ref.id s.number) (option_map number_of copy.base) =
+          subst (λ (a : ℕ). IsMost (IsLiveIn root ops a s.number) (option_map number_of copy.base)) (sym seat.0) (subst (λ (n : ℕ). IsMost (IsLiveIn root ops own.index.number n) (option_map number_of copy.base)) (sym seat.1) base) in (
+            gives_one shard.index.number shard.number uuid.number index place (option_map number_of copy.base) (sym h.1) (sym h.2) h.0 h.3 h.4 most,
+            takes_one shard.index.number shard.number (option_map number_of copy.base) own (sym h.1) (sym h.2) seat.0 seat.1,
+          )
+
+    gives_any : (kind : Kind) → ready_of ops completed seats term (take at ops) e ≡ Some kind → (work : CodeWork) (seat : SeatKind) → IsWorkFor e.1 kind work → IsSeatFor e.1 kind seat → IsBaseFor root ops seat copy.base
+        → IsGivenBy e at ticket work seat copy
+    gives_any (ready.Shard i) found work seat hw hs base =
+        let (within, at_i) = place_within (is_free (take at ops)) e.1.shards i (picked ops completed seats term (take at ops) e (Some (ready.Shard i)) found).1 in
+        gives_shard i found at_i.0 at_i.1 work seat (if_some _ (λ s. IsShardWork e.1 s work) at_i.0 at_i.1 hw) (if_some _ (λ s. IsSeatOf s seat) at_i.0 at_i.1 hs) base
+    gives_any ready.Finalize found work seat hw hs base = subst (λ (k : SeatKind). IsGivenBy e at ticket work k copy) (sym hs) (gives_final work found hw)
+    gives_any ready.Drop found work seat hw hs base =
+        subst (λ (k : SeatKind). IsGivenBy e at ticket work k copy) (sym hs) (subst (λ (k : CodeWork). IsGivenBy e at ticket k kinds.Drop copy) (sym hw) (gives_drop found))
+
+  pub next_is : (at : ℕ) (kind : Kind) (r : IsReadyAt ops completed seats term at kind) (e : ℕ × Op) → slice_get ops at ≡ Some e → AreShards e.1.shards → (ticket : ℕ) → ticket ≡ suc (length seats)
+      → (o : ℕ) → o ≡ e.0 → (work : CodeWork) (seat : SeatKind) (copy : Copied) → IsWorkFor e.1 kind work → IsSeatFor e.1 kind seat → IsBaseFor root ops seat copy.base → count_of copy.safe ≡ safe → root_of copy.root ≡ root
+      → (given_list : List (ℕ × Op)) → IfSome (slice_get ops at) (λ (x : ℕ × Op). given_list ≡ set ops at (given_entry seat ticket x))
+      → (new : Plan) → new ≡ record now { ops = fin.from_entries given_list; seats = fin.insert now.seats now.next_ticket (seat_of_code (seat_for seat o)); next_ticket = suc now.next_ticket }
+      → NextUnit w (Some (new, record { ticket = ticket; op = o; work = work; copy = copy }))
+  next_is at kind r e there rule ticket ticket_is o o_is work seat copy hw hs base safe_is root_is given_list given_is new new_is =
+      let entry : r.e ≡ e = some_same r.e e (sym r.there ∙ there) in
+      let found : ready_of ops completed seats term (take at ops) e ≡ Some kind = ap (ready_of ops completed seats term (take at ops)) (sym entry) ∙ r.is in
+      let both : IsGivenBy e at ticket work seat copy = gives_any at e there rule ticket ticket_is copy kind found work seat hw hs base in
+      let list_is : given_list ≡ set ops at (given_entry seat ticket e) = if_some _ (λ (x : ℕ × Op). given_list ≡ set ops at (given_entry seat ticket x)) e there given_is in
+      let plan_is : seated seat e at ticket ≡ new =
+      sym (new_is ∙ (λ i. record now { ops = fin.from_entries (list_is i); seats = fin.insert now.seats now.next_ticket (seat_of_code (seat_for seat (o_is i))); next_ticket = suc now.next_ticket })) in
+      subst (λ (k : ℕ). NextUnit w (Some (new, record { ticket = ticket; op = k; work = work; copy = copy }))) (sym o_is) (
+        record {
+          ticket = ticket_is ∙ ap (λ (p : Plan). p.next_ticket) view ∙ is.plan.next_ticket;
+          lowest = lowest at e there r.before;
+          gives = both.0;
+          copy = record { safe = safe_is ∙ sym is.safe_is; root = root_is ∙ sym is.root_is };
+        },
+        λ f. subst (λ (p : Plan). IsPlanOf (taken_by f w e.0 (given_by work copy) (fin.get w.ops e.0)) p) plan_is (both.1 f),
+      )

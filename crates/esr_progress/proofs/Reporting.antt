@@ -1,0 +1,140 @@
+-- Worlds after a report, and the plans that the code makes.
+use Rattle.std.proofs.Common.{◌≡◌, ℕ, Bool, true, false, cond, ◌&&◌, ◌==◌, Option, Some, None, option_map, refl, sym, ap, ◌∙◌, subst}
+use Rattle.std.specs.Prelude.{not}
+use Rattle.std.specs.FinMap as fin
+use Rattle.esr_model.specs.Values.{ShardResult, Formats}
+use Rattle.esr_core.specs.World.{World, Op, Ticket, Swap, swap, Work, Shard, Finalize, Deleting, Drop}
+use Rattle.esr_core.specs.Steps.{completing}
+use Rattle.esr_core.specs.After.{with_given, change, raised, settled_by, settled_of, done_of, failed_of, is_stale, dropped_of}
+use Rattle.esr_core.specs.After as after
+use Rattle.esr_progress.specs.Plan.{Plan, Seat, seat_of, kind_of, IsPlanOf}
+use Rattle.esr_progress.specs.Seats.{is_of_shard}
+use Rattle.esr_progress.specs.Changes.{with_seat, op_marked, op_failed, seat_ended, seat_settled, seat_raised, seat_changed, op_left, is_stale_seat, done_by, done_in, failed_by, failed_in}
+use Rattle.esr_progress.proofs.Plans.{seats_put}
+
+module _ (w : World) (p : Plan) (is : IsPlanOf w p) (k : ℕ) where
+  -- ---- the ticket alone
+
+  changed : (g : Seat → Seat) (h : Ticket → Ticket) → ((t : Ticket) → seat_of (h t) ≡ g (seat_of t)) → IsPlanOf (change w k h) (seat_changed g p k (fin.get p.seats k))
+  changed g h keeps = subst (λ o. IsPlanOf (change w k h) (seat_changed g p k o)) (sym (is.seats k)) (go (fin.get w.tickets k))
+    where
+      go : (o : Option Ticket) → IsPlanOf (with_given w k h o) (seat_changed g p k (option_map seat_of o))
+      go None = is
+      go (Some t) = record { ops = is.ops; deletes = is.deletes; completed = is.completed; seats = seats_put w p is k (h t) (g (seat_of t)) (keeps t); next_op = is.next_op; next_ticket = is.next_ticket }
+
+  raised_by : (n : ℕ) → w.pending ≡ n → IsPlanOf (raised w k) (seat_changed (seat_raised n) p k (fin.get p.seats k))
+  raised_by n e =
+      let x = changed (seat_raised n) (λ t. record t { raised = Some w.pending }) (λ t. ap (λ m. seat_raised m (seat_of t)) e) in
+      record { ops = x.ops; deletes = x.deletes; completed = x.completed; seats = x.seats; next_op = x.next_op; next_ticket = x.next_ticket }
+
+  -- ---- its op leaves
+
+  dropped_by : IsPlanOf (dropped_of w k (fin.get w.tickets k)) (op_left seat_ended p k (fin.get p.seats k))
+  dropped_by = subst (λ o. IsPlanOf (dropped_of w k (fin.get w.tickets k)) (op_left seat_ended p k o)) (sym (is.seats k)) (go (fin.get w.tickets k))
+    where
+      go : (o : Option Ticket) → IsPlanOf (dropped_of w k o) (op_left seat_ended p k (option_map seat_of o))
+      go None = is
+      go (Some t) = record {
+        ops = λ j. fin.remove (is.ops j) t.op;
+        deletes = λ j. fin.remove (is.deletes j) t.op;
+        completed = is.completed;
+        seats = seats_put w p is k (record t { out = false }) (seat_ended (seat_of t)) refl;
+        next_op = is.next_op;
+        next_ticket = is.next_ticket;
+      }
+
+  settled_there : (f : Formats) (t : Ticket) (s : Swap) (n : ℕ) → fin.get w.tickets k ≡ Some t → swap f t ≡ Some s → t.raised ≡ Some n → IsPlanOf (settled_of f w k (Some t)) (op_left seat_settled p k (fin.get p.seats k))
+  settled_there f t s n there swaps raises =
+      subst (λ o. IsPlanOf (settled_of f w k (Some t)) (op_left seat_settled p k o)) (sym (is.seats k ∙ ap (option_map seat_of) there))
+      (subst (λ (o : Option Swap). IsPlanOf (settled_by f w k t o t.raised) (op_left seat_settled p k (Some (seat_of t)))) (sym swaps)
+      (subst (λ (o : Option ℕ). IsPlanOf (settled_by f w k t (Some s) o) (op_left seat_settled p k (Some (seat_of t)))) (sym raises) (record {
+        ops = λ j. fin.remove (is.ops j) t.op;
+        deletes = λ j. fin.remove (is.deletes j) t.op;
+        completed = is.completed;
+        seats = seats_put w p is k (record t { settled = true }) (seat_settled (seat_of t)) refl;
+        next_op = is.next_op;
+        next_ticket = is.next_ticket;
+      })))
+
+  -- ---- its op goes on
+
+  done_there : (r : ShardResult) → IsPlanOf (done_of w k r (fin.get w.tickets k)) (done_in p k r (fin.get p.seats k))
+  done_there r = subst (λ o. IsPlanOf (done_of w k r (fin.get w.tickets k)) (done_in p k r o)) (sym (is.seats k)) (go (fin.get w.tickets k))
+    where
+      inner : (t : Ticket) (o : Option Op) → IsPlanOf (after.done_by w k r t o) (done_by p k r (seat_of t) o)
+      inner t None = is
+      inner t (Some op) = record {
+        ops = λ j. fin.insert (is.ops j) t.op (op_marked k r op);
+        deletes = is.deletes;
+        completed = λ j. completing (is.completed j) t.op (op_marked k r op).shards;
+        seats = seats_put w p is k (record t { out = false }) (seat_ended (seat_of t)) refl;
+        next_op = is.next_op;
+        next_ticket = is.next_ticket;
+      }
+
+      go : (o : Option Ticket) → IsPlanOf (done_of w k r o) (done_in p k r (option_map seat_of o))
+      go None = is
+      go (Some t) = subst (λ m. IsPlanOf (after.done_by w k r t (fin.get w.ops t.op)) (done_by p k r (seat_of t) (fin.get m t.op))) (sym is.ops) (inner t (fin.get w.ops t.op))
+
+  not_is : (b : Bool) → cond b false true ≡ not b
+  not_is true = refl
+  not_is false = refl
+
+  stale_by : (t : Ticket) (x : Work) → is_stale w t x ≡ (not (is_of_shard (kind_of x)) && not (t.term == w.term))
+  stale_by t (Shard index number) = refl
+  stale_by t (Finalize info results made) = not_is (t.term == w.term)
+  stale_by t (Deleting uuids plan) = not_is (t.term == w.term)
+  stale_by t Drop = not_is (t.term == w.term)
+
+  failed_there : (term : ℕ) → w.term ≡ term → IsPlanOf (failed_of w k (fin.get w.tickets k)) (failed_in term p k (fin.get p.seats k))
+  failed_there term e = subst (λ o. IsPlanOf (failed_of w k (fin.get w.tickets k)) (failed_in term p k o)) (sym (is.seats k)) (go (fin.get w.tickets k))
+    where
+      inner : (t : Ticket) (o : Option Op) → IsPlanOf (after.failed_by w k t o) (failed_by p k (seat_of t) o)
+      inner t None = is
+      inner t (Some op) = record {
+        ops = λ j. fin.insert (is.ops j) t.op (op_failed k op);
+        deletes = is.deletes;
+        completed = is.completed;
+        seats = seats_put w p is k (record t { out = false }) (seat_ended (seat_of t)) refl;
+        next_op = is.next_op;
+        next_ticket = is.next_ticket;
+      }
+
+      fresh : (t : Ticket) → IsPlanOf (after.failed_by w k t (fin.get w.ops t.op)) (failed_by p k (seat_of t) (fin.get p.ops t.op))
+      fresh t = subst (λ m. IsPlanOf (after.failed_by w k t (fin.get w.ops t.op)) (failed_by p k (seat_of t) (fin.get m t.op))) (sym is.ops) (inner t (fin.get w.ops t.op))
+
+      stale : (t : Ticket) → IsPlanOf (record w { tickets = fin.insert w.tickets k (record t { out = false }) }) (with_seat p k (seat_ended (seat_of t)))
+      stale t = record { ops = is.ops; deletes = is.deletes; completed = is.completed; seats = seats_put w p is k (record t { out = false }) (seat_ended (seat_of t)) refl; next_op = is.next_op; next_ticket = is.next_ticket }
+
+      either : (t : Ticket) (b : Bool) → IsPlanOf (cond b (record w { tickets = fin.insert w.tickets k (record t { out = false }) }) (after.failed_by w k t (fin.get w.ops t.op)))
+          (cond b (with_seat p k (seat_ended (seat_of t))) (failed_by p k (seat_of t) (fin.get p.ops t.op)))
+      either t true = stale t
+      either t false = fresh t
+
+      go : (o : Option Ticket) → IsPlanOf (failed_of w k o) (failed_in term p k (option_map seat_of o))
+      go None = is
+      go (Some t) =
+          let same : is_stale w t t.work ≡ is_stale_seat term (seat_of t) = stale_by t t.work ∙ ap (λ n. not (is_of_shard (kind_of t.work)) && not (t.term == n)) e in
+          subst (λ b. IsPlanOf (failed_of w k (Some t)) (cond b (with_seat p k (seat_ended (seat_of t))) (failed_by p k (seat_of t) (fin.get p.ops t.op)))) same (either t (is_stale w t t.work))
+
+-- ---- what the code makes of a copy
+
+module _ (p q new : Plan) (k : ℕ) (copied : q ≡ p) where
+  pub ended_is : new ≡ seat_changed seat_ended q k (fin.get q.seats k) → (w : World) → IsPlanOf w p → IsPlanOf (change w k (λ t. record t { out = false })) new
+  ended_is e w is = subst (IsPlanOf (change w k (λ t. record t { out = false }))) (sym (e ∙ ap (λ (z : Plan). seat_changed seat_ended z k (fin.get z.seats k)) copied)) (changed w p is k seat_ended (λ t. record t { out = false }) (λ t. refl))
+
+  pub raised_is : (n : ℕ) → new ≡ seat_changed (seat_raised n) q k (fin.get q.seats k) → (w : World) → IsPlanOf w p → w.pending ≡ n → IsPlanOf (raised w k) new
+  raised_is n e w is pending = subst (IsPlanOf (raised w k)) (sym (e ∙ ap (λ (z : Plan). seat_changed (seat_raised n) z k (fin.get z.seats k)) copied)) (raised_by w p is k n pending)
+
+  pub dropped_is : new ≡ op_left seat_ended q k (fin.get q.seats k) → (w : World) → IsPlanOf w p → IsPlanOf (dropped_of w k (fin.get w.tickets k)) new
+  dropped_is e w is = subst (IsPlanOf (dropped_of w k (fin.get w.tickets k))) (sym (e ∙ ap (λ (z : Plan). op_left seat_ended z k (fin.get z.seats k)) copied)) (dropped_by w p is k)
+
+  pub settled_is : new ≡ op_left seat_settled q k (fin.get q.seats k)
+      → (f : Formats) (w : World) (t : Ticket) (s : Swap) (n : ℕ) → IsPlanOf w p → fin.get w.tickets k ≡ Some t → swap f t ≡ Some s → t.raised ≡ Some n → IsPlanOf (settled_of f w k (Some t)) new
+  settled_is e f w t s n is there swaps raises = subst (IsPlanOf (settled_of f w k (Some t))) (sym (e ∙ ap (λ (z : Plan). op_left seat_settled z k (fin.get z.seats k)) copied)) (settled_there w p is k f t s n there swaps raises)
+
+  pub done_is : (r : ShardResult) → new ≡ done_in q k r (fin.get q.seats k) → (w : World) → IsPlanOf w p → IsPlanOf (done_of w k r (fin.get w.tickets k)) new
+  done_is r e w is = subst (IsPlanOf (done_of w k r (fin.get w.tickets k))) (sym (e ∙ ap (λ (z : Plan). done_in z k r (fin.get z.seats k)) copied)) (done_there w p is k r)
+
+  pub failed_is : (term : ℕ) → new ≡ failed_in term q k (fin.get q.seats k) → (w : World) → IsPlanOf w p → w.term ≡ term → IsPlanOf (failed_of w k (fin.get w.tickets k)) new
+  failed_is term e w is in_term = subst (IsPlanOf (failed_of w k (fin.get w.tickets k))) (sym (e ∙ ap (λ (z : Plan). failed_in term z k (fin.get z.seats k)) copied)) (failed_there w p is k term in_term)

@@ -1,0 +1,71 @@
+-- What the reports of units change in a plan.
+use Rattle.std.specs.Prelude.{ℕ, Bool, true, false, not, ◌&&◌, ◌==◌, [], ◌∷◌, ◌++◌, Option, Some, None, map, if◌then◌else◌}
+use Rattle.std.specs.FinMap as fin
+use Rattle.esr_model.specs.Values.{ShardResult}
+use Rattle.esr_core.specs.World.{Op, Done, marked}
+use Rattle.esr_core.specs.Steps.{completing}
+use Rattle.esr_core.specs.Turns.{fails}
+use Rattle.esr_progress.specs.Plan.{Seat, Plan}
+use Rattle.esr_progress.specs.Seats.{is_of_shard}
+
+abbrev pub with_seat : Plan → ℕ → Seat → Plan
+with_seat p k s = record p { seats = fin.insert p.seats k s }
+
+-- the op, or the delete, has left
+abbrev pub without_op : Plan → ℕ → Plan
+without_op p o = record p { ops = fin.remove p.ops o; deletes = fin.remove p.deletes o }
+
+-- the op has completed, where it has
+abbrev pub with_completed : Bool → Plan → ℕ → Plan
+with_completed completes p o = record p { completed = if completes then p.completed ++ o ∷ [] else p.completed }
+
+-- the op given anew, where there is one
+abbrev pub op_changed : (Op → Op) → Plan → ℕ → Option Op → Plan
+op_changed g p o None = p
+op_changed g p o (Some op) = record p { ops = fin.insert p.ops o (g op) }
+
+abbrev pub op_marked : ℕ → ShardResult → Op → Op
+op_marked k r op = record op { shards = map (marked k (Done r)) op.shards }
+
+abbrev pub op_failed : ℕ → Op → Op
+op_failed k op = record op { shards = map (fails k) op.shards; failed = true }
+
+abbrev pub seat_ended : Seat → Seat
+seat_ended s = record s { out = false }
+
+abbrev pub seat_settled : Seat → Seat
+seat_settled s = record s { settled = true }
+
+abbrev pub seat_raised : ℕ → Seat → Seat
+seat_raised n s = record s { raised = Some n }
+
+-- a unit of a master that is none any more
+abbrev pub is_stale_seat : ℕ → Seat → Bool
+is_stale_seat term s = not (is_of_shard s.kind) && not (s.term == term)
+
+-- ---- by what is kept of the ticket
+
+abbrev pub seat_changed : (Seat → Seat) → Plan → ℕ → Option Seat → Plan
+seat_changed g p k None = p
+seat_changed g p k (Some s) = with_seat p k (g s)
+
+-- its op has left too
+abbrev pub op_left : (Seat → Seat) → Plan → ℕ → Option Seat → Plan
+op_left g p k None = p
+op_left g p k (Some s) = with_seat (without_op p s.op) k (g s)
+
+abbrev pub done_by : Plan → ℕ → ShardResult → Seat → Option Op → Plan
+done_by p k r s None = p
+done_by p k r s (Some op) = record p { ops = fin.insert p.ops s.op (op_marked k r op); completed = completing p.completed s.op (op_marked k r op).shards; seats = fin.insert p.seats k (seat_ended s) }
+
+abbrev pub done_in : Plan → ℕ → ShardResult → Option Seat → Plan
+done_in p k r None = p
+done_in p k r (Some s) = done_by p k r s (fin.get p.ops s.op)
+
+abbrev pub failed_by : Plan → ℕ → Seat → Option Op → Plan
+failed_by p k s None = p
+failed_by p k s (Some op) = record p { ops = fin.insert p.ops s.op (op_failed k op); seats = fin.insert p.seats k (seat_ended s) }
+
+abbrev pub failed_in : ℕ → Plan → ℕ → Option Seat → Plan
+failed_in term p k None = p
+failed_in term p k (Some s) = if is_stale_seat term s then with_seat p k (seat_ended s) else failed_by p k s (fin.get p.ops s.op)

@@ -1,0 +1,112 @@
+-- Which unit of an op is ready, and what is given with it.
+use Rattle.std.specs.Prelude.{◌≡◌, ◌⊎◌, ◌<◌, ℕ, Bool, true, false, not, ◌&&◌, ◌==◌, if◌then◌else◌, List, Option, Some, None, IfSome, map, length, take, position, option_map, slice_get, slice_set, slice_index_or}
+use Rattle.std.specs.List.{list_any}
+use Rattle.esr_names.specs.declared.ids.Id.{Id}
+use Rattle.esr_model.specs.Values.{Has, RootData}
+use Rattle.esr_model.specs.Image.{Generation}
+use Rattle.esr_core.specs.World.{Op, ShardWork}
+use Rattle.esr_core.specs.Steps.{given, all_done}
+use Rattle.esr_formats.specs.Ids.{number_of}
+use Rattle.esr_progress.specs.declared.ready.Kind.{Kind}
+use Rattle.esr_progress.specs.declared.ready.Kind.TheVariants as ready
+use Rattle.esr_progress.specs.declared.unit.Seat.{Seat as CodeSeat}
+use Rattle.esr_progress.specs.declared.unit.SeatKind.{SeatKind}
+use Rattle.esr_progress.specs.declared.unit.SeatKind.TheVariants as kinds
+use Rattle.esr_progress.specs.declared.unit.Work.{Work}
+use Rattle.esr_progress.specs.declared.unit.Work.TheVariants as works
+use Rattle.esr_progress.specs.Plan.{seat_of_code}
+use Rattle.esr_progress.specs.Seats.{is_swap_out, is_unit_out}
+use Rattle.esr_progress.specs.Ops.{has_stopped, is_free, IsDoneAt, Among, IsMost, IsShardWork, IsFinalWork}
+
+-- ---- which
+
+-- an op of this number is open that neither failed nor was aborted
+abbrev pub goes_in : List (ℕ × Op) → ℕ → Bool
+goes_in ops number = list_any (λ (e : ℕ × Op). (e.0 == number) && not (has_stopped e.1)) ops
+
+-- none that goes completed before the op that completed at this place
+abbrev pub is_first_at : List (ℕ × Op) → List ℕ → Option ℕ → Bool
+is_first_at ops completed None = true
+is_first_at ops completed (Some i) = not (list_any (goes_in ops) (take i completed))
+
+abbrev pub is_earliest : List (ℕ × Op) → List ℕ → ℕ → Bool
+is_earliest ops completed number = is_first_at ops completed (position (λ n. n == number) completed)
+
+abbrev pub is_out_of : List CodeSeat → ℕ → ℕ → Bool
+is_out_of seats term number = list_any (λ s. is_unit_out term number (seat_of_code s)) seats
+
+abbrev pub is_swapping : List CodeSeat → ℕ → Bool
+is_swapping seats term = list_any (λ s. is_swap_out term (seat_of_code s)) seats
+
+-- by the place of its first free shard, and whether it can be finalized
+abbrev pub ready_by : Option ℕ → Bool → Option Kind
+ready_by (Some i) final = Some (ready.Shard i)
+ready_by None final = if final then Some ready.Finalize else None
+
+abbrev pub is_final : List (ℕ × Op) → List ℕ → List CodeSeat → ℕ → ℕ × Op → Bool
+is_final ops completed seats term e = all_done e.1.shards && (not (is_swapping seats term) && is_earliest ops completed e.0)
+
+-- the unit of an op that is ready
+abbrev pub ready_of : List (ℕ × Op) → List ℕ → List CodeSeat → ℕ → List (ℕ × Op) → ℕ × Op → Option Kind
+ready_of ops completed seats term before e =
+    if has_stopped e.1 then (if is_out_of seats term e.0 then None else Some ready.Drop)
+    else ready_by (position (is_free before) e.1.shards) (is_final ops completed seats term e)
+
+-- the op at the place, and no unit of those before it is ready
+abbrev pub NoneBefore : List (ℕ × Op) → List ℕ → List CodeSeat → ℕ → ℕ → Type 0
+NoneBefore ops completed seats term at = (k : ℕ) (e : ℕ × Op) → k < at → slice_get ops k ≡ Some e → ready_of ops completed seats term (take k ops) e ≡ None
+
+pub record IsReadyAt (ops : List (ℕ × Op)) (completed : List ℕ) (seats : List CodeSeat) (term at : ℕ) (kind : Kind) : Type 0 where
+  pub e : ℕ × Op
+  pub there : slice_get ops at ≡ Some e
+  pub is : ready_of ops completed seats term (take at ops) e ≡ Some kind
+  pub before : NoneBefore ops completed seats term at
+
+abbrev pub IsFirstReady : List (ℕ × Op) → List ℕ → List CodeSeat → ℕ → Option (ℕ × Kind) → Type 0
+IsFirstReady ops completed seats term None = NoneBefore ops completed seats term (length ops)
+IsFirstReady ops completed seats term (Some (at, kind)) = IsReadyAt ops completed seats term at kind
+
+-- ---- what is given
+
+-- an op can give it
+abbrev pub IsPossible : Op → Kind → Type 0
+IsPossible op (ready.Shard i) = i < length op.shards
+IsPossible op ready.Finalize = all_done op.shards ≡ true
+IsPossible op ready.Drop = Unit {0}
+
+abbrev pub IsWorkFor : Op → Kind → Work → Type 0
+IsWorkFor op (ready.Shard i) work = IfSome (slice_get op.shards i) (λ s. IsShardWork op s work)
+IsWorkFor op ready.Finalize work = IsFinalWork op work
+IsWorkFor op ready.Drop work = work ≡ works.Drop
+
+-- the seat is of this shard
+abbrev pub IsSeatOf : ShardWork → SeatKind → Type 0
+IsSeatOf s (kinds.Shard shard) = (s.ref.id ≡ shard.index.number) × (s.number ≡ shard.number)
+IsSeatOf s kinds.Finalize = ⊥
+IsSeatOf s kinds.Drop = ⊥
+
+abbrev pub IsSeatFor : Op → Kind → SeatKind → Type 0
+IsSeatFor op (ready.Shard i) kind = IfSome (slice_get op.shards i) (λ s. IsSeatOf s kind)
+IsSeatFor op ready.Finalize kind = kind ≡ kinds.Finalize
+IsSeatFor op ready.Drop kind = kind ≡ kinds.Drop
+
+-- the root gives the shard this generation, or an op has done it there
+abbrev pub IsLiveIn : RootData → List (ℕ × Op) → ℕ → ℕ → ℕ → Type 0
+IsLiveIn root ops index number g = Generation root index number g ⊎ Among ops (λ (e : ℕ × Op). Among e.1.shards (IsDoneAt index number)) g
+
+-- the largest live generation of the shard that is given
+abbrev pub IsBaseFor : RootData → List (ℕ × Op) → SeatKind → Option Id → Type 0
+IsBaseFor root ops (kinds.Shard shard) base = IsMost (IsLiveIn root ops shard.index.number shard.number) (option_map number_of base)
+IsBaseFor root ops kinds.Finalize base = Unit {0}
+IsBaseFor root ops kinds.Drop base = Unit {0}
+
+-- the op, with the shard given to the ticket
+abbrev pub given_entry : SeatKind → ℕ → ℕ × Op → ℕ × Op
+given_entry (kinds.Shard shard) ticket e = (e.0, record e.1 { shards = map (given ticket shard.index.number shard.number) e.1.shards })
+given_entry kinds.Finalize ticket e = e
+given_entry kinds.Drop ticket e = e
+
+-- what holds of the shards of every open op: their numbers are of the layout, and those of one id and number are equally far
+pub record AreShards (shards : List ShardWork) : Type 0 where
+  pub few : (s : ShardWork) → Has shards s → s.number < 1024
+  pub alike : (a b : ShardWork) → Has shards a → Has shards b → a.ref.id ≡ b.ref.id → a.number ≡ b.number → a.state ≡ b.state

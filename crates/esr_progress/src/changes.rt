@@ -1,0 +1,182 @@
+//! The changes of which the reports of units are made.
+ghost use Rattle.std.specs.Prelude.{◌≡◌, true, option_map, is_some, OnOk};
+ghost use Rattle.std.specs.FinMap as fin;
+ghost use Rattle.esr_core.specs.Steps.{all_done};
+ghost use Rattle.esr_model.specs.Values.{ShardResult as Outcome};
+ghost use Rattle.esr_results.specs.Results.{result_of};
+ghost use Rattle.esr_progress.specs.Plan.{seat_of_code};
+ghost use Rattle.esr_progress.specs.Changes.{with_seat, without_op, with_completed, op_changed, op_marked, op_failed, seat_ended, seat_changed, seat_settled, seat_raised, op_left, done_in, failed_by, failed_in, is_stale_seat};
+
+use crate::progress::place;
+use crate::shard::ShardState;
+use crate::{Progress, Seat};
+use esr_results::ShardResult;
+use std::alloc::AllocError;
+
+impl Seat {
+    /// The ticket has ended.
+    pub(crate) fn ended(self) -> Seat
+        ensures { seat_of_code result ≡ seat_ended (seat_of_code self) }
+    {
+        Seat { out: false, ..self }
+    }
+
+    /// Whether it is of a master that is none any more: a shard's unit never is.
+    pub(crate) fn is_stale(&self, term: u64) -> bool
+        ensures { result ≡ is_stale_seat term (seat_of_code self.now) }
+    {
+        !self.kind.is_of_shard() && self.term != term
+    }
+}
+
+impl Progress {
+    /// Keeps this of a ticket.
+    pub(crate) fn put_seat(&mut self, ticket: u64, seat: Seat)
+        requires { is_some (fin.get self.old.seats ticket) ≡ true }
+        ensures { self.new ≡ with_seat self.old ticket (seat_of_code seat) }
+    {
+        self.seats[ticket as usize - 1] = seat;
+    }
+
+    /// An op leaves, or a delete.
+    pub(crate) fn remove_op(&mut self, number: u64)
+        ensures { self.new ≡ without_op self.old number }
+    {
+        self.ops.retain(|op| op.number() != number);
+        self.deletes.retain(|delete| delete.number() != number);
+    }
+
+    /// Whether the op of this number completes with the shard of a ticket; `None` where there is no such op.
+    pub(crate) fn completes(&self, number: u64, ticket: u64) -> Option<bool>
+        ensures { (r : Outcome) → result ≡ option_map (λ op. all_done (op_marked ticket r op).shards) (fin.get self.now.ops number) }
+    {
+        let at = place(&self.ops, number)?;
+        Some(self.ops[at].completes(ticket))
+    }
+
+    /// Notes that an op has completed, where it has.
+    pub(crate) fn complete(&mut self, completes: bool, number: u64) -> Result<(), AllocError>
+        ensures { OnOk result (self.new ≡ with_completed completes self.old number) }
+    {
+        if completes {
+            self.completed.push(number)?;
+        }
+        Ok(())
+    }
+
+    /// What a ticket has of an op is done.
+    pub(crate) fn mark_op(&mut self, number: u64, ticket: u64, outcome: ShardResult)
+        ensures { self.new ≡ op_changed (op_marked ticket (result_of outcome)) self.old number (fin.get self.old.ops number) }
+    {
+        if let Some(at) = place(&self.ops, number) {
+            self.ops[at].mark(ticket, ShardState::Done(outcome));
+        }
+    }
+
+    /// An op fails with the unit of a ticket.
+    pub(crate) fn fail_op(&mut self, number: u64, ticket: u64)
+        ensures { self.new ≡ op_changed (op_failed ticket) self.old number (fin.get self.old.ops number) }
+    {
+        if let Some(at) = place(&self.ops, number) {
+            self.ops[at].fail(ticket);
+        }
+    }
+
+    /// A ticket ends.
+    pub(crate) fn end(&mut self, ticket: u64)
+        ensures { self.new ≡ seat_changed seat_ended self.old ticket (fin.get self.old.seats ticket) }
+    {
+        let Some(seat) = self.seat(ticket) else {
+            return;
+        };
+        self.put_seat(ticket, seat.ended());
+    }
+
+    /// A ticket raises a generation.
+    pub(crate) fn raise(&mut self, ticket: u64, generation: u64)
+        ensures { self.new ≡ seat_changed (seat_raised generation) self.old ticket (fin.get self.old.seats ticket) }
+    {
+        let Some(seat) = self.seat(ticket) else {
+            return;
+        };
+        let raised = Some(generation);
+        self.put_seat(ticket, Seat { raised, ..seat });
+    }
+
+    /// The swap of a ticket has settled, and its op leaves.
+    pub(crate) fn settle(&mut self, ticket: u64)
+        ensures { self.new ≡ op_left seat_settled self.old ticket (fin.get self.old.seats ticket) }
+    {
+        let Some(seat) = self.seat(ticket) else {
+            return;
+        };
+        self.remove_op(seat.op);
+        self.put_seat(
+            ticket,
+            Seat {
+                settled: true,
+                ..seat
+            },
+        );
+    }
+
+    /// A ticket ends, and its op leaves.
+    pub(crate) fn drop_op(&mut self, ticket: u64)
+        ensures { self.new ≡ op_left seat_ended self.old ticket (fin.get self.old.seats ticket) }
+    {
+        let Some(seat) = self.seat(ticket) else {
+            return;
+        };
+        self.remove_op(seat.op);
+        self.put_seat(ticket, seat.ended());
+    }
+
+    /// A shard's unit ends with its result.
+    pub(crate) fn finish(&mut self, ticket: u64, outcome: ShardResult) -> Result<(), AllocError>
+        ensures { OnOk result (self.new ≡ done_in self.old ticket (result_of outcome) (fin.get self.old.seats ticket)) }
+    {
+        let Some(seat) = self.seat(ticket) else {
+            return Ok(());
+        };
+        let Some(completes) = self.completes(seat.op, ticket) else {
+            return Ok(());
+        };
+        self.complete(completes, seat.op)?;
+        self.put_seat(ticket, seat.ended());
+        self.mark_op(seat.op, ticket, outcome);
+        Ok(())
+    }
+
+    /// Whether an op of this number is open.
+    fn has_op(&self, number: u64) -> bool
+        ensures { result ≡ is_some (fin.get self.now.ops number) }
+    {
+        place(&self.ops, number).is_some()
+    }
+
+    /// The op of a ticket fails, where it is open, and the ticket ends.
+    fn fail_unit(&mut self, ticket: u64, seat: Seat)
+        requires { is_some (fin.get self.old.seats ticket) ≡ true }
+        ensures { self.new ≡ failed_by self.old ticket (seat_of_code seat) (fin.get self.old.ops seat.op) }
+    {
+        if !self.has_op(seat.op) {
+            return;
+        }
+        self.put_seat(ticket, seat.ended());
+        self.fail_op(seat.op, ticket);
+    }
+
+    /// A unit has failed in this term.
+    pub(crate) fn fail(&mut self, term: u64, ticket: u64)
+        ensures { self.new ≡ failed_in term self.old ticket (fin.get self.old.seats ticket) }
+    {
+        let Some(seat) = self.seat(ticket) else {
+            return;
+        };
+        if seat.is_stale(term) {
+            self.put_seat(ticket, seat.ended());
+            return;
+        }
+        self.fail_unit(ticket, seat);
+    }
+}

@@ -1,0 +1,249 @@
+//! Which unit is ready.
+ghost use Rattle.std.specs.Prelude.{◌≡◌, ◌==◌, ◌<◌, ◌^◌, ℕ, suc, map, length, position, option_map, slice_get, slice_set, IfOk, IfSome, false, true, None};
+ghost use Rattle.std.specs.FinMap as fin;
+ghost use Rattle.std.specs.List.{list_any};
+ghost use Rattle.esr_model.specs.Image.{index_at, at_shard_of};
+ghost use Rattle.esr_core.specs.World.{World};
+ghost use Rattle.esr_formats.specs.Ids.{number_of};
+ghost use Rattle.esr_formats.specs.Roots.{root_of};
+ghost use Rattle.esr_formats.specs.Clusters.{count_of};
+ghost use Rattle.esr_progress.specs.Plan.{IsGivenIn, seat_of_code};
+ghost use Rattle.esr_progress.specs.Inside.{numbers_of};
+ghost use Rattle.esr_progress.specs.Ops.{IsMost, Among, IsDoneAt};
+ghost use Rattle.esr_progress.specs.Units.{NextUnit};
+ghost use Rattle.esr_progress.specs.Choice.{goes_in, is_earliest, ready_of, IsFirstReady, IsPossible, IsWorkFor, IsSeatFor, IsBaseFor, given_entry};
+
+use crate::open_op::later;
+use crate::progress::copy_deletes;
+use crate::seats::{swap_is_out, unit_is_out};
+use crate::{Copied, OpenOp, Progress, ReadyUnit, Seat, SeatKind, Work};
+use esr_names::{Id, ShardId};
+use esr_root::RootData;
+use std::alloc::{AllocError, Global};
+
+/// What is ready of an op: the shard at a place, its finalization, or that it leaves.
+#[derive(Clone, Copy)]
+enum Kind {
+    Shard(usize),
+    Finalize,
+    Drop,
+}
+
+impl Progress {
+    /// The first ready unit of the lowest op, with the list in which its ticket is out; `None` exactly where no unit is ready.
+    pub fn next_unit(
+        &self,
+        alloc: Global,
+        root: &RootData,
+        safe: i64,
+        term: u64,
+    ) -> Result<Option<(Progress, ReadyUnit)>, AllocError>
+        requires no_delete { self.now.deletes ≡ fin.empty }
+        requires room { self.now.next_ticket < 2 ^ 62 }
+        ensures { IfOk result (λ o. (w : World) → IsGivenIn self.now (root_of root.now) (count_of safe) term w → NextUnit w o) }
+    {
+        let Some((at, kind)) = find_ready(&self.ops, &self.completed, &self.seats, term) else {
+            return Ok(None);
+        };
+        let op = &self.ops[at];
+        op.rule();
+        let seat = seat_kind(op, kind);
+        let ticket = self.seats.len() as u64 + 1;
+        let unit = ReadyUnit {
+            ticket,
+            op: op.number(),
+            work: work_of(alloc, op, kind)?,
+            copy: Copied {
+                safe,
+                root: root.try_clone(alloc)?,
+                base: base_of(root, &self.ops, seat),
+            },
+        };
+        let ops = given_ops(alloc, &self.ops, at, seat, ticket)?;
+        Ok(Some((self.with_seat(alloc, ops, seat, unit.op, term)?, unit)))
+    }
+
+    /// A copy with these ops, in which one ticket more is out.
+    fn with_seat(
+        &self,
+        alloc: Global,
+        ops: Vec<OpenOp>,
+        kind: SeatKind,
+        op: u64,
+        term: u64,
+    ) -> Result<Progress, AllocError>
+        requires { numbers_of ops.items ≡ numbers_of (fin.entries self.now.ops) }
+        ensures { IfOk result (λ p. p ≡ record self.now { ops = fin.from_entries ops.items; seats = fin.insert self.now.seats self.now.next_ticket (seat_of_code (record { kind = kind; op = op; term = term; raised = None; settled = false; out = true })); next_ticket = suc self.now.next_ticket }) }
+    {
+        let mut seats = Vec::from_slice(alloc, self.seats.as_slice())?;
+        seats.push(Seat {
+            kind,
+            op,
+            term,
+            raised: None,
+            settled: false,
+            out: true,
+        })?;
+        Ok(Progress {
+            ops,
+            deletes: copy_deletes(alloc, &self.deletes)?,
+            completed: Vec::from_slice(alloc, self.completed.as_slice())?,
+            seats,
+            next_op: self.next_op,
+        })
+    }
+}
+
+/// The first op with a ready unit, by its place, and which unit that is.
+fn find_ready(ops: &[OpenOp], completed: &[u64], seats: &[Seat], term: u64) -> Option<(usize, Kind)>
+    ensures { IsFirstReady ops.now completed.now seats.now term result }
+{
+    for (at, op) in ops.iter().enumerate() {
+        if let Some(kind) = ready_of(ops, completed, seats, term, &ops[..at], op) {
+            return Some((at, kind));
+        }
+    }
+    None
+}
+
+/// The ready unit of an op, before which these ops stand.
+fn ready_of(
+    ops: &[OpenOp],
+    completed: &[u64],
+    seats: &[Seat],
+    term: u64,
+    before: &[OpenOp],
+    op: &OpenOp,
+) -> Option<Kind>
+    ensures { result ≡ ready_of ops.now completed.now seats.now term before.now op.now }
+{
+    if op.has_stopped() {
+        return (!unit_is_out(seats, term, op.number())).then_some(Kind::Drop);
+    }
+    if let Some(at) = op.first_free(before) {
+        return Some(Kind::Shard(at));
+    }
+    let is_final = op.is_done()
+        && !swap_is_out(seats, term)
+        && is_earliest(ops, completed, op.number());
+    is_final.then_some(Kind::Finalize)
+}
+
+/// Whether no other op that goes completed before the op of this number.
+fn is_earliest(ops: &[OpenOp], completed: &[u64], number: u64) -> bool
+    ensures { result ≡ is_earliest ops.now completed.now number }
+{
+    match place(completed, number) {
+        Some(at) => !go(ops, &completed[..at]),
+        None => true,
+    }
+}
+
+/// Where a number stands.
+fn place(numbers: &[u64], number: u64) -> Option<usize>
+    ensures { result ≡ position (λ n. n == number) numbers.now }
+{
+    numbers.iter().position(|other| *other == number)
+}
+
+/// Whether an op of one of these numbers goes.
+fn go(ops: &[OpenOp], numbers: &[u64]) -> bool
+    ensures { result ≡ list_any (goes_in ops.now) numbers.now }
+{
+    numbers.iter().any(|number| goes(ops, *number))
+}
+
+/// Whether an op of this number is open that neither failed nor was aborted.
+fn goes(ops: &[OpenOp], number: u64) -> bool
+    ensures { result ≡ goes_in ops.now number }
+{
+    ops.iter()
+        .any(|op| op.number() == number && !op.has_stopped())
+}
+
+/// What a unit of an op is to do.
+fn work_of(alloc: Global, op: &OpenOp, kind: Kind) -> Result<Work, AllocError>
+    requires { IsPossible op.now.1 kind }
+    ensures { IfOk result (IsWorkFor op.now.1 kind) }
+{
+    match kind {
+        Kind::Shard(at) => op.shard_work(alloc, at),
+        Kind::Finalize => op.finalization(alloc),
+        Kind::Drop => Ok(Work::Drop),
+    }
+}
+
+/// The kind of a ticket's unit.
+fn seat_kind(op: &OpenOp, kind: Kind) -> SeatKind
+    requires { IsPossible op.now.1 kind }
+    ensures { IsSeatFor op.now.1 kind result }
+{
+    match kind {
+        Kind::Shard(at) => SeatKind::Shard {
+            shard: op.shard(at),
+        },
+        Kind::Finalize => SeatKind::Finalize,
+        Kind::Drop => SeatKind::Drop,
+    }
+}
+
+/// The largest live generation of the shard that is given.
+fn base_of(root: &RootData, ops: &[OpenOp], kind: SeatKind) -> Option<Id>
+    ensures { IsBaseFor (root_of root.now) ops.now kind result }
+{
+    match kind {
+        SeatKind::Shard { shard } => later(root_generation(root, shard), generation(ops, shard)),
+        SeatKind::Finalize | SeatKind::Drop => None,
+    }
+}
+
+/// The generation of a shard in the root, by the id of its index.
+fn root_generation(root: &RootData, shard: ShardId) -> Option<Id>
+    ensures { option_map number_of result ≡ at_shard_of (index_at (root_of root.now).indices shard.index.number) shard.number }
+{
+    for index in root.indices.as_slice() {
+        if index.id == shard.index {
+            return index.generations.get(shard.number);
+        }
+    }
+    None
+}
+
+/// The largest generation at which an op has done the shard.
+fn generation(ops: &[OpenOp], shard: ShardId) -> Option<Id>
+    ensures { IsMost (Among ops.now (λ e. Among e.1.shards (IsDoneAt shard.index.number shard.number))) (option_map number_of result) }
+{
+    let mut most = None;
+    for op in ops {
+        most = later(most, op.generation(shard));
+    }
+    most
+}
+
+/// A copy of the ops, in which the shard of the op at a place is given to the ticket.
+fn given_ops(
+    alloc: Global,
+    ops: &[OpenOp],
+    at: usize,
+    kind: SeatKind,
+    ticket: u64,
+) -> Result<Vec<OpenOp>, AllocError>
+    requires { at < length ops.now }
+    ensures { IfOk result (λ v. IfSome (slice_get ops.now at) (λ e. v.items ≡ slice_set ops.now at (given_entry kind ticket e))) }
+{
+    let mut copy = copy_ops(alloc, ops)?;
+    if let SeatKind::Shard { shard } = kind {
+        copy[at].give(shard, ticket);
+    }
+    Ok(copy)
+}
+
+fn copy_ops(alloc: Global, ops: &[OpenOp]) -> Result<Vec<OpenOp>, AllocError>
+    ensures { IfOk result (λ v. v.items ≡ ops.now) }
+{
+    let mut copy = Vec::with_capacity(alloc, ops.len())?;
+    for op in ops {
+        copy.push(op.try_clone(alloc)?)?;
+    }
+    Ok(copy)
+}

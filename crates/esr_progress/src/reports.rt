@@ -1,0 +1,100 @@
+//! What the reports of units change.
+ghost use Rattle.std.specs.Prelude.{◌≡◌, ℕ, false, Some, map, option_map, IfOk};
+ghost use Rattle.std.specs.FinMap as fin;
+ghost use Rattle.esr_model.specs.Values.{Formats};
+ghost use Rattle.esr_core.specs.World.{World, Ticket, Swap, swap, record_ops};
+ghost use Rattle.esr_core.specs.After.{change, raised, settled_of, done_of, failed_of, dropped_of};
+ghost use Rattle.esr_formats.specs.Clusters.{op_of};
+ghost use Rattle.esr_results.specs.Results.{result_of};
+ghost use Rattle.esr_progress.specs.Plan.{seat_of_code, IsPlanOf};
+
+use crate::{Progress, Seat};
+use esr_record::RecordOps;
+use esr_results::ShardResult;
+use std::alloc::{AllocError, Global};
+
+impl Progress {
+    /// What is kept of a ticket.
+    pub fn seat(&self, ticket: u64) -> Option<Seat>
+        ensures { option_map seat_of_code result ≡ fin.get self.now.seats ticket }
+    {
+        crate::seats::seat_at(&self.seats, ticket)
+    }
+
+    /// The ops as the cluster record tells them.
+    pub fn record_ops(&self, alloc: Global) -> Result<RecordOps, AllocError>
+        requires no_delete { self.now.deletes ≡ fin.empty }
+        ensures { IfOk result (λ ops. map op_of ops ≡ record_ops self.now.ops self.now.deletes) }
+    {
+        let mut ops = RecordOps::new(alloc);
+        for op in &self.ops {
+            ops.push(op.record_op(alloc)?)?;
+        }
+        Ok(ops)
+    }
+
+    /// The list after a shard was done: the ticket has ended, and the op completes where that was its last shard.
+    pub fn shard_done(
+        &self,
+        alloc: Global,
+        ticket: u64,
+        outcome: &ShardResult,
+    ) -> Result<Progress, AllocError>
+        ensures { IfOk result (λ p. (w : World) → IsPlanOf w self.now → IsPlanOf (done_of w ticket (result_of outcome.now) (fin.get w.tickets ticket)) p) }
+    {
+        let mut copy = self.copy(alloc)?;
+        copy.finish(ticket, *outcome)?;
+        Ok(copy)
+    }
+
+    /// The list after a unit failed in this term: the ticket has ended, and its op has failed, but for a unit of a stale master.
+    pub fn unit_failed(&self, alloc: Global, term: u64, ticket: u64) -> Result<Progress, AllocError>
+        ensures { IfOk result (λ p. (w : World) → IsPlanOf w self.now → w.term ≡ term → IsPlanOf (failed_of w ticket (fin.get w.tickets ticket)) p) }
+    {
+        let mut copy = self.copy(alloc)?;
+        copy.fail(term, ticket);
+        Ok(copy)
+    }
+
+    /// The list after a ticket raised a generation.
+    pub fn raised(
+        &self,
+        alloc: Global,
+        ticket: u64,
+        generation: u64,
+    ) -> Result<Progress, AllocError>
+        ensures { IfOk result (λ p. (w : World) → IsPlanOf w self.now → w.pending ≡ generation → IsPlanOf (raised w ticket) p) }
+    {
+        let mut copy = self.copy(alloc)?;
+        copy.raise(ticket, generation);
+        Ok(copy)
+    }
+
+    /// The list after a swap has settled: its op has left, its ticket stays out.
+    pub fn finalized(&self, alloc: Global, ticket: u64) -> Result<Progress, AllocError>
+        ensures { IfOk result (λ p. (f : Formats) (w : World) (t : Ticket) (s : Swap) (n : ℕ) → IsPlanOf w self.now → fin.get w.tickets ticket ≡ Some t → swap f t ≡ Some s → t.raised ≡ Some n
+            → IsPlanOf (settled_of f w ticket (Some t)) p) }
+    {
+        let mut copy = self.copy(alloc)?;
+        copy.settle(ticket);
+        Ok(copy)
+    }
+
+    /// The list after a ticket ended.
+    pub fn ended(&self, alloc: Global, ticket: u64) -> Result<Progress, AllocError>
+        ensures { IfOk result (λ p. (w : World) → IsPlanOf w self.now → IsPlanOf (change w ticket (λ t. record t { out = false })) p) }
+    {
+        let mut copy = self.copy(alloc)?;
+        copy.end(ticket);
+        Ok(copy)
+    }
+
+    /// The list after an op that failed was dropped: it has left, and the ticket has ended.
+    pub fn dropped(&self, alloc: Global, ticket: u64) -> Result<Progress, AllocError>
+        ensures { IfOk result (λ p. (w : World) → IsPlanOf w self.now → IsPlanOf (dropped_of w ticket (fin.get w.tickets ticket)) p) }
+    {
+        let mut copy = self.copy(alloc)?;
+        copy.drop_op(ticket);
+        Ok(copy)
+    }
+}
