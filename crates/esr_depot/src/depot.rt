@@ -34,7 +34,7 @@ pub struct Listed {
 pub type Listing = Seq<Listed>;
 
 /// Blobs by name, and one record. A call that doesn't want memory counts as a moment.
-pub trait Depot: Counted + Drop + Send {
+pub trait Depot: Counted + Drop {
     type Stage: Stage;
 
     type Fetch: Fetch;

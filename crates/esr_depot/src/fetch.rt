@@ -8,7 +8,7 @@ use crate::counted::Counted;
 use crate::error::Failed;
 
 /// A blob that is being read.
-pub trait Fetch: Counted + Drop + Send {
+pub trait Fetch: Counted + Drop {
     /// The bytes that are left to be read, where the fetch tells them.
     ghost left: { Self → Option (List ℕ) };
 

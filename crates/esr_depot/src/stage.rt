@@ -7,7 +7,7 @@ use crate::counted::Counted;
 use crate::error::Failed;
 
 /// A blob that is being written, and isn't in the container yet.
-pub trait Stage: Counted + Drop + Send {
+pub trait Stage: Counted + Drop {
     /// The name under which it is to be committed.
     ghost name: { Self → List ℕ };
 

@@ -2,7 +2,7 @@
 use Rattle.std.specs.Prelude.{◌≡◌, ◌≢◌, ◌⊎◌, ℕ, suc, ◌+◌, ◌^◌, ◌≤◌, true, false, length, Option, Some, None}
 use Rattle.esr_model.specs.Names.{BlobName, Root, Latest, ShardSnap, ShardIndex}
 use Rattle.esr_model.specs.Values.{Bytes, Has, RootData, ShardResult}
-use Rattle.esr_core.specs.World.{Ticket, Shard, Swap, swap}
+use Rattle.esr_core.specs.World.{Ticket, Shard, Drop, Swap, swap}
 use Rattle.esr_core.specs.Ready.{IsShard, IsMaster}
 use Rattle.esr_core.specs.Steps.{Drew, MayCommit}
 use Rattle.esr_core.specs.Allowed.{DoneBy, latest_text}
@@ -90,3 +90,8 @@ pub record CanFinish (t : Ticket) : Type 0 where
   pub out : t.out ≡ true
   pub no_shard : IsShard t.work → ⊥
   pub settled : t.settled ≡ true
+
+-- an op is dropped by the ticket that is for it
+pub record CanDrop (t : Ticket) : Type 0 where
+  pub out : t.out ≡ true
+  pub work : t.work ≡ Drop

@@ -5,3 +5,5 @@ pub mod Outcome
 pub mod Conditions
 pub mod Taken
 pub mod Sources
+pub mod Last
+pub mod Grew

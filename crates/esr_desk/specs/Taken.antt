@@ -1,5 +1,5 @@
 -- The ticket of a unit as it was taken, and what its steps make of it.
-use Rattle.std.specs.Prelude.{◌≡◌, ℕ, Bool, true, false, List, [], ◌∷◌, map, ◌⊎◌, Option, Some, None, option_map, Result, Ok, Err, if◌then◌else◌}
+use Rattle.std.specs.Prelude.{◌≡◌, ◌<◌, ℕ, Bool, true, false, List, [], ◌∷◌, map, ◌⊎◌, Option, Some, None, option_map, Result, Ok, Err, if◌then◌else◌}
 use Rattle.esr_model.specs.Names.{BlobName}
 use Rattle.esr_model.specs.Values.{Bytes, RootData}
 use Rattle.esr_model.specs.Shelf.{Shelved}
@@ -55,7 +55,8 @@ NewRoot None new = ⊥
 NewRoot (Some root) new = root_of root ≡ new
 
 abbrev pub TookWork : CodeWork → Option Root → ℕ → Copied → Ticket → Type 0
-TookWork (works.Shard uuid shard index place) new op copy t = (term : ℕ) × (t ≡ fresh (Shard shard.index.number shard.number) op uuid.number place index term copy)
+TookWork (works.Shard uuid shard index place) new op copy t =
+    (term : ℕ) × (t ≡ fresh (Shard shard.index.number shard.number) op uuid.number place index term copy) × (shard.number < 1024)
 TookWork (works.Finalize info shards) new op copy t =
     (term : ℕ) × (made : Shelved) × (t ≡ fresh (Finalize (info_of_code info) (map result_of shards) made) op info.uuid.number [] [] term copy)
     × NewRoot new (finalized_root (root_of copy.root) (info_of_code info) (map result_of shards))
@@ -109,3 +110,6 @@ HasRaised old new = (n : ℕ) × (new ≡ record old { raised = Some n })
 
 abbrev pub IsSettled : Ticket → Ticket → Type 0
 IsSettled old new = new ≡ record old { settled = true }
+
+abbrev pub HasEndedAs : Ticket → Ticket → Type 0
+HasEndedAs old new = new ≡ record old { out = false }

@@ -2,11 +2,11 @@
 ghost use Rattle.std.specs.Prelude.{◌≡◌, ◌+◌, ◌<◌, ◌^◌, ℕ, List, [], map, Option, Some, None, true, false, IfOk, IfSome, OnOk, OnErr};
 ghost use Rattle.esr_model.specs.Names.{Latest};
 ghost use Rattle.esr_model.specs.Values.{Bytes};
-ghost use Rattle.esr_core.specs.Entry.{Moment, AskStep, TakeStep, DrawStep, BeginStep, CommitStep, LatestStep, FetchStep, RaiseStep, SettleStep, DoneStep, FailedStep, FinishStep, LookStep, Accepted, DrawnFrom, WasBegun, WasReplaced, RaisedTo, WasSettled, HasEnded, Looked};
+ghost use Rattle.esr_core.specs.Entry.{Moment, AskStep, TakeStep, DrawStep, BeginStep, CommitStep, LatestStep, FetchStep, RaiseStep, SettleStep, DoneStep, FailedStep, FinishStep, DroppedStep, LookStep, Accepted, DrawnFrom, WasBegun, WasReplaced, RaisedTo, WasSettled, HasEnded, Looked};
 ghost use Rattle.esr_core.specs.Allowed.{IsMetadata, latest_text};
 ghost use Rattle.esr_core.specs.After.{fetching};
 ghost use Rattle.esr_names.specs.Layout.{IsName};
-ghost use Rattle.esr_formats.specs.Names.{name_of};
+ghost use Rattle.esr_formats.specs.Names.{name_of, name_kind};
 ghost use Rattle.esr_formats.specs.Roots.{root_of, root_snap_of};
 ghost use Rattle.esr_formats.specs.Clusters.{count_of};
 ghost use Rattle.esr_results.specs.Results.{result_of};
@@ -14,8 +14,8 @@ ghost use Rattle.esr_progress.specs.Asked.{asked_of, IsAskable};
 ghost use Rattle.esr_desk.specs.Entries.{why_of};
 ghost use Rattle.esr_desk.specs.Start.{Start, ticket_of, told_bytes};
 ghost use Rattle.esr_desk.specs.Outcome.{Outcome, commit_reply, fetch_reply, take_reply};
-ghost use Rattle.esr_desk.specs.Conditions.{CanDraw, CanCommit, CanPut, CanBegin, Holds, CanFetch, CanRaise, CanSettle, CanEnd, CanFail, CanFinish};
-ghost use Rattle.esr_desk.specs.Taken.{Took, committed_by, begun_by, tried_by, fetched_by, LeftBy, HasRaised, IsSettled};
+ghost use Rattle.esr_desk.specs.Conditions.{CanDraw, CanCommit, CanPut, CanBegin, Holds, CanFetch, CanRaise, CanSettle, CanEnd, CanFail, CanFinish, CanDrop};
+ghost use Rattle.esr_desk.specs.Taken.{Took, committed_by, begun_by, tried_by, fetched_by, LeftBy, HasRaised, IsSettled, HasEndedAs};
 ghost use Rattle.esr_desk.specs.declared.refusal.StepRefusal.{StepRefusal};
 
 use crate::{Look, Named, StepRefusal, Unit, Why};
@@ -91,16 +91,18 @@ pub trait Desk {
         &mut self,
         alloc: Global,
         ticket: u64,
-        stage: Named<Self::Stage>,
+        name: BlobName,
+        stage: Self::Stage,
     ) -> Result<Commit, StepRefusal>
         requires mine { holds self.old ticket }
-        requires layout { IsName stage.name }
-        requires may { (bytes : Bytes) × Holds start (Self.Stage.contents stage.stage) bytes
-            × CanCommit start (ticket_of start (seen self.old) ticket) (name_of stage.name) bytes }
-        ensures step { Outcome start (seen self.old) (seen self.new) ticket (CommitStep (name_of stage.name)) commit_reply result }
+        requires named { Self.Stage.name stage ≡ name_kind.text (name_of name) }
+        requires layout { IsName name }
+        requires may { (bytes : Bytes) × Holds start (Self.Stage.contents stage) bytes
+            × CanCommit start (ticket_of start (seen self.old) ticket) (name_of name) bytes }
+        ensures step { Outcome start (seen self.old) (seen self.new) ticket (CommitStep (name_of name)) commit_reply result }
         ensures own { IfOk result (λ c. ticket_of start (seen self.new) ticket
-            ≡ committed_by (name_of stage.name) (Self.Stage.contents stage.stage) c (ticket_of start (seen self.old) ticket)) }
-        ensures found { result ≡ Ok Commit.Exists → IsMetadata (name_of stage.name) }
+            ≡ committed_by (name_of name) (Self.Stage.contents stage) c (ticket_of start (seen self.old) ticket)) }
+        ensures found { result ≡ Ok Commit.Exists → IsMetadata (name_of name) }
         ensures kept { OnErr result (ticket_of start (seen self.new) ticket ≡ ticket_of start (seen self.old) ticket) }
         ensures holds { holds self.new ticket };
 
@@ -110,12 +112,14 @@ pub trait Desk {
         &mut self,
         alloc: Global,
         ticket: u64,
-        stage: Named<Self::Stage>,
+        name: BlobName,
+        stage: Self::Stage,
     ) -> Result<(), StepRefusal>
         requires mine { holds self.old ticket }
-        requires name { name_of stage.name ≡ Latest }
+        requires named { Self.Stage.name stage ≡ name_kind.text (name_of name) }
+        requires name { name_of name ≡ Latest }
         requires may { (n : ℕ) × CanPut start (ticket_of start (seen self.old) ticket) n
-            × Holds start (Self.Stage.contents stage.stage) (latest_text n) }
+            × Holds start (Self.Stage.contents stage) (latest_text n) }
         ensures step { Outcome start (seen self.old) (seen self.new) ticket LatestStep (λ _. WasReplaced) result }
         ensures own { ticket_of start (seen self.new) ticket ≡ tried_by result (ticket_of start (seen self.old) ticket) }
         ensures holds { holds self.new ticket };
@@ -177,6 +181,16 @@ pub trait Desk {
         ensures own { OnOk result (ticket_of start (seen self.new) ticket
             ≡ record (ticket_of start (seen self.old) ticket) { out = false }) }
         ensures kept { OnErr result (ticket_of start (seen self.new) ticket ≡ ticket_of start (seen self.old) ticket) }
+        ensures holds { holds self.new ticket };
+
+    /// An op that failed leaves the list; its ticket ends.
+    fn dropped(&mut self, alloc: Global, ticket: u64) -> Result<(), StepRefusal>
+        requires mine { holds self.old ticket }
+        requires may { CanDrop (ticket_of start (seen self.old) ticket) }
+        ensures step { Outcome start (seen self.old) (seen self.new) ticket DroppedStep (λ _. HasEnded) result }
+        ensures own { OnOk result (ticket_of start (seen self.new) ticket
+            ≡ record (ticket_of start (seen self.old) ticket) { out = false }) }
+        ensures kept { LeftBy (HasEndedAs (ticket_of start (seen self.old) ticket)) result (ticket_of start (seen self.old) ticket) (ticket_of start (seen self.new) ticket) }
         ensures holds { holds self.new ticket };
 
     /// A settled unit ends.

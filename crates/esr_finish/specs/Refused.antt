@@ -1,32 +1,23 @@
 -- Why the unit stopped or failed, and where its ticket is then.
-use Rattle.std.specs.Prelude.{◌≡◌, ◌⊎◌, ℕ, true, false, List, [], ◌∷◌, ◌++◌, Option, Some, None}
-use Rattle.esr_model.specs.Image.{Image}
+use Rattle.std.specs.Prelude.{◌≡◌, ◌⊎◌, ◌<◌, ℕ, true, false, List, Option, Some, None}
 use Rattle.esr_core.specs.World.{Ticket}
-use Rattle.esr_core.specs.Entry.{Step, SettleStep, FailedStep, FinishStep, OfDepot, Reply, HasEnded, Refused, Refusal, DepotFault, Moment}
+use Rattle.esr_core.specs.Entry.{Step, SettleStep, FailedStep, FinishStep, OfDepot, HasEnded, Refused, Refusal, DepotFault, Moment}
 use Rattle.esr_desk.specs.declared.entry.Why.TheVariants as whys
 use Rattle.esr_desk.specs.declared.unit.UnitRefusal.{UnitRefusal}
 use Rattle.esr_desk.specs.declared.unit.UnitRefusal.TheVariants as units
 use Rattle.esr_desk.specs.Refusals.{told_refusal}
 use Rattle.esr_desk.specs.Start.{Start, formats_of, ticket_of}
+use Rattle.esr_desk.specs.Outcome.{Waited, Stepped, Refusing}
+use Rattle.esr_desk.specs.Last.{IsLast, WasRefused}
 use Rattle.esr_finish.specs.declared.refusal.PutRefusal.{PutRefusal}
 use Rattle.esr_finish.specs.declared.refusal.PutRefusal.TheVariants as puts
 use Rattle.esr_finish.specs.Ticket.{HasSettled}
 use Rattle.esr_finish.specs.Went.{Worked}
 
--- the last entry of the history is this step of the ticket
-pub record IsLast (log : List Moment) (who : ℕ) (step : Step) (reply : Reply) : Type 0 where
-  pub front : List Moment
-  pub image : Option Image
-  pub is : log ≡ front ++ record { entry = record { who = who; step = step; reply = reply }; image = image } ∷ []
-
--- the ticket's last step was refused so, if the history tells it
-abbrev pub WasRefused : List Moment → ℕ → Option Refusal → Type 0
-WasRefused log who None = Unit {0}
-WasRefused log who (Some refusal) = (step : Step) × IsLast log who step (Refused refusal)
-
-abbrev pub IsPutRefused : List Moment → ℕ → PutRefusal → Type 0
-IsPutRefused log who (puts.Step refusal) = WasRefused log who (told_refusal refusal)
-IsPutRefused log who puts.Stage = Unit {0}
+-- Why a blob wasn't put: the ticket's last step was refused so, if the history tells it, or a stage of the desk has failed.
+abbrev pub IsPutRefused : {S : Type 0} → (S → ℕ) → List Moment → ℕ → PutRefusal → Type 0
+IsPutRefused {S} faults log who (puts.Step refusal) = WasRefused log who (told_refusal refusal)
+IsPutRefused {S} faults log who puts.Stage = (stage : S) × (0 < faults stage)
 
 -- a settle, or the end of a ticket
 abbrev pub IsEnding : Step → Type 0
@@ -47,9 +38,26 @@ pub record HasFailed (old new : Ticket) : Type 0 where
   pub is : new ≡ record worked { out = false }
   pub unsettled : new.settled ≡ false
 
+-- a step of the ticket was refused as the container failed in it, and the ticket has made none since
+pub record HadFault (s : Start) (log : List Moment) (who : ℕ) : Type 0 where
+  pub front : List Moment
+  pub step : Step
+  pub refused : IsLast front who step (Refused DepotFault)
+  pub waited : Waited s front log who
+
+-- what failed before the ticket ended so: a stage of the desk, or a step
+abbrev pub HasFault : {S : Type 0} → Start → (S → ℕ) → List Moment → ℕ → Type 0
+HasFault {S} s faults log who = ((stage : S) × (0 < faults stage)) ⊎ HadFault s log who
+
 -- it has failed for the container's sake, or stopped with its ticket out: unsettled, or settled with all that goes before
-abbrev pub IsUnitRefused : Start → List Moment → List Moment → ℕ → UnitRefusal → Type 0
-IsUnitRefused s old new who (units.Failed why) = (why ≡ whys.Depot) × HasFailed (ticket_of s old who) (ticket_of s new who) × IsLast new who (FailedStep OfDepot) HasEnded
-IsUnitRefused s old new who (units.Stopped refusal) =
+abbrev pub IsUnitRefused : {S : Type 0} → Start → (S → ℕ) → List Moment → List Moment → ℕ → UnitRefusal → Type 0
+IsUnitRefused {S} s faults old new who (units.Failed why) =
+    (why ≡ whys.Depot) × HasFailed (ticket_of s old who) (ticket_of s new who) × ((last : IsLast new who (FailedStep OfDepot) HasEnded) × HasFault s faults last.front who)
+IsUnitRefused {S} s faults old new who (units.Stopped refusal) =
     ((ticket_of s new who).out ≡ true) × (Worked (ticket_of s old who) (ticket_of s new who) ⊎ HasSettled (formats_of s) (ticket_of s old who) true (ticket_of s new who))
     × WasStopped new who (told_refusal refusal)
+
+-- the report that the unit failed was taken, so that the ticket has ended, or it was refused
+abbrev pub Reported : Start → List Moment → List Moment → ℕ → UnitRefusal → Type 0
+Reported s old new who (units.Failed why) = (why ≡ whys.Depot) × (ticket_of s new who ≡ record (ticket_of s old who) { out = false }) × Stepped s old new who (FailedStep OfDepot) HasEnded
+Reported s old new who (units.Stopped refusal) = (ticket_of s new who ≡ ticket_of s old who) × Refusing s old new who (FailedStep OfDepot) (told_refusal refusal)

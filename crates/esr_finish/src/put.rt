@@ -10,7 +10,7 @@ ghost use Rattle.esr_finish.specs.Refused.{IsPutRefused};
 
 use crate::refusal::PutRefusal;
 use esr_depot::Stage;
-use esr_desk::Desk;
+use esr_desk::{Desk, Named};
 use esr_names::BlobName;
 use std::alloc::Global;
 
@@ -26,12 +26,13 @@ pub fn put<Q: Desk>(
     requires layout { IsName name }
     requires may { CanCommit Q.start (ticket_of Q.start (Q.seen desk.old) ticket) (name_of name) bytes.now }
     ensures ok { OnOk result (Puts Q.start (Q.seen desk.old) (Q.seen desk.new) ticket ((name_of name, bytes.now) ∷ [])) }
-    ensures refused { IfErr result (λ e. IsPutRefused (Q.seen desk.new) ticket e) }
+    ensures refused { IfErr result (λ e. IsPutRefused Q.Stage.faults (Q.seen desk.new) ticket e) }
     ensures went { Went Q.start (Q.seen desk.old) (Q.seen desk.new) ticket }
     ensures holds { Q.holds desk.new ticket }
 {
     let mut named = desk.begin(alloc, ticket, name, bytes.len())?;
     named.stage.write(bytes)?;
-    desk.commit(alloc, ticket, named)?;
+    let Named { name, stage } = named;
+    desk.commit(alloc, ticket, name, stage)?;
     Ok(())
 }

@@ -13,7 +13,7 @@ use crate::metadata::put_metadata;
 use crate::put::put;
 use crate::refusal::PutRefusal;
 use esr_depot::Stage;
-use esr_desk::{Desk, EntryRefusal, StepRefusal};
+use esr_desk::{Desk, EntryRefusal, Named, StepRefusal};
 use esr_formats::write_root;
 use esr_meta::SnapInfo;
 use esr_names::BlobName;
@@ -30,7 +30,7 @@ fn put_root<Q: Desk>(
     requires mine { Q.holds desk.old ticket }
     requires may { MayPutRoot Q.start (ticket_of Q.start (Q.seen desk.old) ticket) (root_of root.now) }
     ensures ok { IfOk result (λ n. PutsRoot Q.start (Q.seen desk.old) (Q.seen desk.new) ticket (root_of root.now) n) }
-    ensures refused { IfErr result (λ e. IsPutRefused (Q.seen desk.new) ticket e) }
+    ensures refused { IfErr result (λ e. IsPutRefused Q.Stage.faults (Q.seen desk.new) ticket e) }
     ensures went { Went Q.start (Q.seen desk.old) (Q.seen desk.new) ticket }
     ensures holds { Q.holds desk.new ticket }
 {
@@ -56,7 +56,7 @@ fn put_latest<Q: Desk>(
     requires mine { Q.holds desk.old ticket }
     requires may { CanPut Q.start (ticket_of Q.start (Q.seen desk.old) ticket) generation }
     ensures ok { OnOk result (ticket_of Q.start (Q.seen desk.new) ticket ≡ tried (ticket_of Q.start (Q.seen desk.old) ticket)) }
-    ensures refused { IfErr result (λ e. IsPutRefused (Q.seen desk.new) ticket e) }
+    ensures refused { IfErr result (λ e. IsPutRefused Q.Stage.faults (Q.seen desk.new) ticket e) }
     ensures went { Went Q.start (Q.seen desk.old) (Q.seen desk.new) ticket }
     ensures holds { Q.holds desk.new ticket }
 {
@@ -66,7 +66,8 @@ fn put_latest<Q: Desk>(
         Err(refusal) => return Err(PutRefusal::Step(refusal)),
     };
     named.stage.write(&generation.to_be_bytes())?;
-    match desk.latest(alloc, ticket, named) {
+    let Named { name, stage } = named;
+    match desk.latest(alloc, ticket, name, stage) {
         Ok(()) | Err(StepRefusal::Refused(EntryRefusal::DepotFault)) => Ok(()),
         Err(refusal) => Err(PutRefusal::Step(refusal)),
     }
@@ -83,7 +84,7 @@ pub fn write_swap<Q: Desk>(
     requires mine { Q.holds desk.old ticket }
     requires may { MayWrite Q.start (ticket_of Q.start (Q.seen desk.old) ticket) (info_of_code info.now) (root_of root.now) }
     ensures ok { OnOk result (IsWritten (formats_of Q.start) (ticket_of Q.start (Q.seen desk.old) ticket) (ticket_of Q.start (Q.seen desk.new) ticket)) }
-    ensures refused { IfErr result (λ e. IsPutRefused (Q.seen desk.new) ticket e) }
+    ensures refused { IfErr result (λ e. IsPutRefused Q.Stage.faults (Q.seen desk.new) ticket e) }
     ensures went { Went Q.start (Q.seen desk.old) (Q.seen desk.new) ticket }
     ensures holds { Q.holds desk.new ticket }
 {

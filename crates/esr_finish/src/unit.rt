@@ -1,11 +1,12 @@
 //! The unit of a finalization.
 ghost use Rattle.std.specs.Prelude.{◌≡◌, IfErr, OnOk};
 ghost use Rattle.esr_desk.specs.Start.{ticket_of};
+ghost use Rattle.esr_desk.specs.Conditions.{CanFail};
 ghost use Rattle.esr_desk.specs.Taken.{Took};
 ghost use Rattle.esr_finish.specs.Work.{IsFinalize};
 ghost use Rattle.esr_finish.specs.Ticket.{Finalized};
 ghost use Rattle.esr_finish.specs.Went.{Grew};
-ghost use Rattle.esr_finish.specs.Refused.{IsUnitRefused};
+ghost use Rattle.esr_finish.specs.Refused.{IsUnitRefused, Reported};
 
 use crate::refusal::PutRefusal;
 use crate::root::write_swap;
@@ -20,7 +21,7 @@ pub fn run_unit<Q: Desk>(alloc: Global, desk: &mut Q, unit: &Unit) -> Result<(),
     requires fresh { Took Q.start (Q.seen desk.old) unit.now }
     requires work { IsFinalize unit.now.ready.work }
     ensures ok { OnOk result (Finalized Q.start (Q.seen desk.old) (Q.seen desk.new) unit.now.ready.ticket) }
-    ensures refused { IfErr result (λ e. IsUnitRefused Q.start (Q.seen desk.old) (Q.seen desk.new) unit.now.ready.ticket e) }
+    ensures refused { IfErr result (λ e. IsUnitRefused Q.start Q.Stage.faults (Q.seen desk.old) (Q.seen desk.new) unit.now.ready.ticket e) }
     ensures grew { Grew Q.start (Q.seen desk.old) (Q.seen desk.new) }
     ensures holds { Q.holds desk.new unit.now.ready.ticket }
 {
@@ -37,11 +38,24 @@ pub fn run_unit<Q: Desk>(alloc: Global, desk: &mut Q, unit: &Unit) -> Result<(),
             desk.finish(alloc, ticket)?;
             Ok(())
         }
-        Err(PutRefusal::Stage | PutRefusal::Step(StepRefusal::Refused(EntryRefusal::DepotFault))) =>
-            {
-                desk.failed(alloc, ticket, Why::Depot)?;
-                Err(UnitRefusal::Failed(Why::Depot))
-            }
+        Err(PutRefusal::Stage) => Err(fail(alloc, desk, ticket)),
+        Err(PutRefusal::Step(StepRefusal::Refused(EntryRefusal::DepotFault))) => {
+            Err(fail(alloc, desk, ticket))
+        }
         Err(PutRefusal::Step(refusal)) => Err(UnitRefusal::Stopped(refusal)),
+    }
+}
+
+/// Reports that the container failed, which ends the ticket.
+fn fail<Q: Desk>(alloc: Global, desk: &mut Q, ticket: u64) -> UnitRefusal
+    requires mine { Q.holds desk.old ticket }
+    requires may { CanFail (ticket_of Q.start (Q.seen desk.old) ticket) }
+    ensures reported { Reported Q.start (Q.seen desk.old) (Q.seen desk.new) ticket result }
+    ensures grew { Grew Q.start (Q.seen desk.old) (Q.seen desk.new) }
+    ensures holds { Q.holds desk.new ticket }
+{
+    match desk.failed(alloc, ticket, Why::Depot) {
+        Ok(()) => UnitRefusal::Failed(Why::Depot),
+        Err(refusal) => UnitRefusal::Stopped(refusal),
     }
 }

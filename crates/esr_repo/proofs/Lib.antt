@@ -2,3 +2,14 @@ pub mod Frames
 pub mod Logs
 pub mod Repos
 pub mod Plain
+pub mod BlobCalls
+pub mod Swaps
+pub mod Fresh
+pub mod Stepping
+pub mod Drawing
+pub mod Ended
+pub mod Written
+pub mod Swapping
+pub mod Accepts
+pub mod Taken
+pub mod Doing

@@ -9,6 +9,7 @@ use Rattle.esr_core.specs.Entry.{Entry, Moment}
 use Rattle.esr_core.specs.After.{blobs_in, after}
 use Rattle.esr_core.specs.Allowed.{SameBlobs, Allowed}
 use Rattle.esr_core.specs.Tracked.{Tracked}
+use Rattle.esr_core.specs.Ranked.{Ranked}
 use Rattle.esr_depot.specs.Image.{Image as Held}
 use Rattle.esr_depot.specs.Look.{Look, now}
 use Rattle.esr_depot.specs.Calls.{Stays}
@@ -126,6 +127,7 @@ module _ (old new : Look) (s : Start) (clock : ℕ) (es es' : List Entry) (k k' 
           image = λ i is. held_is i is ∙ ap (core.image_of (formats_of s)) (sym new_world);
           record_back = subst (λ (w : World). ReadsBack cluster_kind (record_of w)) (sym new_world) (subst (λ kind. ReadsBack kind (record_of w')) (cluster_is s) allowed.record_back);
           tracked = subst Tracked (sym new_world) (laws.tracked (formats_of s) s.part_size (world_of s seen) moment steady.tracked allowed);
+          ranked = subst Ranked (sym new_world) (laws.ranked (formats_of s) s.part_size (world_of s seen) moment steady.tracked steady.ranked allowed);
           no_deletes = ap (λ (w : World). w.deletes) new_world ∙ frame.deletes steady.no_deletes;
           no_deleting = subst (λ (w : World). NoDeleting w) (sym new_world) (frame.no_deleting steady.no_deleting);
           few_ops = subst (λ (w : World). w.next_op ≤ s.world.next_op + length (log_of new clock es')) (sym new_world) (omega (arith, frame.ops, steady.few_ops, longer));
@@ -137,6 +139,7 @@ module _ (old new : Look) (s : Start) (clock : ℕ) (es es' : List Entry) (k k' 
         → ((place : ℕ) → d' ≡ Some place → (after (formats_of s) (world_of s seen) moment).deposed ≡ true) → IsRepo new s clock es' k' d'
     added_repo live fallen =
         record {
+          roomy = r.roomy;
           bounded = r.bounded;
           clock_is = goes.clock ∙ ap (λ t. tick t e) r.clock_is ∙ sym (ticks-append clock es e) ∙ ap (ticks clock) (sym pushed);
           tells = tells;
@@ -153,6 +156,7 @@ repo_stays old new s clock es k d r n =
     let same : log_of new clock es ≡ log_of old clock es = log_stays old new clock es r.bounded n in
     let here : now new ≡ now old = ap new.at n.clock ∙ n.at old.clock in
     record {
+      roomy = r.roomy;
       bounded = r.bounded;
       clock_is = n.clock ∙ r.clock_is;
       tells = record { untold = λ e. r.tells.untold (sym here ∙ e); told = λ i e. r.tells.told i (sym here ∙ e) };
@@ -164,6 +168,7 @@ repo_stays old new s clock es k d r n =
             image = λ i e. h.image i (sym here ∙ e);
             record_back = h.record_back;
             tracked = h.tracked;
+            ranked = h.ranked;
             no_deletes = h.no_deletes;
             no_deleting = h.no_deleting;
             few_ops = h.few_ops;

@@ -6,7 +6,9 @@ use Rattle.esr_core.specs.Entry.{Moment}
 use Rattle.esr_core.specs.After.{swaps_record, after}
 use Rattle.esr_core.specs.Allowed.{Allowed}
 use Rattle.esr_core.specs.Tracked.{Tracked}
+use Rattle.esr_core.specs.Ranked.{Ranked}
 
 pub record Laws : Type 0 where
   pub tracked : (f : Formats) (part_size : ℕ) (w : World) (m : Moment) → Tracked w → Allowed f part_size w m → Tracked (after f w m)
+  pub ranked : (f : Formats) (part_size : ℕ) (w : World) (m : Moment) → Tracked w → Ranked w → Allowed f part_size w m → Ranked (after f w m)
   pub record_stays : (f : Formats) (w : World) (m : Moment) → swaps_record m.entry.step ≡ false → record_of (after f w m) ≡ record_of w

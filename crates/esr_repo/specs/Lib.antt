@@ -4,3 +4,6 @@ pub mod Next
 pub mod May
 pub mod Laws
 pub mod Grown
+pub mod Calls
+pub mod Open
+pub mod Given

@@ -6,6 +6,7 @@ use Rattle.esr_core.specs.World.{World, Deleting, Swap, Ticket, record_of}
 use Rattle.esr_core.specs.World as core
 use Rattle.esr_core.specs.Entry.{Entry, Moment}
 use Rattle.esr_core.specs.Tracked.{Tracked}
+use Rattle.esr_core.specs.Ranked.{Ranked}
 use Rattle.esr_root.specs.Root.{Root}
 use Rattle.esr_record.specs.Record.{Record}
 use Rattle.esr_depot.specs.Image.{Image as Held}
@@ -45,22 +46,24 @@ pub record IsSteady (s : Start) (log : List Moment) (l : Look) : Type 0 where
   pub image : (i : Held) → now l ≡ Some i → image_of i ≡ core.image_of (formats_of s) (world_of s log)
   pub record_back : ReadsBack cluster_kind (record_of (world_of s log))
   pub tracked : Tracked (world_of s log)
+  pub ranked : Ranked (world_of s log)
   pub no_deletes : (world_of s log).deletes ≡ fin.empty
   pub no_deleting : NoDeleting (world_of s log)
   pub few_ops : (world_of s log).next_op ≤ s.world.next_op + length log
   pub few_tickets : (world_of s log).next_ticket ≤ s.world.next_ticket + length log
 
+-- a start from which there can be as many steps as anyone makes
+pub record IsRoomy (s : Start) : Type 0 where
+  pub ops : s.world.next_op ≤ 2 ^ 61
+  pub tickets : s.world.next_ticket ≤ 2 ^ 61
+
 -- The history is legal from what was told at the start to what the container has now. After a record swap that failed,
 -- at the place that is kept, nothing is said of what is kept.
 pub record IsRepo (l : Look) (s : Start) (clock : ℕ) (es : List Entry) (k : Kept) (deposed : Option ℕ) : Type 0 where
+  pub roomy : IsRoomy s
   pub bounded : clock ≤ 2 ^ 64 - 1
   pub clock_is : l.clock ≡ ticks clock es
   pub tells : TellsSo l s.tells
   pub steady : IsSteady s (log_of l clock es) l
   pub live : deposed ≡ None → ((world_of s (log_of l clock es)).deposed ≡ false) × IsKeptOf (world_of s (log_of l clock es)) k
   pub fallen : (place : ℕ) → deposed ≡ Some place → (world_of s (log_of l clock es)).deposed ≡ true
-
--- a start from which there can be as many steps as anyone makes
-pub record IsRoomy (s : Start) : Type 0 where
-  pub ops : s.world.next_op ≤ 2 ^ 61
-  pub tickets : s.world.next_ticket ≤ 2 ^ 61

@@ -1,9 +1,20 @@
 //! A container beside the history of its steps.
 #![tactic(auto)]
 
+mod accepting;
+mod asking;
+mod calls;
+mod ending;
+mod kept;
+mod open;
+mod renewing;
 mod repo;
 mod steps;
+mod swap;
+mod taking;
 mod told;
+mod writing;
 
+pub use open::{OpenRefusal, Opening, open_container};
 pub use repo::Repo;
 pub use told::Told;

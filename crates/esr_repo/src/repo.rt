@@ -1,5 +1,6 @@
 //! A container beside the history of its steps, and what is kept of the world that they lead to.
 ghost use Rattle.std.specs.Prelude.{◌≡◌, ℕ, [], List, Option, None};
+ghost use Rattle.esr_desk.specs.Start.{Legal};
 ghost use Rattle.esr_repo.specs.Laws.{Laws};
 ghost use Rattle.esr_repo.specs.Log.{log_of};
 ghost use Rattle.esr_repo.specs.Repo.{Kept, IsRepo};
@@ -91,11 +92,19 @@ impl<D: Depot, K: Told> Repo<D, K> {
         (depot, History::from_vec(history))
     }
 
+    /// The history is legal.
+    pub fn is_legal(&self)
+        ensures { Legal K.start self.now }
+    {
+        let _ = &self.depot;
+    }
+
     /// The laws of steps.
     pub(crate) fn laws()
         ensures { Laws }
     {
         esr_core::each_step_is_tracked();
+        esr_core::each_step_is_ranked();
         esr_core::the_record_stays();
     }
 }

@@ -1,0 +1,65 @@
+-- What a step makes of its ticket, whatever is answered.
+use Rattle.std.proofs.Common.{◌≡◌, ◌⊎◌, ℕ, Bool, true, false, cond, List, Option, Some, None, option_map, Result, Ok, Err, OnOk, IfErr, IsErrAnd, Ordering, Less, Equal, Greater, is_eq, nat_cmp, refl, sym, ap, ◌∙◌, subst}
+use Rattle.std.specs.Ordering.{eq_by_cmp}
+use Rattle.std.specs.Cmp.{nat_cmp_total}
+use Rattle.std.specs.FinMap.{FinMap, nat_cmp-IsAntisymmetric}
+use Rattle.std.specs.FinMap as fin
+use Rattle.esr_progress.specs.Plan.{seat_of}
+use Rattle.esr_model.specs.Image.{Image}
+use Rattle.esr_core.specs.World.{World, Ticket}
+use Rattle.esr_core.specs.Entry.{Step, Reply, Refused, DepotFault, Moment}
+use Rattle.esr_core.specs.After.{with_given, change, faulted}
+use Rattle.esr_desk.specs.Refusals.{refusal_of, told_refusal}
+use Rattle.esr_desk.specs.declared.refusal.StepRefusal.{StepRefusal}
+use Rattle.esr_desk.specs.declared.refusal.StepRefusal.TheVariants as steps
+use Rattle.esr_desk.specs.declared.refusal.EntryRefusal.TheVariants as code
+use Rattle.esr_desk.specs.Start.{Start, formats_of, world_of, or_no_ticket, ticket_of}
+use Rattle.esr_repo.specs.Next.{Added, AddedOr, Did}
+use Rattle.esr_repo.specs.Grown.{added_ticket}
+
+-- a step after a check that added nothing
+pub did_from : {X : Type 0} (s : Start) (old mid new : List Moment) (who : ℕ) (step : Step) (ok : X → Reply) (r : Result X StepRefusal) → mid ≡ old → Did s mid new who step ok r → Did s old new who step ok r
+did_from s old mid new who step ok r e d = subst (λ (log : List Moment). Did s log new who step ok r) e d
+
+pub added_from : (s : Start) (old mid new : List Moment) (who : ℕ) (step : Step) (reply : Reply) → mid ≡ old → Added s mid new who step reply → Added s old new who step reply
+added_from s old mid new who step reply e a = subst (λ (log : List Moment). Added s log new who step reply) e a
+
+-- a refusal leaves the ticket, where a failed call of the container leaves the world
+pub kept_by : (s : Start) (old new : List Moment) (who : ℕ) (step : Step) (e : StepRefusal) → ((image : Option Image) → faulted (formats_of s) (world_of s old) who step image ≡ world_of s old) → AddedOr s old new who step (told_refusal e) → ticket_of s new who ≡ ticket_of s old who
+kept_by s old new who step steps.Memory still same = ap (λ (log : List Moment). ticket_of s log who) same
+kept_by s old new who step steps.TurnsSpent still same = ap (λ (log : List Moment). ticket_of s log who) same
+kept_by s old new who step (steps.Refused code.DepotFault) still a =
+    added_ticket s old new who step (Refused DepotFault) a who ∙ ap (λ (w : World). or_no_ticket (fin.get w.tickets who)) (still a.image)
+kept_by s old new who step (steps.Refused x) still a = added_ticket s old new who step (Refused (refusal_of x)) a who
+
+-- the next id stays where a ticket is given anew
+pub next_given : (w : World) (k : ℕ) (g : Ticket → Ticket) → (change w k g).next_id ≡ w.next_id
+next_given w k g = go (fin.get w.tickets k)
+  where
+    go : (o : Option Ticket) → (with_given w k g o).next_id ≡ w.next_id
+    go None = refl
+    go (Some t) = refl
+
+tied : (r : Ordering) → is_eq r ≡ true → r ≡ Equal
+tied Less e = cc
+tied Equal e = refl
+tied Greater e = cc
+
+-- a ticket given anew keeps its seat where what is kept of it stays
+pub same_seats : (tickets : FinMap nat_cmp Ticket) (k : ℕ) (t v : Ticket) → fin.get tickets k ≡ Some t → seat_of v ≡ seat_of t → (q : ℕ) → option_map seat_of (fin.get tickets q) ≡ option_map seat_of (fin.get (fin.insert tickets k v) q)
+same_seats tickets k t v there same q =
+    sym (ap (option_map seat_of) (fin.get-insert nat_cmp_total tickets k v q) ∙ go (eq_by_cmp nat_cmp q k) refl)
+  where
+    go : (b : Bool) → eq_by_cmp nat_cmp q k ≡ b → option_map seat_of (cond b (Some v) (fin.get tickets q)) ≡ option_map seat_of (fin.get tickets q)
+    go true e = ap Some same ∙ sym (ap (option_map seat_of) (ap (fin.get tickets) (nat_cmp-IsAntisymmetric q k (tied (nat_cmp q k) e)) ∙ there))
+    go false e = refl
+
+-- what an added entry gives, where the step was made
+pub on_done : {X P : Type 0} (s : Start) (mid new : List Moment) (who : ℕ) (step : Step) (reply : Reply) (r : Result X StepRefusal) → Did s mid new who step (λ x. reply) r → (Added s mid new who step reply → P) → OnOk r P
+on_done s mid new who step reply (Ok x) did f = f did
+on_done s mid new who step reply (Err e) did f = tt
+
+-- an error that is passed on
+pub err_passed : {T E : Type 0} (r : Result T E) (P : E → Type 0) (x : E) → IsErrAnd r (λ e. e ≡ x) → P x → IfErr r P
+err_passed (Ok t) P x is holds = tt
+err_passed (Err e) P x is holds = subst P (sym is) holds

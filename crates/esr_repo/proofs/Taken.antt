@@ -1,0 +1,278 @@
+-- A unit that is given.
+use Rattle.std.proofs.Common.{◌≡◌, ◌≢◌, ℕ, suc, ◌<◌, Bool, true, false, ◌&&◌, List, [], ◌∷◌, map, Option, Some, None, option_map, refl, sym, ap, ◌∙◌, subst, inl, inr}
+use Rattle.std.specs.Prelude.{if◌then◌else◌, ◌==◌}
+use Rattle.std.proofs.lemmas.Bool.{eqb-true}
+use Rattle.std.specs.FinMap as fin
+use Rattle.esr_names.specs.declared.ids.Id.{Id}
+use Rattle.esr_model.specs.Image.{Image, AllPairs}
+use Rattle.esr_model.specs.Shelf.{Shelved}
+use Rattle.esr_model.specs.Places.{places}
+use Rattle.esr_model.specs.Finalize.{finalized_root}
+use Rattle.esr_model.specs.Values.{Bytes, Has, IndexRef, RootSnap, RootIndex, RootData, SnapInfo, ShardResult, ReadsBack, Formats}
+use Rattle.esr_core.specs.World.{World, Op, ShardWork, Done, AllDone, Shard, Finalize, Drop, Ticket, info_of, shelved_of}
+use Rattle.esr_core.specs.Entry.{Given, GivenShard, GivenFinalize, GivenDrop, TakeStep, Gave, NothingReady, Moment}
+use Rattle.esr_core.specs.Ready.{ReadyFinalize, AnyReady}
+use Rattle.esr_core.specs.Steps.{shard_ticket, final_ticket}
+use Rattle.esr_core.specs.After.{shard_of, taken_shard, taken_by}
+use Rattle.esr_core.specs.Allowed.{Gives, Giving, GivingNothing}
+use Rattle.esr_core.specs.Tracked.{Tracked, IsOneIndex, Named}
+use Rattle.esr_core.specs.Turns.{plain_ticket}
+use Rattle.esr_root.specs.Root.{Root}
+use Rattle.esr_meta.specs.Info.{Info}
+use Rattle.esr_formats.specs.Formats.{formats}
+use Rattle.esr_formats.specs.Ids.{number_of}
+use Rattle.esr_formats.specs.Roots.{root_of, root_kind}
+use Rattle.esr_formats.specs.Infos.{info_of_code}
+use Rattle.esr_formats.specs.Clusters.{count_of}
+use Rattle.esr_results.specs.declared.result.ShardResult.{ShardResult as CodeResult}
+use Rattle.esr_results.specs.Results.{result_of}
+use Rattle.esr_results.specs.NewRoot.{MayFinalize}
+use Rattle.esr_progress.specs.declared.unit.Work.{Work}
+use Rattle.esr_progress.specs.declared.unit.Work.TheVariants as works
+use Rattle.esr_progress.specs.declared.unit.ReadyUnit.{ReadyUnit}
+use Rattle.esr_progress.specs.declared.unit.Copied.{Copied}
+use Rattle.esr_progress.specs.Plan.{Plan, IsPlanOf, IsGivenIn}
+use Rattle.esr_progress.specs.Units.{given_by, given_of, IsCopyOf, GivesWork, GivesUnit, NextUnit}
+use Rattle.esr_desk.specs.Start.{Start, formats_of, world_of, or_no_ticket, ticket_of}
+use Rattle.esr_desk.specs.Taken.{fresh, NewRoot, TookWork}
+use Rattle.esr_repo.specs.Given.{base_for, based, IsBased, IsRootable, IsRootFor, HasRoot}
+use Rattle.esr_repo.specs.Next.{Added}
+use Rattle.esr_repo.specs.May.{MayNote}
+use Rattle.esr_repo.specs.Grown.{put_there, added_ticket}
+
+-- ---- no unit is ready
+
+pub may_note_nothing : (s : Start) (log : List Moment) (next : ℕ) → (AnyReady (world_of s log) → ⊥) → next ≡ (world_of s log).next_id → MayNote s log 0 TakeStep NothingReady None next
+may_note_nothing s log next none next_is = record { plain = refl; allows = λ image same. GivingNothing image none same; plan_is = λ image old h. h; next_is = λ image. next_is }
+
+-- ---- the unit that is ready
+
+pub given_in : (w : World) (plan : Plan) (root : Root) (safe term : ℕ) → IsPlanOf w plan → root_of root ≡ w.root → safe ≡ w.safe → term ≡ w.term → IsGivenIn plan (root_of root) safe term w
+given_in w plan root safe term plan_is root_is safe_is term_is = record { plan = plan_is; root_is = sym root_is; safe_is = sym safe_is; term_is = sym term_is }
+
+given_based : (work : Work) (copy : Copied) → given_by work (record copy { base = base_for work copy.base }) ≡ given_by work copy
+given_based (works.Shard uuid shard index place) copy = refl
+given_based (works.Finalize info shards) copy = refl
+given_based works.Drop copy = refl
+
+gives_based : (w : World) (o : ℕ) (work : Work) (copy : Copied) → GivesWork w o work copy → GivesWork w o work (record copy { base = base_for work copy.base })
+gives_based w o (works.Shard uuid shard index place) copy h = h
+gives_based w o (works.Finalize info shards) copy h = h
+gives_based w o works.Drop copy h = h
+
+abbrev Next : World → Plan → ReadyUnit → Type 0
+Next w new u = GivesUnit w u × ((f : Formats) → IsPlanOf (taken_by f w u.op (given_of u) (fin.get w.ops u.op)) new)
+
+next_based : (w : World) (new : Plan) (u : ReadyUnit) → Next w new u → Next w new (based u)
+next_based w new u h = (
+  record { ticket = h.0.ticket; lowest = h.0.lowest; gives = gives_based w u.op u.work u.copy h.0.gives; copy = record { safe = h.0.copy.safe; root = h.0.copy.root } },
+  λ f. subst (λ (x : Given). IsPlanOf (taken_by f w u.op x (fin.get w.ops u.op)) new) (sym (given_based u.work u.copy)) (h.1 f),
+)
+
+pub next_unit : (w : World) (new : Plan) (u v : ReadyUnit) → v ≡ based u → Next w new u → Next w new v
+next_unit w new u v e h = subst (Next w new) (sym e) (next_based w new u h)
+
+-- ---- the root of a finalization
+
+-- the results of an op's shards are of its shards
+each_result : (shards : List ShardWork) (results : List ShardResult) → AllDone shards results → ((s : ShardWork) (r : ShardResult) → Has shards s → s.state ≡ Done r → (r.index ≡ s.ref.id) × (r.shard ≡ s.number))
+    → map {B = ℕ × ℕ} (λ (r : ShardResult). (r.index, r.shard)) results ≡ map {B = ℕ × ℕ} (λ (p : IndexRef × ℕ). (p.0.id, p.1)) (map {B = IndexRef × ℕ} (λ (s : ShardWork). (s.ref, s.number)) shards)
+each_result [] [] done own = refl
+each_result [] (r ∷ results) done own = absurd done
+each_result (s ∷ shards) [] done own = absurd done
+each_result (s ∷ shards) (r ∷ results) done own =
+    let here = own s r (inl refl) done.0 in
+    let rest = each_result shards results done.1 (λ z q has. own z q (inr has)) in
+    let first : (r.index, r.shard) ≡ (s.ref.id, s.number) = λ i. (here.0 i, here.1 i) in
+    λ i. first i ∷ rest i
+
+finalizable : (w : World) (o : ℕ) (op : Op) (results : List ShardResult) → Tracked w → ReadyFinalize w o op results → MayFinalize w.root (info_of op results) results
+finalizable w o op results tracked ready = record {
+  unlisted = λ s has. tracked.named.unlisted o op s ready.op_there has;
+  indices = λ r x has there. tracked.named.rooted o op r x ready.op_there has there;
+  each = each_result op.shards results ready.done (λ s r has done. tracked.named.results o op s r ready.op_there has done) ∙ ap (map {B = ℕ × ℕ} (λ (p : IndexRef × ℕ). (p.0.id, p.1))) (tracked.named.shards o op ready.op_there);
+}
+
+pub rootable : (w : World) (u : ReadyUnit) → Tracked w → GivesUnit w u → IsRootable u
+rootable w u tracked gives info shards is =
+    let work : GivesWork w u.op (works.Finalize info shards) u.copy = subst (λ (x : Work). GivesWork w u.op x u.copy) is gives.gives in
+    let made = finalizable w u.op work.0 (map result_of shards) tracked work.1 in
+    subst (λ (x : RootData). MayFinalize x (info_of_code info) (map result_of shards)) (sym gives.copy.root) (subst (λ (x : SnapInfo). MayFinalize w.root x (map result_of shards)) (sym work.2) made)
+
+-- ---- it is given
+
+root_kind_is : (s : Start) → (formats_of s).root ≡ root_kind
+unfolding formats
+root_kind_is s = refl
+
+given_so : (s : Start) (w : World) (u : ReadyUnit) (made : Option Root) → GivesUnit w u → HasRoot u made → Gives (formats_of s) w u.op (given_of u)
+given_so s w u made gives has = go u.work refl gives.gives
+  where
+    go : (work : Work) → u.work ≡ work → GivesWork w u.op work u.copy → Gives (formats_of s) w u.op (given_by work u.copy)
+    go (works.Shard uuid shard index place) is h = h.gives
+    go works.Drop is h = h
+    go (works.Finalize info shards) is h =
+        let root = has info shards is in
+        let same : root_of root.root ≡ finalized_root w.root (info_of h.0 (map result_of shards)) (map result_of shards) =
+        root.is ∙ ap (λ (x : RootData). finalized_root x (info_of_code info) (map result_of shards)) gives.copy.root ∙ ap (λ (x : SnapInfo). finalized_root w.root x (map result_of shards)) h.2 in
+        record {
+          op = h.0;
+          ready = h.1;
+          info_is = h.2;
+          root_back = subst (λ kind. ReadsBack kind (finalized_root w.root (info_of h.0 (map result_of shards)) (map result_of shards))) (sym (root_kind_is s)) (subst (ReadsBack root_kind) same root.back);
+        }
+
+next_taken : (f : Formats) (w : World) (o : ℕ) (unit : Given) (op : Option Op) → (taken_by f w o unit op).next_id ≡ w.next_id
+next_taken f w o (GivenShard index number base) (Some op) = go (shard_of op.shards index number)
+  where
+    go : (s : Option ShardWork) → (taken_shard w o op base s).next_id ≡ w.next_id
+    go None = refl
+    go (Some s) = refl
+next_taken f w o (GivenShard index number base) None = refl
+next_taken f w o (GivenFinalize info results) (Some op) = refl
+next_taken f w o (GivenFinalize info results) None = refl
+next_taken f w o GivenDrop op = refl
+
+pub may_give : (s : Start) (log : List Moment) (u : ReadyUnit) (made : Option Root) (given : Given) (p : Plan) (next : ℕ) → GivesUnit (world_of s log) u → HasRoot u made → given ≡ given_of u
+    → ((f : Formats) → IsPlanOf (taken_by f (world_of s log) u.op (given_of u) (fin.get (world_of s log).ops u.op)) p) → next ≡ (world_of s log).next_id → MayNote s log 0 TakeStep (Gave u.ticket u.op given) (Some p) next
+may_give s log u made given p next gives has given_is plan next_is =
+    subst (λ (x : Given). MayNote s log 0 TakeStep (Gave u.ticket u.op x) (Some p) next) (sym given_is)
+    (record {
+      plain = refl;
+      allows = λ image same. Giving u.ticket u.op (given_of u) image gives.ticket gives.lowest (given_so s (world_of s log) u made gives has) same;
+      plan_is = λ image old h. plan (formats_of s);
+      next_is = λ image. next_is ∙ sym (next_taken (formats_of s) (world_of s log) u.op (given_of u) (fin.get (world_of s log).ops u.op));
+    })
+
+-- ---- its ticket
+
+some_shard : (a b : ShardWork) → Some a ≡ Some b → a ≡ b
+some_shard a b q = cc
+
+no_shard : (b : ShardWork) → None ≡ Some b → ⊥
+no_shard b q = cc
+
+both_true : (a b : Bool) → (a && b) ≡ true → (a ≡ true) × (b ≡ true)
+both_true true true e = (refl, refl)
+both_true true false e = cc
+both_true false b e = cc
+
+-- the shard that is found is of this index and number
+shard_found : (shards : List ShardWork) (index number : ℕ) (s : ShardWork) → shard_of shards index number ≡ Some s → (s.ref.id ≡ index) × (s.number ≡ number)
+shard_found [] index number s e = absurd (no_shard s e)
+shard_found (z ∷ shards) index number s e = go ((z.ref.id == index) && (z.number == number)) refl e (shard_found shards index number s)
+  where
+    go : (b : Bool) → ((z.ref.id == index) && (z.number == number)) ≡ b → (if b then Some z else shard_of shards index number) ≡ Some s → (shard_of shards index number ≡ Some s → (s.ref.id ≡ index) × (s.number ≡ number))
+        → (s.ref.id ≡ index) × (s.number ≡ number)
+    go true is q rest =
+        let h = both_true (z.ref.id == index) (z.number == number) is in
+        let same : z ≡ s = some_shard z s q in
+        (ap (λ (x : ShardWork). x.ref.id) (sym same) ∙ eqb-true z.ref.id index h.0, ap (λ (x : ShardWork). x.number) (sym same) ∙ eqb-true z.number number h.1)
+    go false is q rest = rest q
+
+module _ (s : Start) (old new : List Moment) (u : ReadyUnit) (made : Option Root) (gives : GivesUnit (world_of s old) u) (has : HasRoot u made) where
+  abbrev w : World
+  w = world_of s old
+
+  abbrev f : Formats
+  f = formats_of s
+
+  abbrev ticket_by : Given → Option Op → Ticket
+  ticket_by unit op = or_no_ticket (fin.get (taken_by f w u.op unit op).tickets u.ticket)
+
+  put : (t : Ticket) → or_no_ticket (fin.get (fin.insert w.tickets w.next_ticket t) u.ticket) ≡ t
+  put t = ap (λ (k : ℕ). or_no_ticket (fin.get (fin.insert w.tickets w.next_ticket t) k)) gives.ticket ∙ ap or_no_ticket (put_there w.tickets w.next_ticket t)
+
+  shard_is : (op : Op) (z : ShardWork) (index number uuid : ℕ) (base : Option ℕ) (name place : Bytes) → z.ref.id ≡ index → z.number ≡ number → uuid ≡ op.uuid → name ≡ z.ref.name → place ≡ z.place → base ≡ option_map number_of u.copy.base
+      → shard_ticket w u.op op z base ≡ fresh (Shard index number) u.op uuid place name w.term u.copy
+  shard_is op z index number uuid base name place index_is number_is uuid_is name_is place_is base_is = λ i. record {
+    work = Shard (index_is i) (number_is i);
+    op = u.op;
+    uuid = sym uuid_is i;
+    place = sym place_is i;
+    name = sym name_is i;
+    term = w.term;
+    safe = sym gives.copy.safe i;
+    root = sym gives.copy.root i;
+    base = base_is i;
+    first = 0;
+    drawn = 0;
+    noted = [];
+    wrote = [];
+    read = [];
+    raised = None;
+    tried_latest = false;
+    settled = false;
+    out = true;
+  }
+
+  final_is : (op : Op) (info : SnapInfo) (results : List ShardResult) → info ≡ info_of op results → None ≡ option_map number_of u.copy.base → final_ticket f w u.op op results ≡ fresh (Finalize info results (shelved_of f op)) u.op info.uuid [] [] w.term u.copy
+  final_is op info results info_is base_is = λ i. record {
+    work = Finalize (sym info_is i) results (shelved_of f op);
+    op = u.op;
+    uuid = (sym info_is i).uuid;
+    place = [];
+    name = [];
+    term = w.term;
+    safe = sym gives.copy.safe i;
+    root = sym gives.copy.root i;
+    base = base_is i;
+    first = 0;
+    drawn = 0;
+    noted = [];
+    wrote = [];
+    read = [];
+    raised = None;
+    tried_latest = false;
+    settled = false;
+    out = true;
+  }
+
+  drop_is : None ≡ option_map number_of u.copy.base → plain_ticket w u.op Drop ≡ fresh Drop u.op 0 [] [] w.term u.copy
+  drop_is base_is = λ i. record {
+    work = Drop;
+    op = u.op;
+    uuid = 0;
+    place = [];
+    name = [];
+    term = w.term;
+    safe = sym gives.copy.safe i;
+    root = sym gives.copy.root i;
+    base = base_is i;
+    first = 0;
+    drawn = 0;
+    noted = [];
+    wrote = [];
+    read = [];
+    raised = None;
+    tried_latest = false;
+    settled = false;
+    out = true;
+  }
+
+  took_by : (work : Work) (t : Ticket) → u.work ≡ work → GivesWork w u.op work u.copy → u.copy.base ≡ base_for work u.copy.base → t ≡ ticket_by (given_by work u.copy) (fin.get w.ops u.op) → TookWork work made u.op u.copy t
+  took_by (works.Shard uuid shard index place) t is h base t_is =
+      let found = shard_found h.gives.op.shards shard.index.number shard.number h.gives.s h.gives.found in (
+        w.term,
+        t_is
+            ∙ ap (ticket_by (GivenShard shard.index.number shard.number (option_map number_of u.copy.base))) h.gives.ready.op_there
+            ∙ ap (λ (x : Option ShardWork). or_no_ticket (fin.get (taken_shard w u.op h.gives.op (option_map number_of u.copy.base) x).tickets u.ticket)) h.gives.found
+            ∙ put (shard_ticket w u.op h.gives.op h.gives.s (option_map number_of u.copy.base))
+            ∙ shard_is h.gives.op h.gives.s shard.index.number shard.number uuid.number (option_map number_of u.copy.base) index place found.0 found.1 h.uuid_is h.name_is h.place_is refl,
+        h.few,
+      )
+  took_by (works.Finalize info shards) t is h base t_is =
+      let root = has info shards is in (
+        w.term,
+        shelved_of f h.0,
+        t_is
+            ∙ ap (ticket_by (GivenFinalize (info_of_code info) (map result_of shards))) h.1.op_there
+            ∙ put (final_ticket f w u.op h.0 (map result_of shards))
+            ∙ final_is h.0 (info_of_code info) (map result_of shards) h.2 (ap (option_map number_of) (sym base)),
+        subst (λ (x : Option Root). NewRoot x (finalized_root (root_of u.copy.root) (info_of_code info) (map result_of shards))) (sym root.made_is) root.is,
+      )
+  took_by works.Drop t is h base t_is = (w.term, t_is ∙ put (plain_ticket w u.op Drop) ∙ drop_is (ap (option_map number_of) (sym base)))
+
+  pub took : (given : Given) → IsBased u → given ≡ given_of u → Added s old new 0 TakeStep (Gave u.ticket u.op given) → TookWork u.work made u.op u.copy (ticket_of s new u.ticket)
+  took given base given_is a =
+      took_by u.work (ticket_of s new u.ticket) refl gives.gives base (added_ticket s old new 0 TakeStep (Gave u.ticket u.op given) a u.ticket ∙ ap (λ (x : Given). ticket_by x (fin.get w.ops u.op)) given_is)

@@ -1,0 +1,15 @@
+use Rattle.std.proofs.Common.{◌∙◌, ap, map, w64, rules}
+use Rattle.std.proofs.lemmas.Int.{to_z-of_z}
+use Rattle.esr_model.specs.Values.{RootData}
+use Rattle.esr_root.specs.Root.{Root}
+use Rattle.esr_formats.specs.Roots.{root_snap_of}
+use Rattle.esr_formats.specs.Clusters.{count_of}
+use Rattle.esr_repo.proofs.Drawing.{may_look}
+use Rattle.esr_repo.proofs.repo.Repo.look.Goals as goal
+
+pub note-requires-clause-may : goal.note-requires-clause-may
+note-requires-clause-may g c =
+    may_look g.K.Told.start c.check.new.self _ _ _
+    (ap (map root_snap_of) (c.in_ok-snapshots.ensures ∙ c.in_ok-listing.ensures ∙ ap (λ (r : Root). r.snapshots) c.behind-self.view_is) ∙ ap (λ (r : RootData). r.snapshots) c.safe_root.ensures)
+    (ap count_of (to_z-of_z w64 c.safe-safe.result (search rules)) ∙ c.safe-safe.ensures)
+    c.next_id-next.ensures.number

@@ -1,0 +1,109 @@
+//! What a repository keeps after a command was accepted, or why it is not.
+ghost use Rattle.std.specs.Prelude.{◌≡◌, ◌<◌, ◌^◌, List, length, IfOk, IfErr, IfSome};
+ghost use Rattle.esr_core.specs.Entry.{Asked, AskStep, Accepted, Moment};
+ghost use Rattle.esr_progress.specs.Asked.{asked_of, IsAskable};
+ghost use Rattle.esr_progress.specs.Accepting.{IsRefused, name_asked};
+ghost use Rattle.esr_desk.specs.Entries.{step_of};
+ghost use Rattle.esr_desk.specs.Refusals.{refusal_of, told_refusal};
+ghost use Rattle.esr_desk.specs.Start.{Start, world_of};
+ghost use Rattle.esr_repo.specs.Next.{IsLive, AddedOr};
+ghost use Rattle.esr_repo.specs.May.{MaySwap, MayRefuse};
+
+use crate::swap::Renewed;
+use crate::{Repo, Told};
+use esr_depot::Depot;
+use esr_desk::{EntryRefusal, Step, StepRefusal};
+use esr_names::Id;
+use esr_progress::{AskedIndex, AskedIndices, Command, Refusal};
+use std::alloc::{AllocError, Global};
+
+/// A copy of the indices of a command.
+fn indices_copy(alloc: Global, indices: &AskedIndices) -> Result<AskedIndices, AllocError>
+    ensures { IfOk result (λ copy. copy ≡ indices.now) }
+{
+    let mut copy = AskedIndices::with_capacity(alloc, indices.len())?;
+    for index in indices.as_slice() {
+        copy.push(AskedIndex {
+            name: index.name.try_clone(alloc)?,
+            shards: index.shards,
+            place: index.place.try_clone(alloc)?,
+        })?;
+    }
+    Ok(copy)
+}
+
+/// A copy of a command.
+pub(crate) fn command_copy(alloc: Global, command: &Command) -> Result<Command, AllocError>
+    ensures { IfOk result (λ copy. copy ≡ command.now) }
+{
+    match command {
+        Command::Create {
+            name,
+            indices,
+            moment,
+        } => Ok(Command::Create {
+            name: name.try_clone(alloc)?,
+            indices: indices_copy(alloc, indices)?,
+            moment: *moment,
+        }),
+    }
+}
+
+/// Why a command is not accepted, as an entry tells it; of want of memory none does.
+fn command_refusal(refusal: Refusal) -> Option<EntryRefusal>
+    ensures { (s : Start) (log : List Moment) (command : Asked) → IsRefused (world_of s log) (name_asked command) command refusal
+        → IfSome result (λ e. MayRefuse s log 0 (AskStep command) (refusal_of e)) }
+{
+    match refusal {
+        Refusal::Memory => None,
+        Refusal::CleanupRunning { op } => Some(EntryRefusal::CleanupRunning { op }),
+        Refusal::NameInUse { uuid } => Some(EntryRefusal::NameInUse { uuid }),
+        Refusal::TooMany { limit } => Some(EntryRefusal::TooMany { limit }),
+        Refusal::IdsSpent { next } => Some(EntryRefusal::IdsSpent { next }),
+    }
+}
+
+impl<D: Depot, K: Told> Repo<D, K> {
+    /// A command is not accepted, which changes nothing.
+    pub(crate) fn refuse_command(&mut self, step: Step, refusal: Refusal) -> StepRefusal
+        requires live { IsLive K.start self.old }
+        requires why { (command : Asked) × (step_of step ≡ AskStep command) × IsRefused (world_of K.start self.old) (name_asked command) command refusal }
+        ensures { AddedOr K.start self.old self.new 0 (step_of step) (told_refusal result) }
+    {
+        match command_refusal(refusal) {
+            Some(refusal) => self.refuse(0, step, refusal),
+            None => StepRefusal::Memory,
+        }
+    }
+
+    /// The op as which a command is accepted, and what is kept then.
+    pub(crate) fn accepted(
+        &self,
+        alloc: Global,
+        command: &Command,
+    ) -> Result<(u64, Renewed), Refusal>
+        requires live { IsLive K.start self.now }
+        requires askable { IsAskable (asked_of command.now) }
+        requires room { length self.now < 2 ^ 41 }
+        ensures ok { IfOk result (λ r. MaySwap K.start self.now 0 (AskStep (asked_of command.now)) (Accepted r.0) r.1.cluster r.1.root r.1.progress r.1.next.number) }
+        ensures err { IfErr result (λ e. IsRefused (world_of K.start self.now) (name_asked (asked_of command.now)) (asked_of command.now) e) }
+    {
+        self.rules();
+        let first = self.next_id();
+        let (progress, accepted) = self
+            .plan()
+            .accept(alloc, self.safe_root(), self.term(), first, command)?;
+        let mut cluster = self.record().try_clone(alloc)?;
+        cluster.ops = progress.record_ops(alloc)?;
+        let next = Id {
+            number: first.number + u128::from(accepted.drawn),
+        };
+        let renewed = Renewed {
+            cluster,
+            root: None,
+            progress: Some(progress),
+            next,
+        };
+        Ok((accepted.op, renewed))
+    }
+}

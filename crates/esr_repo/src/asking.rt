@@ -1,0 +1,85 @@
+//! The steps that ask, take and look.
+ghost use Rattle.std.specs.Prelude.{length, ◌≡◌, ◌+◌, ◌<◌, ◌^◌, ℕ, List, [], map, Option, Some, None, true, false, IfOk, IfSome, OnOk, OnErr};
+ghost use Rattle.esr_model.specs.Names.{Latest};
+ghost use Rattle.esr_model.specs.Values.{Bytes};
+ghost use Rattle.esr_core.specs.Entry.{Moment, AskStep, TakeStep, DrawStep, BeginStep, CommitStep, LatestStep, FetchStep, RaiseStep, SettleStep, DoneStep, FailedStep, FinishStep, DroppedStep, LookStep, Accepted, DrawnFrom, WasBegun, WasReplaced, RaisedTo, WasSettled, HasEnded, Looked};
+ghost use Rattle.esr_core.specs.Allowed.{IsMetadata, latest_text};
+ghost use Rattle.esr_core.specs.After.{fetching};
+ghost use Rattle.esr_names.specs.Layout.{IsName};
+ghost use Rattle.esr_formats.specs.Names.{name_of};
+ghost use Rattle.esr_formats.specs.Roots.{root_of, root_snap_of};
+ghost use Rattle.esr_formats.specs.Clusters.{count_of};
+ghost use Rattle.esr_results.specs.Results.{result_of};
+ghost use Rattle.esr_progress.specs.Asked.{asked_of, IsAskable};
+ghost use Rattle.esr_desk.specs.Entries.{why_of};
+ghost use Rattle.esr_desk.specs.Start.{Start, ticket_of, told_bytes};
+ghost use Rattle.esr_desk.specs.Outcome.{commit_reply, fetch_reply, take_reply};
+ghost use Rattle.esr_desk.specs.Conditions.{CanDraw, CanCommit, CanPut, CanBegin, Holds, CanFetch, CanRaise, CanSettle, CanEnd, CanFail, CanFinish, CanDrop};
+ghost use Rattle.esr_desk.specs.Taken.{Took, committed_by, begun_by, tried_by, fetched_by, LeftBy, HasRaised, IsSettled, HasEndedAs};
+ghost use Rattle.esr_desk.specs.declared.refusal.StepRefusal.{StepRefusal};
+ghost use Rattle.esr_repo.specs.Next.{Did};
+
+use crate::accepting::command_copy;
+use crate::{Repo, Told};
+use esr_depot::Depot;
+use esr_desk::{Answer, Look, Step, StepRefusal, Unit};
+use esr_progress::Command;
+use std::alloc::Global;
+
+impl<D: Depot, K: Told> Repo<D, K> {
+    /// Asks for a command, which is accepted as the op that is answered.
+    pub fn ask(&mut self, alloc: Global, command: &Command) -> Result<u64, StepRefusal>
+        requires askable { IsAskable (asked_of command.now) }
+        requires room { length self.old < 2 ^ 41 }
+        ensures { Did K.start self.old self.new 0 (AskStep (asked_of command.now)) (λ op. Accepted op) result }
+    {
+        let step = Step::Ask {
+            command: command_copy(alloc, command)?,
+        };
+        self.check(0, step)?;
+        let step = Step::Ask {
+            command: command_copy(alloc, command)?,
+        };
+        match self.accepted(alloc, command) {
+            Ok((op, renewed)) => {
+                self.swap(alloc, 0, step, Answer::Accepted { op }, renewed)?;
+                Ok(op)
+            }
+            Err(refusal) => Err(self.refuse_command(step, refusal)),
+        }
+    }
+
+    /// Takes the first ready unit of the lowest op, or `None` where no unit is ready.
+    pub fn take(&mut self, alloc: Global) -> Result<Option<Unit>, StepRefusal>
+        requires room { length self.old < 2 ^ 41 }
+        ensures step { Did K.start self.old self.new 0 TakeStep take_reply result }
+        ensures took { IfOk result (λ o. IfSome o (λ u. Took K.start self.new u)) }
+    {
+        self.check(0, Step::Take)?;
+        if let Some((progress, ready)) = self.ready(alloc)? {
+            return Ok(Some(self.give(alloc, progress, ready)?));
+        }
+        let next = self.next_id();
+        self.note(0, Step::Take, Answer::NothingReady, None, next)?;
+        Ok(None)
+    }
+
+    /// The snapshots of the safe root.
+    pub fn look(&mut self, alloc: Global) -> Result<Look, StepRefusal>
+        ensures { Did K.start self.old self.new 0 LookStep (λ l. Looked (map root_snap_of l.listing) (count_of l.safe)) result }
+    {
+        self.check(0, Step::Look)?;
+        let safe = self.safe();
+        let listing = self.safe_root().snapshots.try_clone(alloc)?;
+        let snapshots = listing.try_clone(alloc)?;
+        let next = self.next_id();
+        self.note(
+            0,
+            Step::Look,
+            Answer::Looked { snapshots, safe },
+            None,
+            next,
+        )?;
+        Ok(Look { listing, safe })
+    }
+}

@@ -1,0 +1,216 @@
+//! The steps that call the container for a blob.
+ghost use Rattle.std.specs.Prelude.{◌≡◌, true, false, ◌⊎◌, ◌<◌, [], Option, Some, None, IfOk, IfErr, IfSome};
+ghost use Rattle.esr_model.specs.Names.{Latest};
+ghost use Rattle.esr_core.specs.Entry.{BeginStep, CommitStep, LatestStep, FetchStep, WasBegun, WasReplaced};
+ghost use Rattle.esr_core.specs.Entry.{Refused as RefusedAs, DepotFault as FaultOf};
+ghost use Rattle.esr_desk.specs.Entries.{step_of};
+ghost use Rattle.esr_core.specs.Allowed.{IsMetadata};
+ghost use Rattle.esr_names.specs.Layout.{IsName};
+ghost use Rattle.esr_model.specs.Values.{ReadsBack};
+ghost use Rattle.esr_formats.specs.Names.{name_of, name_kind};
+ghost use Rattle.esr_desk.specs.Conditions.{Holds};
+ghost use Rattle.esr_desk.specs.Outcome.{commit_reply, fetch_reply};
+ghost use Rattle.esr_desk.specs.declared.refusal.StepRefusal.TheVariants.{Memory, Refused};
+ghost use Rattle.esr_desk.specs.declared.refusal.EntryRefusal.TheVariants.{DepotFault, NameTaken};
+ghost use Rattle.esr_depot.specs.declared.depot.Commit.TheVariants.{Exists};
+ghost use Rattle.esr_repo.specs.Next.{IsLive, Did};
+ghost use Rattle.esr_repo.specs.May.{MayBegin, MayCommit, MayReplace, MayFetch};
+ghost use Rattle.esr_repo.specs.Calls.{CommitDid, FetchDid};
+
+use crate::{Repo, Told};
+use esr_depot::{CallError, Commit, Depot};
+use esr_desk::{Answer, Entry, EntryRefusal, Named, Step, StepRefusal};
+use esr_formats::write_name;
+use esr_names::{BlobName, print_name};
+use std::alloc::Global;
+
+/// A name of the layout reads back from its text.
+fn reads_back(name: &BlobName)
+    requires { IsName name.now }
+    ensures { ReadsBack name_kind (name_of name.now) }
+{
+    let mut text = [0; 128];
+    print_name(name, &mut text);
+}
+
+/// Whether the name is of a finalization's metadata.
+fn is_metadata(name: BlobName) -> bool
+    ensures yes_it_is { result ≡ true → IsMetadata (name_of name) }
+    ensures it_is_not { result ≡ false → IsMetadata (name_of name) → ⊥ }
+{
+    match name {
+        BlobName::Snap(_) | BlobName::Meta(_) | BlobName::IndexMeta(_, _) => true,
+        _ => false,
+    }
+}
+
+/// The entry of a step in which the container failed.
+fn faulted(who: u64, step: Step) -> Entry
+    ensures { result ≡ record { who = who; step = step_of step; reply = RefusedAs FaultOf } }
+{
+    let refusal = EntryRefusal::DepotFault;
+    let answer = Answer::Refused { refusal };
+    Entry { who, step, answer }
+}
+
+impl<D: Depot, K: Told> Repo<D, K> {
+    /// A new stage.
+    pub(crate) fn call_begin(
+        &mut self,
+        alloc: Global,
+        who: u64,
+        name: BlobName,
+        room: usize,
+    ) -> Result<Named<D::Stage>, StepRefusal>
+        requires live { IsLive K.start self.old }
+        requires layout { IsName name }
+        requires may { MayBegin K.start self.old who (name_of name) }
+        ensures step { Did K.start self.old self.new who (BeginStep (name_of name)) (λ stage. WasBegun) result }
+        ensures name { IfOk result (λ s. s.name ≡ name) }
+        ensures room { IfOk result (λ s. D.Stage.room s.stage ≡ room) }
+        ensures contents { IfOk result (λ s. Holds K.start (D.Stage.contents s.stage) []) }
+        ensures count { IfOk result (λ s. D.Stage.faults s.stage ≡ 0) }
+        ensures why { IfErr result (λ e. (e ≡ Memory) ⊎ (e ≡ Refused DepotFault)) }
+    {
+        Self::laws();
+        let text = write_name(alloc, &name)?;
+        if self.history.reserve(1).is_err() {
+            return Err(StepRefusal::Memory);
+        }
+        match self.depot.begin(alloc, text.as_str(), room) {
+            Ok(stage) => {
+                let step = Step::Begin { name };
+                let answer = Answer::Begun;
+                self.history.push_reserved(Entry { who, step, answer });
+                Ok(Named { name, stage })
+            }
+            Err(CallError::Memory) => Err(StepRefusal::Memory),
+            Err(CallError::Failed) => {
+                self.history
+                    .push_reserved(faulted(who, Step::Begin { name }));
+                Err(StepRefusal::Refused(EntryRefusal::DepotFault))
+            }
+        }
+    }
+
+    /// A blob is committed. One that is there counts where it is of a finalization's metadata, and is refused else.
+    pub(crate) fn call_commit(
+        &mut self,
+        alloc: Global,
+        who: u64,
+        stage: Named<D::Stage>,
+    ) -> Result<Commit, StepRefusal>
+        requires live { IsLive K.start self.old }
+        requires layout { IsName stage.name }
+        requires may { (bytes : _) × Holds K.start (D.Stage.contents stage.stage) bytes × MayCommit K.start self.old who (name_of stage.name) bytes }
+        ensures step { CommitDid K.start self.old self.new who (name_of stage.name) (D.Stage.contents stage.stage) result }
+        ensures why { IfErr result (λ e. (e ≡ Memory) ⊎ ((e ≡ Refused DepotFault) ⊎ ((e ≡ Refused (NameTaken stage.name)) × (IsMetadata (name_of stage.name) → ⊥)))) }
+    {
+        Self::laws();
+        let Named { name, stage } = stage;
+        reads_back(&name);
+        if self.history.reserve(1).is_err() {
+            return Err(StepRefusal::Memory);
+        }
+        match self.depot.commit(alloc, stage) {
+            Ok(Commit::Done) => {
+                let step = Step::Commit { name };
+                let answer = Answer::Done;
+                self.history.push_reserved(Entry { who, step, answer });
+                Ok(Commit::Done)
+            }
+            Ok(Commit::Exists) => {
+                if is_metadata(name) {
+                    let step = Step::Commit { name };
+                    let answer = Answer::Exists;
+                    self.history.push_reserved(Entry { who, step, answer });
+                    return Ok(Commit::Exists);
+                }
+                let refusal = EntryRefusal::NameTaken { name };
+                let step = Step::Commit { name };
+                let answer = Answer::Refused { refusal };
+                self.history.push_reserved(Entry { who, step, answer });
+                Err(StepRefusal::Refused(refusal))
+            }
+            Err(CallError::Memory) => Err(StepRefusal::Memory),
+            Err(CallError::Failed) => {
+                self.history
+                    .push_reserved(faulted(who, Step::Commit { name }));
+                Err(StepRefusal::Refused(EntryRefusal::DepotFault))
+            }
+        }
+    }
+
+    /// `index.latest` is replaced.
+    pub(crate) fn call_replace(
+        &mut self,
+        alloc: Global,
+        who: u64,
+        stage: Named<D::Stage>,
+    ) -> Result<(), StepRefusal>
+        requires live { IsLive K.start self.old }
+        requires name { name_of stage.name ≡ Latest }
+        requires may { (bytes : _) × Holds K.start (D.Stage.contents stage.stage) bytes × MayReplace K.start self.old who bytes }
+        ensures step { Did K.start self.old self.new who LatestStep (λ _. WasReplaced) result }
+        ensures why { IfErr result (λ e. (e ≡ Memory) ⊎ (e ≡ Refused DepotFault)) }
+    {
+        Self::laws();
+        if self.history.reserve(1).is_err() {
+            return Err(StepRefusal::Memory);
+        }
+        match self.depot.replace(alloc, stage.stage) {
+            Ok(()) => {
+                let step = Step::Latest;
+                let answer = Answer::Replaced;
+                self.history.push_reserved(Entry { who, step, answer });
+                Ok(())
+            }
+            Err(CallError::Memory) => Err(StepRefusal::Memory),
+            Err(CallError::Failed) => {
+                self.history.push_reserved(faulted(who, Step::Latest));
+                Err(StepRefusal::Refused(EntryRefusal::DepotFault))
+            }
+        }
+    }
+
+    /// A blob is fetched.
+    pub(crate) fn call_fetch(
+        &mut self,
+        alloc: Global,
+        who: u64,
+        name: BlobName,
+    ) -> Result<Option<D::Fetch>, StepRefusal>
+        requires live { IsLive K.start self.old }
+        requires layout { IsName name }
+        requires may { MayFetch K.start self.old who (name_of name) }
+        ensures step { FetchDid D.Fetch.left K.start self.old self.new who (name_of name) result }
+        ensures count { IfOk result (λ o. IfSome o (λ f. D.Fetch.faults f ≡ 0)) }
+        ensures why { IfErr result (λ e. (e ≡ Memory) ⊎ (e ≡ Refused DepotFault)) }
+    {
+        Self::laws();
+        let text = write_name(alloc, &name)?;
+        if self.history.reserve(1).is_err() {
+            return Err(StepRefusal::Memory);
+        }
+        match self.depot.fetch(alloc, text.as_str()) {
+            Ok(Some(fetch)) => {
+                let step = Step::Fetch { name };
+                let answer = Answer::Fetched;
+                self.history.push_reserved(Entry { who, step, answer });
+                Ok(Some(fetch))
+            }
+            Ok(None) => {
+                let step = Step::Fetch { name };
+                let answer = Answer::Absent;
+                self.history.push_reserved(Entry { who, step, answer });
+                Ok(None)
+            }
+            Err(CallError::Memory) => Err(StepRefusal::Memory),
+            Err(CallError::Failed) => {
+                self.history
+                    .push_reserved(faulted(who, Step::Fetch { name }));
+                Err(StepRefusal::Refused(EntryRefusal::DepotFault))
+            }
+        }
+    }
+}

@@ -1,0 +1,177 @@
+//! The steps by which a unit swaps the record, and ends.
+ghost use Rattle.std.specs.Prelude.{◌≡◌, ◌+◌, ◌<◌, ◌^◌, ℕ, List, [], map, Option, Some, None, true, false, IfOk, IfErr, IfSome, OnOk, OnErr};
+ghost use Rattle.esr_model.specs.Names.{Latest};
+ghost use Rattle.esr_model.specs.Values.{Bytes};
+ghost use Rattle.esr_core.specs.Entry.{Moment, AskStep, TakeStep, DrawStep, BeginStep, CommitStep, LatestStep, FetchStep, RaiseStep, SettleStep, DoneStep, FailedStep, FinishStep, DroppedStep, LookStep, Accepted, DrawnFrom, WasBegun, WasReplaced, RaisedTo, WasSettled, HasEnded, Looked};
+ghost use Rattle.esr_core.specs.Allowed.{IsMetadata, latest_text};
+ghost use Rattle.esr_core.specs.After.{fetching};
+ghost use Rattle.esr_names.specs.Layout.{IsName};
+ghost use Rattle.esr_formats.specs.Names.{name_of};
+ghost use Rattle.esr_formats.specs.Roots.{root_of, root_snap_of};
+ghost use Rattle.esr_formats.specs.Clusters.{count_of};
+ghost use Rattle.esr_results.specs.Results.{result_of};
+ghost use Rattle.esr_progress.specs.Asked.{asked_of, IsAskable};
+ghost use Rattle.esr_desk.specs.Entries.{why_of};
+ghost use Rattle.esr_desk.specs.Start.{Start, world_of, ticket_of, told_bytes};
+ghost use Rattle.esr_desk.specs.Outcome.{commit_reply, fetch_reply, take_reply};
+ghost use Rattle.esr_desk.specs.Conditions.{CanDraw, CanCommit, CanPut, CanBegin, Holds, CanFetch, CanRaise, CanSettle, CanEnd, CanFail, CanFinish, CanDrop};
+ghost use Rattle.esr_desk.specs.Taken.{Took, committed_by, begun_by, tried_by, fetched_by, LeftBy, HasRaised, IsSettled, HasEndedAs};
+ghost use Rattle.esr_desk.specs.declared.refusal.StepRefusal.{StepRefusal};
+ghost use Rattle.esr_repo.specs.Next.{IsLive, Did};
+ghost use Rattle.std.specs.FinMap as fin;
+ghost use Rattle.esr_core.specs.After.{done_of};
+ghost use Rattle.esr_progress.specs.Plan.{IsPlanOf};
+ghost use Rattle.esr_desk.specs.declared.refusal.StepRefusal.TheVariants.{Memory};
+
+use crate::renewing::{count, entry_refusal};
+use crate::{Repo, Told};
+use esr_depot::Depot;
+use esr_desk::{Answer, Entry, EntryRefusal, Step, StepRefusal, Why};
+use esr_progress::Progress;
+use esr_results::ShardResult;
+use esr_root::RootData;
+use std::alloc::Global;
+
+impl<D: Depot, K: Told> Repo<D, K> {
+    /// Begins a generation for the root that the ticket is to write, and answers it.
+    pub fn raise(&mut self, alloc: Global, ticket: u64) -> Result<u64, StepRefusal>
+        requires may { CanRaise K.start (ticket_of K.start self.old ticket) }
+        ensures step { Did K.start self.old self.new ticket RaiseStep (λ n. RaisedTo n) result }
+        ensures own { IfOk result (λ n. ticket_of K.start self.new ticket
+            ≡ record (ticket_of K.start self.old ticket) { raised = Some n }) }
+        ensures range { IfOk result (λ n. n < 2 ^ 63) }
+        ensures kept { LeftBy (HasRaised (ticket_of K.start self.old ticket)) result (ticket_of K.start self.old ticket) (ticket_of K.start self.new ticket) }
+    {
+        self.check(ticket, Step::Raise)?;
+        let own = self.seat(ticket).term;
+        let generation = count(self.record().pending);
+        let mut cluster = self.record().try_clone(alloc)?;
+        if let Err(refusal) = cluster.raise(own) {
+            return Err(self.refuse(ticket, Step::Raise, entry_refusal(refusal)));
+        }
+        let renewed = self.raised(alloc, ticket, generation, cluster)?;
+        self.swap(
+            alloc,
+            ticket,
+            Step::Raise,
+            Answer::Raised { generation },
+            renewed,
+        )?;
+        Ok(generation)
+    }
+
+    /// Makes the root that the ticket committed the safe one.
+    pub fn settle(&mut self, alloc: Global, ticket: u64, root: &RootData) -> Result<(), StepRefusal>
+        requires may { CanSettle K.start (ticket_of K.start self.old ticket) (root_of root.now) }
+        ensures step { Did K.start self.old self.new ticket SettleStep (λ _. WasSettled) result }
+        ensures own { OnOk result (ticket_of K.start self.new ticket
+            ≡ record (ticket_of K.start self.old ticket) { settled = true }) }
+        ensures kept { LeftBy (IsSettled (ticket_of K.start self.old ticket)) result (ticket_of K.start self.old ticket) (ticket_of K.start self.new ticket) }
+    {
+        self.check(ticket, Step::Settle)?;
+        let own = self.seat(ticket).term;
+        let now = self.term();
+        if own != now {
+            let refusal = EntryRefusal::StaleTerm { own, now };
+            return Err(self.refuse(ticket, Step::Settle, refusal));
+        }
+        let renewed = self.settled(alloc, ticket, root)?;
+        self.swap(alloc, ticket, Step::Settle, Answer::Settled, renewed)
+    }
+
+    /// A shard is done; its ticket ends.
+    pub fn done(
+        &mut self,
+        alloc: Global,
+        ticket: u64,
+        outcome: &ShardResult,
+    ) -> Result<(), StepRefusal>
+        requires may { CanEnd K.start (ticket_of K.start self.old ticket) (result_of outcome.now) }
+        ensures step { Did K.start self.old self.new ticket (DoneStep (result_of outcome.now)) (λ _. HasEnded) result }
+        ensures own { OnOk result (ticket_of K.start self.new ticket
+            ≡ record (ticket_of K.start self.old ticket) { out = false }) }
+        ensures kept { OnErr result (ticket_of K.start self.new ticket ≡ ticket_of K.start self.old ticket) }
+    {
+        self.check(ticket, Step::Done { result: *outcome })?;
+        self.rules();
+        let progress = self.plan().shard_done(alloc, ticket, outcome)?;
+        self.note_done(ticket, *outcome, progress)
+    }
+
+    /// The entry of a shard that is done. What its ticket wrote is known where the container tells its image.
+    fn note_done(
+        &mut self,
+        ticket: u64,
+        outcome: ShardResult,
+        progress: Progress,
+    ) -> Result<(), StepRefusal>
+        requires live { IsLive K.start self.old }
+        requires may { CanEnd K.start (ticket_of K.start self.old ticket) (result_of outcome) }
+        requires plan { IsPlanOf (done_of (world_of K.start self.old) ticket (result_of outcome) (fin.get (world_of K.start self.old).tickets ticket)) progress }
+        ensures step { Did K.start self.old self.new ticket (DoneStep (result_of outcome)) (λ _. HasEnded) result }
+        ensures why { IfErr result (λ e. e ≡ Memory) }
+    {
+        Self::laws();
+        if self.history.reserve(1).is_err() {
+            return Err(StepRefusal::Memory);
+        }
+        let step = Step::Done { result: outcome };
+        let answer = Answer::Ended;
+        self.history.push_reserved(Entry {
+            who: ticket,
+            step,
+            answer,
+        });
+        self.progress = progress;
+        Ok(())
+    }
+
+    /// A unit failed; its ticket ends.
+    pub fn failed(&mut self, alloc: Global, ticket: u64, why: Why) -> Result<(), StepRefusal>
+        requires may { CanFail (ticket_of K.start self.old ticket) }
+        ensures step { Did K.start self.old self.new ticket (FailedStep (why_of why)) (λ _. HasEnded) result }
+        ensures own { OnOk result (ticket_of K.start self.new ticket
+            ≡ record (ticket_of K.start self.old ticket) { out = false }) }
+        ensures kept { OnErr result (ticket_of K.start self.new ticket ≡ ticket_of K.start self.old ticket) }
+    {
+        self.check(ticket, Step::Failed { why })?;
+        self.rules();
+        let progress = self.plan().unit_failed(alloc, self.term(), ticket)?;
+        let next = self.next_id();
+        let step = Step::Failed { why };
+        self.note(ticket, step, Answer::Ended, Some(progress), next)
+    }
+
+    /// An op that failed leaves the list; its ticket ends.
+    pub fn dropped(&mut self, alloc: Global, ticket: u64) -> Result<(), StepRefusal>
+        requires may { CanDrop (ticket_of K.start self.old ticket) }
+        ensures step { Did K.start self.old self.new ticket DroppedStep (λ _. HasEnded) result }
+        ensures own { OnOk result (ticket_of K.start self.new ticket
+            ≡ record (ticket_of K.start self.old ticket) { out = false }) }
+        ensures kept { LeftBy (HasEndedAs (ticket_of K.start self.old ticket)) result (ticket_of K.start self.old ticket) (ticket_of K.start self.new ticket) }
+    {
+        self.check(ticket, Step::Dropped)?;
+        let own = self.seat(ticket).term;
+        let now = self.term();
+        if own != now {
+            let refusal = EntryRefusal::StaleTerm { own, now };
+            return Err(self.refuse(ticket, Step::Dropped, refusal));
+        }
+        let renewed = self.without_op(alloc, ticket)?;
+        self.swap(alloc, ticket, Step::Dropped, Answer::Ended, renewed)
+    }
+
+    /// A settled unit ends.
+    pub fn finish(&mut self, alloc: Global, ticket: u64) -> Result<(), StepRefusal>
+        requires may { CanFinish (ticket_of K.start self.old ticket) }
+        ensures step { Did K.start self.old self.new ticket FinishStep (λ _. HasEnded) result }
+        ensures own { OnOk result (ticket_of K.start self.new ticket
+            ≡ record (ticket_of K.start self.old ticket) { out = false }) }
+        ensures kept { OnErr result (ticket_of K.start self.new ticket ≡ ticket_of K.start self.old ticket) }
+    {
+        self.check(ticket, Step::Finish)?;
+        let progress = self.plan().ended(alloc, ticket)?;
+        let next = self.next_id();
+        self.note(ticket, Step::Finish, Answer::Ended, Some(progress), next)
+    }
+}

@@ -1,0 +1,114 @@
+//! What is kept of the world, as the steps read it.
+ghost use Rattle.std.specs.Prelude.{◌≡◌, ◌+◌, ◌^◌, ◌<◌, ◌≤◌, ℕ, suc, true, length, MatchOption};
+ghost use Rattle.std.specs.FinMap as fin;
+ghost use Rattle.esr_model.specs.Kept.{first_id};
+ghost use Rattle.esr_model.specs.Values.{ReadsBack};
+ghost use Rattle.esr_core.specs.World.{record_of};
+ghost use Rattle.esr_core.specs.Tracked.{Tracked};
+ghost use Rattle.esr_core.specs.Ranked.{Ranked};
+ghost use Rattle.esr_formats.specs.Roots.{root_of};
+ghost use Rattle.esr_formats.specs.Clusters.{count_of, cluster_of, cluster_kind};
+ghost use Rattle.esr_record.specs.Record.{AreNumbers};
+ghost use Rattle.esr_progress.specs.Plan.{IsPlanOf, seat_of, seat_of_code};
+ghost use Rattle.esr_desk.specs.Start.{world_of, ticket_of};
+ghost use Rattle.esr_repo.specs.Repo.{NoDeleting};
+ghost use Rattle.esr_repo.specs.Next.{IsLive};
+
+use crate::{Repo, Told};
+use esr_depot::Depot;
+use esr_names::Id;
+use esr_progress::{Progress, Seat};
+use esr_record::ClusterRecord;
+use esr_root::RootData;
+
+impl<D: Depot, K: Told> Repo<D, K> {
+    /// The rules that the world keeps.
+    pub(crate) fn rules(&self)
+        ensures tracked { Tracked (world_of K.start self.now) }
+        ensures ranked { Ranked (world_of K.start self.now) }
+        ensures no_deletes { (world_of K.start self.now).deletes ≡ fin.empty }
+        ensures no_deleting { NoDeleting (world_of K.start self.now) }
+        ensures few_ops { length self.now < 2 ^ 41 → (world_of K.start self.now).next_op < 2 ^ 62 }
+        ensures few_tickets { length self.now < 2 ^ 41 → (world_of K.start self.now).next_ticket < 2 ^ 62 }
+    {
+        let _next = self.next;
+    }
+
+    /// The list of ops.
+    pub(crate) fn plan(&self) -> &Progress
+        requires live { IsLive K.start self.now }
+        ensures { IsPlanOf (world_of K.start self.now) result.now }
+    {
+        &self.progress
+    }
+
+    /// The safe root.
+    pub(crate) fn safe_root(&self) -> &RootData
+        requires live { IsLive K.start self.now }
+        ensures { root_of result.now ≡ (world_of K.start self.now).root }
+    {
+        &self.root
+    }
+
+    /// The cluster record.
+    pub(crate) fn record(&self) -> &ClusterRecord
+        requires live { IsLive K.start self.now }
+        ensures record { cluster_of result.now ≡ record_of (world_of K.start self.now) }
+        ensures numbers { AreNumbers result.now.pending result.now.safe result.now.term }
+    {
+        let _term = self.cluster.term;
+        &self.cluster
+    }
+
+    /// The generation of the safe root, -1 where there is none.
+    pub(crate) fn safe(&self) -> i64
+        requires live { IsLive K.start self.now }
+        ensures { count_of result ≡ (world_of K.start self.now).safe }
+    {
+        self.record().safe
+    }
+
+    /// The term.
+    pub(crate) fn term(&self) -> u64
+        requires live { IsLive K.start self.now }
+        ensures term { result ≡ (world_of K.start self.now).term }
+        ensures most { result < 2 ^ 63 }
+    {
+        self.record().term
+    }
+
+    /// What is kept of a ticket that is out.
+    pub(crate) fn seat(&self, ticket: u64) -> Seat
+        requires live { IsLive K.start self.now }
+        requires out { (ticket_of K.start self.now ticket).out ≡ true }
+        ensures { seat_of_code result ≡ seat_of (ticket_of K.start self.now ticket) }
+    {
+        let Some(seat) = self.plan().seat(ticket) else {
+            unreachable!();
+        };
+        seat
+    }
+
+    /// The next id.
+    pub(crate) fn next_id(&self) -> Id
+        requires live { IsLive K.start self.now }
+        ensures number { result.number ≡ (world_of K.start self.now).next_id }
+        ensures below { result.number < first_id (suc (world_of K.start self.now).term) }
+    {
+        self.next
+    }
+
+    /// The next id after so many are drawn, or `None` where the term has too few.
+    pub(crate) fn id_after(&self, count: u64) -> Option<Id>
+        requires live { IsLive K.start self.now }
+        ensures next { MatchOption result
+            (first_id (suc (world_of K.start self.now).term) ≤ (world_of K.start self.now).next_id + count)
+            (λ id. (id.number ≡ (world_of K.start self.now).next_id + count) × (id.number < first_id (suc (world_of K.start self.now).term)) × (id.number < 2 ^ 128)) }
+    {
+        let limit = Id::new(self.term() + 1, 0);
+        let after = Id {
+            number: self.next_id().number + u128::from(count),
+        };
+        (after.number < limit.number).then_some(after)
+    }
+}

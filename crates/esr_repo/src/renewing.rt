@@ -1,0 +1,136 @@
+//! What a repository keeps after the record swap of a ticket.
+ghost use Rattle.std.specs.Prelude.{◌≡◌, ◌<◌, ◌^◌, ◌≤ℤ◌, ℕ, ℤ, negsuc, suc, Some, IfOk};
+ghost use Rattle.esr_core.specs.World.{record_of};
+ghost use Rattle.esr_core.specs.After.{raised};
+ghost use Rattle.esr_core.specs.Entry.{RaiseStep, SettleStep, DroppedStep, RaisedTo, WasSettled, HasEnded};
+ghost use Rattle.esr_core.specs.Entry as entry;
+ghost use Rattle.esr_record.specs.declared.steps.RecordRefusal.TheVariants as records;
+ghost use Rattle.esr_formats.specs.Roots.{root_of};
+ghost use Rattle.esr_formats.specs.Clusters.{count_of, cluster_of};
+ghost use Rattle.esr_desk.specs.Refusals.{refusal_of};
+ghost use Rattle.esr_desk.specs.Start.{world_of, ticket_of};
+ghost use Rattle.esr_desk.specs.Conditions.{CanRaise, CanSettle, CanDrop};
+ghost use Rattle.esr_repo.specs.Next.{IsLive};
+ghost use Rattle.esr_repo.specs.May.{MaySwap};
+
+use crate::swap::Renewed;
+use crate::{Repo, Told};
+use esr_depot::Depot;
+use esr_desk::EntryRefusal;
+use esr_record::{ClusterRecord, RecordRefusal};
+use esr_root::RootData;
+use std::alloc::{AllocError, Global};
+
+/// How many generations there are up to this one, which is -1 before the first.
+pub(crate) fn count(number: i64) -> u64
+    requires { negsuc 0 ≤ℤ number }
+    ensures { result ≡ count_of number }
+{
+    if number < 0 {
+        return 0;
+    }
+    number as u64 + 1
+}
+
+/// The refusal of a record, as an entry tells it.
+pub(crate) fn entry_refusal(refusal: RecordRefusal) -> EntryRefusal
+    ensures stale { (own now : ℕ) → refusal ≡ records.StaleTerm own now → refusal_of result ≡ entry.StaleTerm own now }
+    ensures spent { (number : ℤ) → refusal ≡ records.GenerationsSpent number → refusal_of result ≡ entry.GenerationsSpent (count_of number) }
+{
+    match refusal {
+        RecordRefusal::StaleTerm { own, now } => EntryRefusal::StaleTerm { own, now },
+        RecordRefusal::GenerationsSpent { number } => EntryRefusal::GenerationsSpent { number },
+        RecordRefusal::TermsSpent { number } => EntryRefusal::TermsSpent { number },
+    }
+}
+
+impl<D: Depot, K: Told> Repo<D, K> {
+    /// What is kept after a ticket raised a generation.
+    pub(crate) fn raised(
+        &self,
+        alloc: Global,
+        ticket: u64,
+        generation: u64,
+        cluster: ClusterRecord,
+    ) -> Result<Renewed, AllocError>
+        requires live { IsLive K.start self.now }
+        requires may { CanRaise K.start (ticket_of K.start self.now ticket) }
+        requires present { (ticket_of K.start self.now ticket).term ≡ (world_of K.start self.now).term }
+        requires pending { generation ≡ (world_of K.start self.now).pending }
+        requires room { generation < 2 ^ 63 }
+        requires record { cluster_of cluster ≡ record_of (raised (world_of K.start self.now) ticket) }
+        ensures { IfOk result (λ r. MaySwap K.start self.now ticket RaiseStep (RaisedTo generation) r.cluster r.root r.progress r.next.number) }
+    {
+        let progress = self.plan().raised(alloc, ticket, generation)?;
+        Ok(Renewed {
+            cluster,
+            root: None,
+            progress: Some(progress),
+            next: self.next_id(),
+        })
+    }
+
+    /// The cluster record in which the generation that the ticket raised is the safe one.
+    fn settled_record(&self, alloc: Global, ticket: u64) -> Result<ClusterRecord, AllocError>
+        requires live { IsLive K.start self.now }
+        requires may { (root : _) × CanSettle K.start (ticket_of K.start self.now ticket) root }
+        requires present { (ticket_of K.start self.now ticket).term ≡ (world_of K.start self.now).term }
+        ensures { IfOk result (λ r. (n : ℕ) → (ticket_of K.start self.now ticket).raised ≡ Some n
+            → (cluster_of r).ledger ≡ record { safe = suc n; pending = (world_of K.start self.now).pending; term = (world_of K.start self.now).term }) }
+    {
+        self.rules();
+        let seat = self.seat(ticket);
+        let Some(generation) = seat.raised else {
+            unreachable!();
+        };
+        let mut cluster = self.record().try_clone(alloc)?;
+        if cluster.settle(seat.term, generation as i64).is_err() {
+            unreachable!();
+        }
+        Ok(cluster)
+    }
+
+    /// What is kept after a ticket settled on its root.
+    pub(crate) fn settled(
+        &self,
+        alloc: Global,
+        ticket: u64,
+        root: &RootData,
+    ) -> Result<Renewed, AllocError>
+        requires live { IsLive K.start self.now }
+        requires may { CanSettle K.start (ticket_of K.start self.now ticket) (root_of root.now) }
+        requires present { (ticket_of K.start self.now ticket).term ≡ (world_of K.start self.now).term }
+        ensures { IfOk result (λ r. MaySwap K.start self.now ticket SettleStep WasSettled r.cluster r.root r.progress r.next.number) }
+    {
+        self.rules();
+        let mut cluster = self.settled_record(alloc, ticket)?;
+        let root = root.try_clone(alloc)?;
+        let progress = self.plan().finalized(alloc, ticket)?;
+        cluster.ops = progress.record_ops(alloc)?;
+        Ok(Renewed {
+            cluster,
+            root: Some(root),
+            progress: Some(progress),
+            next: self.next_id(),
+        })
+    }
+
+    /// What is kept after the op of a ticket was dropped.
+    pub(crate) fn without_op(&self, alloc: Global, ticket: u64) -> Result<Renewed, AllocError>
+        requires live { IsLive K.start self.now }
+        requires may { CanDrop (ticket_of K.start self.now ticket) }
+        requires present { (ticket_of K.start self.now ticket).term ≡ (world_of K.start self.now).term }
+        ensures { IfOk result (λ r. MaySwap K.start self.now ticket DroppedStep HasEnded r.cluster r.root r.progress r.next.number) }
+    {
+        self.rules();
+        let mut cluster = self.record().try_clone(alloc)?;
+        let progress = self.plan().dropped(alloc, ticket)?;
+        cluster.ops = progress.record_ops(alloc)?;
+        Ok(Renewed {
+            cluster,
+            root: None,
+            progress: Some(progress),
+            next: self.next_id(),
+        })
+    }
+}

@@ -1,0 +1,114 @@
+//! The steps that swap the cluster record.
+ghost use Rattle.std.specs.Prelude.{◌≡◌, ◌⊎◌, ◌<◌, false, IfErr, vec_len, vec_capacity};
+ghost use Rattle.std.specs.Option.{unwrap_or};
+ghost use Rattle.esr_model.specs.Values.{ReadsBack};
+ghost use Rattle.esr_depot.specs.Calls.{Called, is_wanting};
+ghost use Rattle.esr_depot.specs.Changes.{Swapped, SwapMay};
+ghost use Rattle.esr_formats.specs.Clusters.{cluster_of, cluster_kind};
+ghost use Rattle.esr_desk.specs.Entries.{step_of, answer_of};
+ghost use Rattle.esr_desk.specs.declared.refusal.StepRefusal.TheVariants.{Memory, Refused};
+ghost use Rattle.esr_desk.specs.declared.refusal.EntryRefusal.TheVariants.{DepotFault};
+ghost use Rattle.esr_repo.specs.Next.{IsLive, Did};
+ghost use Rattle.esr_repo.specs.May.{MaySwap};
+
+use crate::steps::renew;
+use crate::{Repo, Told};
+use esr_depot::{CallError, Depot};
+use esr_desk::{Answer, Entry, EntryRefusal, Step, StepRefusal};
+use esr_formats::write_cluster;
+use esr_names::Id;
+use esr_progress::Progress;
+use esr_record::ClusterRecord;
+use esr_root::RootData;
+use std::alloc::Global;
+
+/// What a repository keeps after a record swap: the new record, and the safe root and the list of ops where they are new.
+#[derive(Drop)]
+pub(crate) struct Renewed {
+    pub cluster: ClusterRecord,
+    pub root: Option<RootData>,
+    pub progress: Option<Progress>,
+    pub next: Id,
+}
+
+impl Renewed {
+    /// Puts the new parts in place of the old ones.
+    fn keep(
+        self,
+        cluster: &mut ClusterRecord,
+        root: &mut RootData,
+        progress: &mut Progress,
+        next: &mut Id,
+    )
+        ensures cluster { cluster.new ≡ self.cluster }
+        ensures root { root.new ≡ unwrap_or self.root root.old }
+        ensures progress { progress.new ≡ unwrap_or self.progress progress.old }
+        ensures next { next.new ≡ self.next }
+    {
+        *cluster = self.cluster;
+        renew(root, self.root);
+        renew(progress, self.progress);
+        *next = self.next;
+    }
+}
+
+/// Makes room for one more entry, and puts the text of the record in place of the container's.
+fn put_record<D: Depot>(
+    depot: &mut D,
+    history: &mut Vec<Entry>,
+    alloc: Global,
+    cluster: &ClusterRecord,
+) -> Result<(), CallError>
+    ensures call { Called (D.look depot.old) (D.look depot.new) (λ _. Swapped (cluster_kind.text (cluster_of cluster.now)))
+        (SwapMay (cluster_kind.text (cluster_of cluster.now))) result }
+    ensures reads { ReadsBack cluster_kind (cluster_of cluster.now) }
+    ensures entries { history.new.items ≡ history.old.items }
+    ensures room { is_wanting result ≡ false → vec_len history.new < vec_capacity history.new }
+{
+    let text = write_cluster(alloc, cluster)?;
+    if history.reserve(1).is_err() {
+        return Err(CallError::Memory);
+    }
+    depot.swap_record(alloc, text.as_slice())
+}
+
+impl<D: Depot, K: Told> Repo<D, K> {
+    /// A step that swaps the record. Where the container fails in the swap, every later step is refused, and the new record may
+    /// stand nevertheless.
+    pub(crate) fn swap(
+        &mut self,
+        alloc: Global,
+        who: u64,
+        step: Step,
+        answer: Answer,
+        renewed: Renewed,
+    ) -> Result<(), StepRefusal>
+        requires live { IsLive K.start self.old }
+        requires may { MaySwap K.start self.old who (step_of step) (answer_of answer) renewed.cluster renewed.root renewed.progress renewed.next.number }
+        ensures step { Did K.start self.old self.new who (step_of step) (λ _. answer_of answer) result }
+        ensures why { IfErr result (λ e. (e ≡ Memory) ⊎ (e ≡ Refused DepotFault)) }
+    {
+        Self::laws();
+        match put_record(&mut self.depot, &mut self.history, alloc, &renewed.cluster) {
+            Ok(()) => {
+                self.history.push_reserved(Entry { who, step, answer });
+                renewed.keep(
+                    &mut self.cluster,
+                    &mut self.root,
+                    &mut self.progress,
+                    &mut self.next,
+                );
+                Ok(())
+            }
+            Err(CallError::Memory) => Err(StepRefusal::Memory),
+            Err(CallError::Failed) => {
+                let place = self.history.len() as u64;
+                let refusal = EntryRefusal::DepotFault;
+                let answer = Answer::Refused { refusal };
+                self.history.push_reserved(Entry { who, step, answer });
+                self.deposed = Some(place);
+                Err(StepRefusal::Refused(refusal))
+            }
+        }
+    }
+}

@@ -1,0 +1,126 @@
+//! The unit that a take gives.
+ghost use Rattle.std.specs.Prelude.{◌≡◌, ◌<◌, ◌^◌, length, Some, IfOk, IfSome};
+ghost use Rattle.std.specs.FinMap as fin;
+ghost use Rattle.esr_model.specs.Values.{Formats};
+ghost use Rattle.esr_core.specs.Entry.{TakeStep};
+ghost use Rattle.esr_core.specs.After.{taken_by};
+ghost use Rattle.esr_progress.specs.Plan.{IsPlanOf};
+ghost use Rattle.esr_progress.specs.Units.{NextUnit, GivesUnit, given_of};
+ghost use Rattle.esr_desk.specs.Entries.{unit_of};
+ghost use Rattle.esr_desk.specs.Outcome.{take_reply};
+ghost use Rattle.esr_desk.specs.Start.{world_of};
+ghost use Rattle.esr_desk.specs.Taken.{Took};
+ghost use Rattle.esr_repo.specs.Given.{based, IsBased, IsRootable, HasRoot};
+ghost use Rattle.esr_repo.specs.Next.{IsLive, Did};
+
+use crate::{Repo, Told};
+use esr_depot::Depot;
+use esr_desk::{Answer, Given, Step, StepRefusal, Unit};
+use esr_formats::write_root;
+use esr_meta::{SnapInfo, indices_copy};
+use esr_progress::{Progress, ReadyUnit, Work};
+use esr_results::{ShardResults, finalized};
+use esr_root::RootData;
+use std::alloc::{AllocError, Global};
+
+/// A unit without a base, but for that of a shard.
+fn based(mut unit: ReadyUnit) -> ReadyUnit
+    ensures { result ≡ based unit }
+{
+    if !matches!(unit.work, Work::Shard { .. }) {
+        unit.copy.base = None;
+    }
+    unit
+}
+
+/// A copy of an info.
+fn info_copy(alloc: Global, info: &SnapInfo) -> Result<SnapInfo, AllocError>
+    ensures { IfOk result (λ copy. copy ≡ info.now) }
+{
+    Ok(SnapInfo {
+        bytes: info.bytes,
+        files: info.files,
+        indices: indices_copy(alloc, &info.indices)?,
+        moment: info.moment,
+        name: info.name.try_clone(alloc)?,
+        state: info.state,
+        uuid: info.uuid,
+    })
+}
+
+/// What is given, as an entry tells it.
+fn given(alloc: Global, unit: &ReadyUnit) -> Result<Given, AllocError>
+    ensures { IfOk result (λ given. unit_of given ≡ given_of unit.now) }
+{
+    match &unit.work {
+        Work::Shard { shard, .. } => Ok(Given::Shard {
+            shard: *shard,
+            base: unit.copy.base,
+        }),
+        Work::Finalize { info, shards } => Ok(Given::Finalize {
+            info: info_copy(alloc, info)?,
+            shards: ShardResults::from_slice(alloc, shards.as_slice())?,
+        }),
+        Work::Drop => Ok(Given::Drop),
+    }
+}
+
+/// The root that a finalization is to write.
+fn new_root(alloc: Global, unit: &ReadyUnit) -> Result<Option<RootData>, AllocError>
+    requires { IsRootable unit.now }
+    ensures { IfOk result (λ root. HasRoot unit.now root) }
+{
+    let Work::Finalize { info, shards } = &unit.work else {
+        return Ok(None);
+    };
+    let root = finalized(alloc, &unit.copy.root, info, shards)?;
+    write_root(alloc, &root)?;
+    Ok(Some(root))
+}
+
+impl<D: Depot, K: Told> Repo<D, K> {
+    /// The first ready unit of the lowest op, with the list in which its ticket is out.
+    pub(crate) fn ready(&self, alloc: Global) -> Result<Option<(Progress, ReadyUnit)>, AllocError>
+        requires live { IsLive K.start self.now }
+        requires room { length self.now < 2 ^ 41 }
+        ensures next { IfOk result (λ o. NextUnit (world_of K.start self.now) o) }
+        ensures base { IfOk result (λ o. IfSome o (λ next. IsBased next.1)) }
+    {
+        self.rules();
+        let root = self.safe_root();
+        match self
+            .plan()
+            .next_unit(alloc, root, self.safe(), self.term())?
+        {
+            Some((progress, unit)) => Ok(Some((progress, based(unit)))),
+            None => Ok(None),
+        }
+    }
+
+    /// Gives a unit that is ready.
+    pub(crate) fn give(
+        &mut self,
+        alloc: Global,
+        progress: Progress,
+        ready: ReadyUnit,
+    ) -> Result<Unit, StepRefusal>
+        requires live { IsLive K.start self.old }
+        requires gives { GivesUnit (world_of K.start self.old) ready }
+        requires base { IsBased ready }
+        requires plan { (f : Formats) → IsPlanOf (taken_by f (world_of K.start self.old) ready.op (given_of ready) (fin.get (world_of K.start self.old).ops ready.op)) progress }
+        ensures step { Did K.start self.old self.new 0 TakeStep (λ unit. take_reply (Some unit)) result }
+        ensures took { IfOk result (λ unit. Took K.start self.new unit) }
+    {
+        self.rules();
+        let given = given(alloc, &ready)?;
+        let new_root = new_root(alloc, &ready)?;
+        let answer = Answer::Gave {
+            ticket: ready.ticket,
+            op: ready.op,
+            unit: given,
+        };
+        let next = self.next_id();
+        self.note(0, Step::Take, answer, Some(progress), next)?;
+        Ok(Unit { ready, new_root })
+    }
+}

@@ -1,0 +1,135 @@
+//! The steps by which a unit reads and writes.
+ghost use Rattle.std.specs.Prelude.{◌≡◌, ◌+◌, ◌<◌, ◌^◌, ℕ, List, [], map, Option, Some, None, true, false, IfOk, IfSome, OnOk, OnErr};
+ghost use Rattle.esr_model.specs.Names.{Latest};
+ghost use Rattle.esr_model.specs.Values.{Bytes};
+ghost use Rattle.esr_core.specs.Entry.{Moment, AskStep, TakeStep, DrawStep, BeginStep, CommitStep, LatestStep, FetchStep, RaiseStep, SettleStep, DoneStep, FailedStep, FinishStep, DroppedStep, LookStep, Accepted, DrawnFrom, WasBegun, WasReplaced, RaisedTo, WasSettled, HasEnded, Looked};
+ghost use Rattle.esr_core.specs.Allowed.{IsMetadata, latest_text};
+ghost use Rattle.esr_core.specs.After.{fetching};
+ghost use Rattle.esr_names.specs.Layout.{IsName};
+ghost use Rattle.esr_formats.specs.Names.{name_of};
+ghost use Rattle.esr_formats.specs.Roots.{root_of, root_snap_of};
+ghost use Rattle.esr_formats.specs.Clusters.{count_of};
+ghost use Rattle.esr_results.specs.Results.{result_of};
+ghost use Rattle.esr_progress.specs.Asked.{asked_of, IsAskable};
+ghost use Rattle.esr_desk.specs.Entries.{why_of};
+ghost use Rattle.esr_desk.specs.Start.{Start, ticket_of, told_bytes};
+ghost use Rattle.esr_desk.specs.Outcome.{commit_reply, fetch_reply, take_reply};
+ghost use Rattle.esr_desk.specs.Conditions.{CanDraw, CanCommit, CanPut, CanBegin, Holds, CanFetch, CanRaise, CanSettle, CanEnd, CanFail, CanFinish, CanDrop};
+ghost use Rattle.esr_desk.specs.Taken.{Took, committed_by, begun_by, tried_by, fetched_by, LeftBy, HasRaised, IsSettled, HasEndedAs};
+ghost use Rattle.esr_desk.specs.declared.refusal.StepRefusal.{StepRefusal};
+ghost use Rattle.esr_repo.specs.Next.{Did};
+
+use crate::{Repo, Told};
+use esr_depot::{Commit, Depot, Fetch, Stage};
+use esr_desk::{Answer, EntryRefusal, Named, Step, StepRefusal};
+use esr_names::{BlobName, Id};
+use std::alloc::Global;
+
+impl<D: Depot, K: Told> Repo<D, K> {
+    /// Draws so many ids, one after another, and answers the first.
+    pub fn draw(&mut self, alloc: Global, ticket: u64, count: u64) -> Result<Id, StepRefusal>
+        requires may { CanDraw K.start (ticket_of K.start self.old ticket) count }
+        ensures step { Did K.start self.old self.new ticket (DrawStep count) (λ first. DrawnFrom first.number) result }
+        ensures own { IfOk result (λ first. ticket_of K.start self.new ticket
+            ≡ record (ticket_of K.start self.old ticket) { first = first.number; drawn = count }) }
+        ensures range { IfOk result (λ first. first.number + count < 2 ^ 128) }
+        ensures kept { OnErr result (ticket_of K.start self.new ticket ≡ ticket_of K.start self.old ticket) }
+    {
+        self.check(ticket, Step::Draw { count })?;
+        let first = self.next_id();
+        let Some(next) = self.id_after(count) else {
+            let refusal = EntryRefusal::IdsSpent { next: first };
+            return Err(self.refuse(ticket, Step::Draw { count }, refusal));
+        };
+        self.note(
+            ticket,
+            Step::Draw { count },
+            Answer::Drawn { first },
+            None,
+            next,
+        )?;
+        Ok(first)
+    }
+
+    /// A new stage for a blob of that name, for at most `room` bytes.
+    pub fn begin(
+        &mut self,
+        alloc: Global,
+        ticket: u64,
+        name: BlobName,
+        room: usize,
+    ) -> Result<Named<D::Stage>, StepRefusal>
+        requires layout { IsName name }
+        requires may { CanBegin K.start (ticket_of K.start self.old ticket) (name_of name) }
+        ensures step { Did K.start self.old self.new ticket (BeginStep (name_of name)) (λ stage. WasBegun) result }
+        ensures own { ticket_of K.start self.new ticket
+            ≡ begun_by (name_of name) result (ticket_of K.start self.old ticket) }
+        ensures name { IfOk result (λ s. s.name ≡ name) }
+        ensures room { IfOk result (λ s. D.Stage.room s.stage ≡ room) }
+        ensures contents { IfOk result (λ s. Holds K.start (D.Stage.contents s.stage) []) }
+        ensures count { IfOk result (λ s. D.Stage.faults s.stage ≡ 0) }
+    {
+        self.check(ticket, Step::Begin { name })?;
+        self.call_begin(alloc, ticket, name, room)
+    }
+
+    /// Adds the whole blob. A blob of a finalization that is there already counts as committed; any other is refused as
+    /// `NameTaken`.
+    pub fn commit(
+        &mut self,
+        alloc: Global,
+        ticket: u64,
+        stage: Named<D::Stage>,
+    ) -> Result<Commit, StepRefusal>
+        requires layout { IsName stage.name }
+        requires may { (bytes : Bytes) × Holds K.start (D.Stage.contents stage.stage) bytes
+            × CanCommit K.start (ticket_of K.start self.old ticket) (name_of stage.name) bytes }
+        ensures step { Did K.start self.old self.new ticket (CommitStep (name_of stage.name)) commit_reply result }
+        ensures own { IfOk result (λ c. ticket_of K.start self.new ticket
+            ≡ committed_by (name_of stage.name) (D.Stage.contents stage.stage) c (ticket_of K.start self.old ticket)) }
+        ensures found { result ≡ Ok Commit.Exists → IsMetadata (name_of stage.name) }
+        ensures kept { OnErr result (ticket_of K.start self.new ticket ≡ ticket_of K.start self.old ticket) }
+    {
+        self.check(ticket, Step::Commit { name: stage.name })?;
+        self.rules();
+        self.call_commit(alloc, ticket, stage)
+    }
+
+    /// Puts `index.latest`, which tells the generation that the ticket raised. Nothing reads it, so a failure is no
+    /// reason to stop.
+    pub fn latest(
+        &mut self,
+        alloc: Global,
+        ticket: u64,
+        stage: Named<D::Stage>,
+    ) -> Result<(), StepRefusal>
+        requires name { name_of stage.name ≡ Latest }
+        requires may { (n : ℕ) × CanPut K.start (ticket_of K.start self.old ticket) n
+            × Holds K.start (D.Stage.contents stage.stage) (latest_text n) }
+        ensures step { Did K.start self.old self.new ticket LatestStep (λ _. WasReplaced) result }
+        ensures own { ticket_of K.start self.new ticket ≡ tried_by result (ticket_of K.start self.old ticket) }
+    {
+        self.check(ticket, Step::Latest)?;
+        self.call_replace(alloc, ticket, stage)
+    }
+
+    /// The blob of that name, to be read from its first byte, or `None` where there is none.
+    pub fn fetch(
+        &mut self,
+        alloc: Global,
+        ticket: u64,
+        name: BlobName,
+    ) -> Result<Option<D::Fetch>, StepRefusal>
+        requires layout { IsName name }
+        requires may { CanFetch (ticket_of K.start self.old ticket) (name_of name) }
+        ensures step { Did K.start self.old self.new ticket (FetchStep (name_of name)) fetch_reply result }
+        ensures own { IfOk result (λ o. ticket_of K.start self.new ticket
+            ≡ fetched_by D.Fetch.left (name_of name) o (ticket_of K.start self.old ticket)) }
+        ensures told { IfOk result (λ o. IfSome o (λ f. (bytes : Bytes) × Holds K.start (D.Fetch.left f) bytes)) }
+        ensures count { IfOk result (λ o. IfSome o (λ f. D.Fetch.faults f ≡ 0)) }
+        ensures kept { OnErr result (ticket_of K.start self.new ticket ≡ ticket_of K.start self.old ticket) }
+    {
+        self.check(ticket, Step::Fetch { name })?;
+        self.call_fetch(alloc, ticket, name)
+    }
+}
