@@ -1,0 +1,7 @@
+//! Units are worked, one after another, until none is ready.
+#![tactic(auto)]
+
+mod unit;
+mod worker;
+
+pub use worker::work;

@@ -1,0 +1,5 @@
+pub mod Going
+pub mod Reading
+pub mod Asking
+pub mod Scripts
+pub mod Ending

@@ -1,0 +1,73 @@
+-- How a run ends early, as the code says it.
+use Rattle.std.specs.Prelude.{◌≡◌, ℕ, true, List, Option, Some, None, Result, Ok, Err}
+use Rattle.esr_model.specs.Values.{Bytes}
+use Rattle.esr_depot.specs.Calls.{HasCause}
+use Rattle.esr_script.specs.Jobs.{job_of}
+use Rattle.esr_script.specs.declared.item.ScriptLine.{ScriptLine}
+use Rattle.esr_script.specs.declared.refusal.ScriptRefusal.{ScriptRefusal}
+use Rattle.esr_script.specs.declared.refusal.ScriptRefusal.TheVariants.{TooLong}
+use Rattle.esr_run.specs.declared.stop.Stop.{Stop}
+use Rattle.esr_run.specs.declared.stop.Stop.TheVariants as stops
+use Rattle.esr_run.specs.Asked.{run_size}
+use Rattle.esr_run.specs.Script.{AreBytes, kept_of, first_bad, bad_line}
+use Rattle.esr_run.specs.Ends.{RunEnd, BadWords, Unreadable, BadScript, BadLine, OpenFault, HasRecord, NoRecord}
+use Rattle.esr_run.specs.Causes.{Given, IsStopped}
+
+abbrev pub end_of : Stop → Option RunEnd
+end_of stops.Memory = None
+end_of stops.BadWords = Some BadWords
+end_of stops.Unreadable = Some Unreadable
+end_of stops.BadScript = Some BadScript
+end_of (stops.BadLine number) = Some (BadLine number)
+end_of stops.OpenFault = Some OpenFault
+end_of stops.HasRecord = Some HasRecord
+end_of (stops.NoRecord name) = Some (NoRecord name)
+
+-- the words ask for no run
+abbrev pub IsNoRun : List Bytes → Stop → Type 0
+IsNoRun words stops.Memory = Unit {0}
+IsNoRun words stops.BadWords = run_size (job_of words) ≡ None
+IsNoRun words stops.Unreadable = ⊥
+IsNoRun words stops.BadScript = ⊥
+IsNoRun words (stops.BadLine number) = ⊥
+IsNoRun words stops.OpenFault = ⊥
+IsNoRun words stops.HasRecord = ⊥
+IsNoRun words (stops.NoRecord name) = ⊥
+
+-- the script can't be read
+abbrev pub IsNoRead : ℕ → ℕ → Stop → Type 0
+IsNoRead old new stops.Memory = Unit {0}
+IsNoRead old new stops.BadWords = ⊥
+IsNoRead old new stops.Unreadable = HasCause old new true
+IsNoRead old new stops.BadScript = ⊥
+IsNoRead old new (stops.BadLine number) = ⊥
+IsNoRead old new stops.OpenFault = ⊥
+IsNoRead old new stops.HasRecord = ⊥
+IsNoRead old new (stops.NoRecord name) = ⊥
+
+-- what was read of the script is bad
+abbrev pub IsBadIn : Result (List ScriptLine) ScriptRefusal → Stop → Type 0
+IsBadIn read stops.Memory = Unit {0}
+IsBadIn read stops.BadWords = ⊥
+IsBadIn read stops.Unreadable = ⊥
+IsBadIn read stops.BadScript = read ≡ Err TooLong
+IsBadIn read (stops.BadLine number) = bad_line read ≡ Some number
+IsBadIn read stops.OpenFault = ⊥
+IsBadIn read stops.HasRecord = ⊥
+IsBadIn read (stops.NoRecord name) = ⊥
+
+-- these lines can be carried out
+pub record AreGood (read : Result (List ScriptLine) ScriptRefusal) (lines : List ScriptLine) : Type 0 where
+  pub read_as : read ≡ Ok lines
+  pub good : first_bad lines ≡ None
+
+-- the kept bytes of a script
+pub record IsKept (told : Option Bytes) (kept : Bytes) : Type 0 where
+  pub bytes : Bytes
+  pub bytes_are : AreBytes told bytes
+  pub kept_is : kept ≡ kept_of bytes
+
+-- why it ended before the container was touched, if memory wasn't wanting
+abbrev pub StoppedBy : Given → ℕ → Option RunEnd → Type 0
+StoppedBy given faults None = Unit {0}
+StoppedBy given faults (Some end) = IsStopped given faults end

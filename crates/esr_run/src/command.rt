@@ -1,0 +1,46 @@
+//! The command that a line asks for.
+ghost use Rattle.std.specs.Prelude.{◌≡◌, map, IfOk};
+ghost use Rattle.esr_progress.specs.Asked.{asked_of, asked_index_of};
+ghost use Rattle.esr_run.specs.Commands.{index_of_line, command_of_line};
+
+use esr_names::SnapName;
+use esr_progress::{AskedIndex, AskedIndices, Command};
+use esr_script::AskedIndex as LineIndex;
+use esr_seq::Seq;
+use std::alloc::{AllocError, Global};
+
+fn index_of(alloc: Global, index: &LineIndex) -> Result<AskedIndex, AllocError>
+    ensures { IfOk result (λ a. asked_index_of a ≡ index_of_line index.now) }
+{
+    Ok(AskedIndex {
+        name: index.name.try_clone(alloc)?,
+        shards: index.shards,
+        place: index.place.try_clone(alloc)?,
+    })
+}
+
+fn indices_of(alloc: Global, indices: &[LineIndex]) -> Result<AskedIndices, AllocError>
+    ensures { IfOk result (λ asked. map asked_index_of asked ≡ map index_of_line indices.now) }
+{
+    let mut asked = Seq::with_capacity(alloc, indices.len())?;
+    for index in indices {
+        asked.push(index_of(alloc, index)?)?;
+    }
+    Ok(asked)
+}
+
+/// The command of a line that asks for a snapshot.
+pub(crate) fn command_of(
+    alloc: Global,
+    name: &SnapName,
+    indices: &[LineIndex],
+    moment: u64,
+) -> Result<Command, AllocError>
+    ensures { IfOk result (λ c. asked_of c ≡ command_of_line name.now indices.now moment) }
+{
+    Ok(Command::Create {
+        name: name.try_clone(alloc)?,
+        indices: indices_of(alloc, indices)?,
+        moment,
+    })
+}

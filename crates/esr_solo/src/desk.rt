@@ -1,0 +1,192 @@
+//! The steps of the desk: each is that of the repository, while turns are left.
+
+use crate::Solo;
+use crate::solo::turns;
+use esr_depot::{Commit, Depot};
+use esr_desk::{Desk, Look, Named, StepRefusal, Unit, Why};
+use esr_names::{BlobName, Id};
+use esr_progress::Command;
+use esr_repo::Told;
+use esr_results::ShardResult;
+use esr_root::RootData;
+use std::alloc::Global;
+
+impl<D: Depot, K: Told> Desk for Solo<D, K> {
+    type Stage = D::Stage;
+
+    type Fetch = D::Fetch;
+
+    ghost start = { K.start };
+
+    ghost seen = { λ s. s };
+
+    ghost holds = { λ s k. Prim.Unit {0} };
+
+    fn ask(&mut self, alloc: Global, command: &Command) -> Result<u64, StepRefusal> {
+        self.repo.is_legal();
+        if self.left == 0 {
+            return Err(StepRefusal::TurnsSpent);
+        }
+        let answer = self.repo.ask(alloc, command);
+        self.left -= turns(&answer);
+        answer
+    }
+
+    fn take(&mut self, alloc: Global) -> Result<Option<Unit>, StepRefusal> {
+        self.repo.is_legal();
+        if self.left == 0 {
+            return Err(StepRefusal::TurnsSpent);
+        }
+        let answer = self.repo.take(alloc);
+        self.left -= turns(&answer);
+        answer
+    }
+
+    fn draw(&mut self, alloc: Global, ticket: u64, count: u64) -> Result<Id, StepRefusal> {
+        self.repo.is_legal();
+        if self.left == 0 {
+            return Err(StepRefusal::TurnsSpent);
+        }
+        let answer = self.repo.draw(alloc, ticket, count);
+        self.left -= turns(&answer);
+        answer
+    }
+
+    fn begin(
+        &mut self,
+        alloc: Global,
+        ticket: u64,
+        name: BlobName,
+        room: usize,
+    ) -> Result<Named<Self::Stage>, StepRefusal> {
+        self.repo.is_legal();
+        if self.left == 0 {
+            return Err(StepRefusal::TurnsSpent);
+        }
+        let answer = self.repo.begin(alloc, ticket, name, room);
+        self.left -= turns(&answer);
+        answer
+    }
+
+    fn commit(
+        &mut self,
+        alloc: Global,
+        ticket: u64,
+        name: BlobName,
+        stage: Self::Stage,
+    ) -> Result<Commit, StepRefusal> {
+        self.repo.is_legal();
+        if self.left == 0 {
+            return Err(StepRefusal::TurnsSpent);
+        }
+        let answer = self.repo.commit(alloc, ticket, Named { name, stage });
+        self.left -= turns(&answer);
+        answer
+    }
+
+    fn latest(
+        &mut self,
+        alloc: Global,
+        ticket: u64,
+        name: BlobName,
+        stage: Self::Stage,
+    ) -> Result<(), StepRefusal> {
+        self.repo.is_legal();
+        if self.left == 0 {
+            return Err(StepRefusal::TurnsSpent);
+        }
+        let answer = self.repo.latest(alloc, ticket, Named { name, stage });
+        self.left -= turns(&answer);
+        answer
+    }
+
+    fn fetch(
+        &mut self,
+        alloc: Global,
+        ticket: u64,
+        name: BlobName,
+    ) -> Result<Option<Self::Fetch>, StepRefusal> {
+        self.repo.is_legal();
+        if self.left == 0 {
+            return Err(StepRefusal::TurnsSpent);
+        }
+        let answer = self.repo.fetch(alloc, ticket, name);
+        self.left -= turns(&answer);
+        answer
+    }
+
+    fn raise(&mut self, alloc: Global, ticket: u64) -> Result<u64, StepRefusal> {
+        self.repo.is_legal();
+        if self.left == 0 {
+            return Err(StepRefusal::TurnsSpent);
+        }
+        let answer = self.repo.raise(alloc, ticket);
+        self.left -= turns(&answer);
+        answer
+    }
+
+    fn settle(&mut self, alloc: Global, ticket: u64, root: &RootData) -> Result<(), StepRefusal> {
+        self.repo.is_legal();
+        if self.left == 0 {
+            return Err(StepRefusal::TurnsSpent);
+        }
+        let answer = self.repo.settle(alloc, ticket, root);
+        self.left -= turns(&answer);
+        answer
+    }
+
+    fn done(
+        &mut self,
+        alloc: Global,
+        ticket: u64,
+        outcome: &ShardResult,
+    ) -> Result<(), StepRefusal> {
+        self.repo.is_legal();
+        if self.left == 0 {
+            return Err(StepRefusal::TurnsSpent);
+        }
+        let answer = self.repo.done(alloc, ticket, outcome);
+        self.left -= turns(&answer);
+        answer
+    }
+
+    fn failed(&mut self, alloc: Global, ticket: u64, why: Why) -> Result<(), StepRefusal> {
+        self.repo.is_legal();
+        if self.left == 0 {
+            return Err(StepRefusal::TurnsSpent);
+        }
+        let answer = self.repo.failed(alloc, ticket, why);
+        self.left -= turns(&answer);
+        answer
+    }
+
+    fn dropped(&mut self, alloc: Global, ticket: u64) -> Result<(), StepRefusal> {
+        self.repo.is_legal();
+        if self.left == 0 {
+            return Err(StepRefusal::TurnsSpent);
+        }
+        let answer = self.repo.dropped(alloc, ticket);
+        self.left -= turns(&answer);
+        answer
+    }
+
+    fn finish(&mut self, alloc: Global, ticket: u64) -> Result<(), StepRefusal> {
+        self.repo.is_legal();
+        if self.left == 0 {
+            return Err(StepRefusal::TurnsSpent);
+        }
+        let answer = self.repo.finish(alloc, ticket);
+        self.left -= turns(&answer);
+        answer
+    }
+
+    fn look(&mut self, alloc: Global) -> Result<Look, StepRefusal> {
+        self.repo.is_legal();
+        if self.left == 0 {
+            return Err(StepRefusal::TurnsSpent);
+        }
+        let answer = self.repo.look(alloc);
+        self.left -= turns(&answer);
+        answer
+    }
+}

@@ -1,0 +1,7 @@
+//! The desk of one thread.
+#![tactic(auto)]
+
+mod desk;
+mod solo;
+
+pub use solo::Solo;

@@ -1,0 +1,235 @@
+-- What a shard's ticket has done when its last two blobs are written.
+use Rattle.std.proofs.Common.{◌≡◌, inl, inr, ℕ, suc, ◌+◌, ◌-◌, ◌^◌, ◌<◌, ◌≤◌, min, length, true, false, List, [], ◌∷◌, ◌++◌, map, find, Option, Some, None, refl, sym, ap, ◌∙◌, subst, arith}
+use Rattle.std.specs.List.{AllByRecursion}
+use Rattle.esr_names.specs.declared.ids.Id.{Id}
+use Rattle.esr_names.specs.declared.blob.ShardId.{ShardId}
+use Rattle.esr_model.specs.Names.{BlobName, ShardSnap, ShardIndex}
+use Rattle.esr_model.specs.Values.{Bytes, Has, FileEntry, ShardFiles, Formats, ReadsBack}
+use Rattle.esr_model.specs.Uploads.{entries_from, id_after, shard_blobs, with_snap}
+use Rattle.esr_core.specs.World.{Ticket}
+use Rattle.esr_core.specs.Steps.{Drew}
+use Rattle.esr_core.specs.Entry.{Moment}
+use Rattle.esr_core.specs.Allowed.{Based, DoneBy}
+use Rattle.esr_source.specs.declared.files.ListedFile.{ListedFile}
+use Rattle.esr_shardidx.specs.declared.entry.FileEntry.{FileEntry as CodeEntry}
+use Rattle.esr_shardidx.specs.Snapshots.{SnapValue, are_snap_files}
+use Rattle.esr_shardidx.specs.Indices.{IndexValue, IsShardIndex, has_uuid, with_snap_of}
+use Rattle.esr_formats.specs.Ids.{id_of}
+use Rattle.esr_formats.specs.Formats.{formats}
+use Rattle.esr_formats.specs.Shards.{entry_of, shard_snap_of, shard_snap_kind, shard_index_of, shard_index_kind}
+use Rattle.esr_results.specs.Results.{result_of}
+use Rattle.esr_reuse.specs.declared.reuse.Planned.{Planned}
+use Rattle.esr_reuse.specs.Plans.{file_planned, Reuses}
+use Rattle.esr_desk.specs.Start.{Start, formats_of, ticket_of}
+use Rattle.esr_desk.specs.Conditions.{CanEnd}
+use Rattle.esr_desk.specs.Taken.{after_writes}
+use Rattle.esr_upload.specs.Surveyed.{printed, TellsAll}
+use Rattle.esr_upload.specs.Stored.{IsAt}
+use Rattle.esr_upload.specs.Base.{IsAhead}
+use Rattle.esr_upload.specs.Trouble.{BadBase}
+use Rattle.esr_upload.specs.Entries.{new_count, entries_at, all_blobs, StoredAll}
+use Rattle.esr_upload.specs.Published.{HasDrawn, snap_blob, index_blob, last_blobs, sum_planned, outcome_of}
+use Rattle.esr_upload.proofs.Writing.{writes_on, writes_keep, writes_at, all_wrote, all_noted}
+use Rattle.esr_upload.proofs.Modelled.{entries_model, id_model, blobs_model, as_many, sum_model}
+use Rattle.esr_upload.proofs.Adding.{with_snap_is}
+use Rattle.esr_upload.proofs.Snapped.{snap_ahead}
+use Rattle.esr_upload.proofs.Faults.{bad_base, has_file}
+
+abbrev snap_with : List CodeEntry → Id → SnapValue
+snap_with es uuid = record { files = es; uuid = uuid }
+
+-- what the unit writes, as the definitions have it
+module _ (s : Start) (at : ShardId) (uuid : Id) (base : IndexValue) (ps : List Planned) (size first : ℕ) (es : List CodeEntry) (files : List (Bytes × Bytes))
+    (named : map file_planned ps ≡ map printed files) (each : AllByRecursion (Reuses (shard_index_of base).files) ps) (entries : es ≡ entries_at size first ps)
+    (whole : IsShardIndex base) (unlisted : find (has_uuid uuid) base.snapshots ≡ None) where
+  made : entries_from (formats_of s) size (shard_index_of base) first files ≡ map entry_of es
+  made = entries_model s size first (shard_index_of base) ps files named each ∙ ap (λ (l : List CodeEntry). map entry_of l) (sym entries)
+
+  grown : with_snap (shard_index_of base) uuid.number (entries_from (formats_of s) size (shard_index_of base) first files) ≡ shard_index_of (with_snap_of base (snap_with es uuid))
+  grown = ap (λ (l : List FileEntry). with_snap (shard_index_of base) uuid.number l) made ∙ sym (with_snap_is base (snap_with es uuid) whole unlisted)
+
+  blobs_are : shard_blobs (formats_of s) size (shard_index_of base) at.index.number at.number uuid.number first files
+      ≡ all_blobs at.index.number at.number size first ps files ++ last_blobs at (id_of (first + new_count ps)) (snap_with es uuid) (with_snap_of base (snap_with es uuid))
+  unfolding formats
+  blobs_are =
+      let i = at.index.number in
+      let k = at.number in
+      let f = formats_of s in
+      let v = shard_index_of base in
+      let ent : List FileEntry = entries_from f size v first files in
+      let all : List (BlobName × Bytes) = all_blobs i k size first ps files in
+      ap (λ (ws : List (BlobName × Bytes)). ws ++ (ShardSnap i k uuid.number, shard_snap_kind.text (record { uuid = uuid.number; files = ent })) ∷ (ShardIndex i k (id_after f v first files), shard_index_kind.text (with_snap v uuid.number ent)) ∷ [])
+      (blobs_model s i k size first v ps files named each)
+      ∙ ap (λ (l : List FileEntry). all ++ (ShardSnap i k uuid.number, shard_snap_kind.text (record { uuid = uuid.number; files = l })) ∷ (ShardIndex i k (id_after f v first files), shard_index_kind.text (with_snap v uuid.number ent)) ∷ []) made
+      ∙ ap (λ (n : ℕ). all ++ snap_blob at (snap_with es uuid) ∷ (ShardIndex i k n, shard_index_kind.text (with_snap v uuid.number ent)) ∷ []) (id_model s first v ps files named each)
+      ∙ ap (λ (w : ShardFiles). all ++ snap_blob at (snap_with es uuid) ∷ (ShardIndex i k (first + new_count ps), shard_index_kind.text w) ∷ []) grown
+
+based_on : (f : Formats) (t u : Ticket) (index number : ℕ) (b : Option ℕ) (v : ShardFiles) → u.read ≡ t.read → Based f t index number b v → Based f u index number b v
+based_on f t u index number None v same based = based
+based_on f t u index number (Some g) v same based = (based.0, subst (λ (l : List (BlobName × Bytes)). Has l (ShardIndex index number g, based.0)) (sym same) based.1, based.2)
+
+tells_some : (told : Option (List (Bytes × Bytes))) (x files : List (Bytes × Bytes)) → told ≡ Some x → TellsAll told files → files ≡ x
+tells_some None x files is tells = cc
+tells_some (Some y) x files is tells = let same : y ≡ x = cc in tells ∙ same
+
+module _ (s : Start) (told : Option (List (Bytes × Bytes))) (listed : Option (List ListedFile)) (at : ShardId) (uuid : Id) (base : IndexValue) (ps : List Planned) (size first : ℕ) (es : List CodeEntry) (old up : Ticket)
+    (drawn : HasDrawn s told listed at.index.number at.number uuid base ps first old) (size_is : size ≡ s.part_size) (least : 1 ≤ size) (stored : StoredAll s told at.index.number at.number size first ps es old up) where
+  abbrev last : List (BlobName × Bytes)
+  last = last_blobs at (id_of (first + new_count ps)) (snap_with es uuid) (with_snap_of base (snap_with es uuid))
+
+  abbrev written : List (BlobName × Bytes)
+  written = all_blobs at.index.number at.number size first ps stored.files ++ last
+
+  abbrev new : Ticket
+  new = after_writes s last up
+
+  new_is : new ≡ after_writes s written old
+  new_is = ap (λ (t : Ticket). after_writes s last t) stored.is ∙ sym (writes_on s (all_blobs at.index.number at.number size first ps stored.files) last old)
+
+  new_at : IsAt new at.index.number at.number
+  new_at = writes_at s written old new at.index.number at.number new_is drawn.at
+
+  new_uuid : new.uuid ≡ uuid.number
+  new_uuid = writes_keep (λ (t : Ticket). t.uuid) (λ t n w. refl) s written old new new_is ∙ drawn.uuid_is
+
+  new_first : new.first ≡ first
+  new_first = writes_keep (λ (t : Ticket). t.first) (λ t n w. refl) s written old new new_is ∙ drawn.from
+
+  new_drawn : new.drawn ≡ new_count ps + 1
+  new_drawn = writes_keep (λ (t : Ticket). t.drawn) (λ t n w. refl) s written old new new_is ∙ drawn.drawn
+
+  new_base : new.base ≡ old.base
+  new_base = writes_keep (λ (t : Ticket). t.base) (λ t n w. refl) s written old new new_is
+
+  new_read : new.read ≡ old.read
+  new_read = writes_keep (λ (t : Ticket). t.read) (λ t n w. refl) s written old new new_is
+
+  new_place : new.place ≡ old.place
+  new_place = writes_keep (λ (t : Ticket). t.place) (λ t n w. refl) s written old new new_is
+
+  new_name : new.name ≡ old.name
+  new_name = writes_keep (λ (t : Ticket). t.name) (λ t n w. refl) s written old new new_is
+
+  new_based : s.tells ≡ true → Based (formats_of s) new at.index.number at.number new.base (shard_index_of base)
+  new_based tells = subst (λ (b : Option ℕ). Based (formats_of s) new at.index.number at.number b (shard_index_of base)) (sym new_base) (based_on (formats_of s) old new at.index.number at.number old.base (shard_index_of base) new_read (drawn.based tells))
+
+  told_files : s.known new.place new.name at.number ≡ true → stored.files ≡ s.told new.place new.name at.number
+  told_files known =
+      let known_old = subst (λ (n : Bytes). s.known old.place n at.number ≡ true) new_name (subst (λ (p : Bytes). s.known p new.name at.number ≡ true) new_place known) in
+      let is : stored.files ≡ s.told old.place old.name at.number = tells_some told (s.told old.place old.name at.number) stored.files (drawn.tells known_old) stored.tells in
+      is ∙ ap (λ (n : Bytes). s.told old.place n at.number) (sym new_name) ∙ ap (λ (p : Bytes). s.told p new.name at.number) (sym new_place)
+
+  made_is : entries_from (formats_of s) size (shard_index_of base) first stored.files ≡ map entry_of es
+  made_is = made s at uuid base ps size first es stored.files stored.named drawn.planned.each stored.entries drawn.whole drawn.unlisted
+
+  grown_is : with_snap (shard_index_of base) uuid.number (entries_from (formats_of s) size (shard_index_of base) first stored.files) ≡ shard_index_of (with_snap_of base (snap_with es uuid))
+  grown_is = grown s at uuid base ps size first es stored.files stored.named drawn.planned.each stored.entries drawn.whole drawn.unlisted
+
+  written_is : shard_blobs (formats_of s) s.part_size (shard_index_of base) at.index.number at.number new.uuid new.first stored.files ≡ written
+  written_is =
+      ap (λ (n : ℕ). shard_blobs (formats_of s) n (shard_index_of base) at.index.number at.number new.uuid new.first stored.files) (sym size_is)
+      ∙ ap (λ (n : ℕ). shard_blobs (formats_of s) size (shard_index_of base) at.index.number at.number n new.first stored.files) new_uuid
+      ∙ ap (λ (n : ℕ). shard_blobs (formats_of s) size (shard_index_of base) at.index.number at.number uuid.number n stored.files) new_first
+      ∙ blobs_are s at uuid base ps size first es stored.files stored.named drawn.planned.each stored.entries drawn.whole drawn.unlisted
+
+  all_written : s.tells ≡ true → (name : BlobName) (bytes : Bytes) → Has (shard_blobs (formats_of s) s.part_size (shard_index_of base) at.index.number at.number new.uuid new.first stored.files) (name, bytes) → Has new.wrote (name, bytes)
+  all_written tells name bytes has =
+      subst (λ (t : Ticket). Has t.wrote (name, bytes)) (sym new_is)
+      (all_wrote s written old (name, bytes) tells (subst (λ (ws : List (BlobName × Bytes)). Has ws (name, bytes)) written_is has))
+
+  snap_reads : ReadsBack shard_snap_kind (shard_snap_of (snap_with es uuid)) → ReadsBack shard_snap_kind (record { uuid = new.uuid; files = entries_from (formats_of s) s.part_size (shard_index_of base) new.first stored.files })
+  snap_reads back =
+      subst (λ (u : ℕ). ReadsBack shard_snap_kind (record { uuid = u; files = entries_from (formats_of s) s.part_size (shard_index_of base) new.first stored.files })) (sym new_uuid)
+      (subst (λ (n : ℕ). ReadsBack shard_snap_kind (record { uuid = uuid.number; files = entries_from (formats_of s) s.part_size (shard_index_of base) n stored.files })) (sym new_first)
+      (subst (λ (n : ℕ). ReadsBack shard_snap_kind (record { uuid = uuid.number; files = entries_from (formats_of s) n (shard_index_of base) first stored.files })) size_is
+      (subst (λ (l : List FileEntry). ReadsBack shard_snap_kind (record { uuid = uuid.number; files = l })) (sym made_is) back)))
+
+  index_reads : ReadsBack shard_index_kind (shard_index_of (with_snap_of base (snap_with es uuid)))
+      → ReadsBack shard_index_kind (with_snap (shard_index_of base) new.uuid (entries_from (formats_of s) s.part_size (shard_index_of base) new.first stored.files))
+  index_reads back =
+      subst (λ (u : ℕ). ReadsBack shard_index_kind (with_snap (shard_index_of base) u (entries_from (formats_of s) s.part_size (shard_index_of base) new.first stored.files))) (sym new_uuid)
+      (subst (λ (n : ℕ). ReadsBack shard_index_kind (with_snap (shard_index_of base) uuid.number (entries_from (formats_of s) s.part_size (shard_index_of base) n stored.files))) (sym new_first)
+      (subst (λ (n : ℕ). ReadsBack shard_index_kind (with_snap (shard_index_of base) uuid.number (entries_from (formats_of s) n (shard_index_of base) first stored.files))) size_is
+      (subst (λ (v : ShardFiles). ReadsBack shard_index_kind v) (sym grown_is) back)))
+
+  new_last : new.first + new.drawn ≡ suc (first + new_count ps)
+  new_last = let a = new_first in let b = new_drawn in omega (arith, a, b)
+
+  new_drew : Drew new (first + new_count ps)
+  new_drew = let a = new_first in let b = new_drawn in record { from = omega (arith, a); below = omega (arith, a, b) }
+
+  done_by : s.tells ≡ true → ReadsBack shard_snap_kind (shard_snap_of (snap_with es uuid)) → ReadsBack shard_index_kind (shard_index_of (with_snap_of base (snap_with es uuid)))
+      → DoneBy (formats_of s) s.part_size new (result_of (outcome_of at first ps))
+  unfolding formats
+  done_by tells snap index = record {
+    size = subst (λ (n : ℕ). 0 < n) size_is least;
+    base = shard_index_of base;
+    based = new_based tells;
+    files = stored.files;
+    told = told_files;
+    generation = sym (ap (λ (n : ℕ). id_after (formats_of s) (shard_index_of base) n stored.files) new_first ∙ id_model s first (shard_index_of base) ps stored.files stored.named drawn.planned.each);
+    drew = new_last;
+    wrote = all_written tells;
+    snap_back = snap_reads snap;
+    index_back = index_reads index;
+    count = as_many ps stored.files stored.named;
+    bytes = ap (λ (n : ℕ). min n (2 ^ 64 - 1)) (sum_model ps stored.files stored.named);
+  }
+
+  pub can_end : ReadsBack shard_snap_kind (shard_snap_of (snap_with es uuid)) → ReadsBack shard_index_kind (shard_index_of (with_snap_of base (snap_with es uuid))) → CanEnd s new (result_of (outcome_of at first ps))
+  can_end snap index = record {
+    out = new_at.out;
+    is = new_at.work;
+    drew = new_drew;
+    last = new_last;
+    snap_noted = subst (λ (u : ℕ). Has new.noted (ShardSnap at.index.number at.number u)) (sym new_uuid) (all_noted s last up (snap_blob at (snap_with es uuid)) (inl refl));
+    index_noted = all_noted s last up (index_blob at (id_of (first + new_count ps)) (with_snap_of base (snap_with es uuid))) (inr (inl refl));
+    done = λ tells. done_by tells snap index;
+  }
+
+  -- the same of what the code reports
+  pub ready : (n bytes : ℕ) → n ≡ first + new_count ps → bytes ≡ sum_planned ps → ReadsBack shard_snap_kind (shard_snap_of (snap_with es uuid)) → ReadsBack shard_index_kind (shard_index_of (with_snap_of base (snap_with es uuid)))
+      → CanEnd s (after_writes s (last_blobs at (id_of n) (snap_with es uuid) (with_snap_of base (snap_with es uuid))) up) (result_of (record { shard = at; generation = id_of n; files = length ps; bytes = bytes }))
+  ready n bytes count sum snap index =
+      subst (λ (b : ℕ). CanEnd s (after_writes s (last_blobs at (id_of n) (snap_with es uuid) (with_snap_of base (snap_with es uuid))) up) (result_of (record { shard = at; generation = id_of n; files = length ps; bytes = b }))) (sym sum)
+      (subst (λ (g : ℕ). CanEnd s (after_writes s (last_blobs at (id_of g) (snap_with es uuid) (with_snap_of base (snap_with es uuid))) up) (result_of (record { shard = at; generation = id_of g; files = length ps; bytes = sum_planned ps }))) (sym count)
+      (can_end snap index))
+
+  up_first : up.first ≡ first
+  up_first = writes_keep (λ (t : Ticket). t.first) (λ t n w. refl) s (all_blobs at.index.number at.number size first ps stored.files) old up stored.is ∙ drawn.from
+
+  up_drawn : up.drawn ≡ new_count ps + 1
+  up_drawn = writes_keep (λ (t : Ticket). t.drawn) (λ t n w. refl) s (all_blobs at.index.number at.number size first ps stored.files) old up stored.is ∙ drawn.drawn
+
+  up_base : up.base ≡ old.base
+  up_base = writes_keep (λ (t : Ticket). t.base) (λ t n w. refl) s (all_blobs at.index.number at.number size first ps stored.files) old up stored.is
+
+  up_read : up.read ≡ old.read
+  up_read = writes_keep (λ (t : Ticket). t.read) (λ t n w. refl) s (all_blobs at.index.number at.number size first ps stored.files) old up stored.is
+
+  up_based : s.tells ≡ true → Based (formats_of s) up at.index.number at.number up.base (shard_index_of base)
+  up_based tells = subst (λ (b : Option ℕ). Based (formats_of s) up at.index.number at.number b (shard_index_of base)) (sym up_base) (based_on (formats_of s) old up at.index.number at.number old.base (shard_index_of base) up_read (drawn.based tells))
+
+  pub drew_last : (n : ℕ) → n ≡ first + new_count ps → Drew up n
+  drew_last n count = let a = up_first in let b = up_drawn in record { from = omega (arith, a, count); below = omega (arith, a, b, count) }
+
+  -- entries that are no snapshot show that the base is ahead
+  pub bad_end : (log : List Moment) (who : ℕ) → up ≡ ticket_of s log who → size ≤ 2 ^ 30 → are_snap_files [] es ≡ false → BadBase s log who
+  bad_end log who is most refused = by_base old.base refl
+    where
+      ahead : (e : CodeEntry) × Has base.files e × (first ≤ e.name.number)
+      ahead = snap_ahead base size first ps drawn.planned.files drawn.whole least most drawn.planned.named drawn.planned.short drawn.planned.each drawn.planned.rising
+          (subst (λ (l : List CodeEntry). are_snap_files [] l ≡ false) stored.entries refused)
+
+      is_ahead : IsAhead up (shard_index_of base)
+      is_ahead = let a = up_first in let b = up_drawn in let over = ahead.2 in
+          inr (entry_of ahead.0, has_file base.files ahead.0 ahead.1, omega (arith, b), omega (arith, a, over))
+
+      at_up : IsAt up at.index.number at.number
+      at_up = writes_at s (all_blobs at.index.number at.number size first ps stored.files) old up at.index.number at.number stored.is drawn.at
+
+      by_base : (b : Option ℕ) → old.base ≡ b → BadBase s log who
+      by_base None none = absurd (subst (λ (v : IndexValue). Has v.files ahead.0) (drawn.none none) ahead.1)
+      by_base (Some g) some =
+          bad_base s log who at.index.number at.number g base (subst (λ (t : Ticket). IsAt t at.index.number at.number) is at_up) (ap (λ (t : Ticket). t.base) (sym is) ∙ up_base ∙ some)
+          (subst (λ (t : Ticket). s.tells ≡ true → Based (formats_of s) t at.index.number at.number t.base (shard_index_of base)) is up_based) drawn.whole (subst (λ (t : Ticket). IsAhead t (shard_index_of base)) is is_ahead)

@@ -1,0 +1,123 @@
+-- A shard's ticket draws its ids.
+use Rattle.std.proofs.Common.{◌≡◌, inl, inr, ℕ, suc, ◌+◌, ◌≤◌, length, Bool, true, false, List, Option, Some, None, option_map, Result, Ok, Err, IfErr, OnOk, refl, sym, ap, ◌∙◌, subst, arith}
+use Rattle.esr_names.specs.declared.ids.Id.{Id}
+use Rattle.esr_names.specs.declared.blob.ShardId.{ShardId}
+use Rattle.esr_model.specs.Values.{Bytes}
+use Rattle.esr_core.specs.World.{Ticket, Shard}
+use Rattle.esr_core.specs.Ready.{IsShard}
+use Rattle.esr_core.specs.Entry.{Moment}
+use Rattle.esr_core.specs.Allowed.{Based}
+use Rattle.esr_source.specs.declared.files.ListedFile.{ListedFile}
+use Rattle.esr_source.specs.Origin.{Origin}
+use Rattle.esr_shardidx.specs.Indices.{IndexValue}
+use Rattle.esr_root.specs.Root.{Root}
+use Rattle.esr_formats.specs.Ids.{number_of}
+use Rattle.esr_formats.specs.Shards.{shard_index_of}
+use Rattle.esr_progress.specs.declared.unit.Work.{Work as CodeWork}
+use Rattle.esr_progress.specs.declared.unit.Work.TheVariants as works
+use Rattle.esr_progress.specs.declared.unit.Copied.{Copied}
+use Rattle.esr_reuse.specs.declared.reuse.Planned.{Planned}
+use Rattle.esr_desk.specs.Start.{Start, formats_of, ticket_of}
+use Rattle.esr_desk.specs.Conditions.{CanDraw}
+use Rattle.esr_desk.specs.Taken.{TookWork}
+use Rattle.esr_desk.specs.Grew.{Grew}
+use Rattle.esr_upload.specs.Surveyed.{TellsAll}
+use Rattle.esr_upload.specs.Stored.{IsAt}
+use Rattle.esr_upload.specs.Worked.{Went}
+use Rattle.esr_upload.specs.Entries.{new_count}
+use Rattle.esr_upload.specs.Published.{IsUnit, IsPlanned, HasIndex, HasDrawn}
+use Rattle.esr_upload.proofs.Planning.{count_le}
+use Rattle.esr_upload.proofs.Modelled.{as_many}
+use Rattle.esr_upload.proofs.Faults.{read_at}
+
+tells_some : (told : Option (List (Bytes × Bytes))) (x files : List (Bytes × Bytes)) → told ≡ Some x → TellsAll told files → files ≡ x
+tells_some None x files is tells = cc
+tells_some (Some y) x files is tells = let same : y ≡ x = cc in tells ∙ same
+
+module _ (s : Start) (told : Option (List (Bytes × Bytes))) (is_there : Option Bool) (listed : Option (List ListedFile)) (index number : ℕ) (uuid : Id) (b : Option ℕ) (base : IndexValue) (ps : List Planned) (old read : Ticket)
+    (unit : IsUnit s told is_there index number uuid.number b old) (has : HasIndex s index number uuid old read base) (planned : IsPlanned told listed base ps) (there : is_there ≡ Some false → ⊥) where
+  read_place : read.place ≡ old.place
+  read_place = ap (λ (t : Ticket). t.place) has.has_base.is
+
+  read_name : read.name ≡ old.name
+  read_name = ap (λ (t : Ticket). t.name) has.has_base.is
+
+  is_at : IsAt read index number
+  is_at = read_at s old read index number (shard_index_of base) has.has_base unit.at
+
+  told_is : s.known read.place read.name number ≡ true → told ≡ Some (s.told read.place read.name number)
+  told_is known =
+      let known_old = subst (λ (n : Bytes). s.known old.place n number ≡ true) read_name (subst (λ (p : Bytes). s.known p read.name number ≡ true) read_place known) in
+      elim (unit.tells known_old) [
+        | inl is ↦ is ∙ ap (λ (n : Bytes). Some (s.told old.place n number)) (sym read_name) ∙ ap (λ (p : Bytes). Some (s.told p read.name number)) (sym read_place)
+        | inr absent ↦ absurd (there absent)
+      ]
+
+  many : length ps ≡ length planned.files
+  many = as_many ps planned.files planned.named
+
+  most_at : (k : ℕ) → k ≡ number → s.known read.place read.name k ≡ true → new_count ps + 1 ≤ suc (length (s.told read.place read.name k))
+  most_at k same known =
+      let own = subst (λ (n : ℕ). s.known read.place read.name n ≡ true) same known in
+      let files = tells_some told (s.told read.place read.name number) planned.files (told_is own) planned.tells in
+      let len : length planned.files ≡ length (s.told read.place read.name k) = ap (λ (l : List (Bytes × Bytes)). length l) files ∙ ap (λ (n : ℕ). length (s.told read.place read.name n)) (sym same) in
+      let few = count_le ps in
+      let all = many in
+      omega (arith, few, all, len)
+
+  pub can_draw : (n : ℕ) → n ≡ new_count ps → CanDraw s read (n + 1)
+  can_draw n count = subst (λ (m : ℕ). CanDraw s read (m + 1)) (sym count) (record {
+    out = is_at.out;
+    shard = subst IsShard (sym is_at.work) tt;
+    once = ap (λ (t : Ticket). t.drawn) has.has_base.is ∙ unit.undrawn;
+    some = omega arith;
+    most = λ i k work known. most_at k (number_is i k (sym work ∙ is_at.work)) known;
+    few = let few = count_le ps in let all = many in let bound = planned.few in omega (arith, few, all, bound);
+  })
+    where
+      number_is : (i k : ℕ) → Shard i k ≡ Shard index number → k ≡ number
+      number_is i k same = cc
+
+  pub has_drawn : (first n : ℕ) (new : Ticket) → n ≡ new_count ps → new ≡ record read { first = first; drawn = n + 1 } → HasDrawn s told listed index number uuid base ps first new
+  has_drawn first n new count is = subst (λ (t : Ticket). HasDrawn s told listed index number uuid base ps first t) (sym is) (record {
+    at = record { out = is_at.out; unsettled = is_at.unsettled; work = is_at.work };
+    uuid_is = ap (λ (t : Ticket). t.uuid) has.has_base.is ∙ unit.uuid_is;
+    from = refl;
+    drawn = ap (λ (m : ℕ). m + 1) count;
+    based = λ tells. based_in read.base (has.has_base.based tells);
+    none = has.none;
+    whole = has.whole;
+    unlisted = has.unlisted;
+    planned = planned;
+    tells = told_is;
+  })
+    where
+      based_in : (o : Option ℕ) → Based (formats_of s) read index number o (shard_index_of base) → Based (formats_of s) (record read { first = first; drawn = n + 1 }) index number o (shard_index_of base)
+      based_in None based = based
+      based_in (Some g) based = based
+
+-- for a shard as it is after it was read
+pub drawn_for : (s : Start) (listed : Option (List ListedFile)) (index number : ℕ) (uuid : Id) (base : IndexValue) (ps qs : List Planned) (first : ℕ) (t : Ticket) (o q : Origin) → q ≡ o → qs ≡ ps
+    → HasDrawn s o.files listed index number uuid base ps first t → HasDrawn s q.files listed index number uuid base qs first t
+drawn_for s listed index number uuid base ps qs first t o q same list drawn =
+    subst (λ (x : Origin). HasDrawn s x.files listed index number uuid base qs first t) (sym same) (subst (λ (l : List Planned). HasDrawn s o.files listed index number uuid base l first t) (sym list) drawn)
+
+-- what a shard's unit was given
+pub took_shard : (work : CodeWork) (root : Option Root) (op : ℕ) (copy : Copied) (t : Ticket) (uuid : Id) (at : ShardId) (name place : Bytes) → work ≡ works.Shard uuid at name place → TookWork work root op copy t
+    → (t.work ≡ Shard at.index.number at.number) × (t.base ≡ option_map number_of copy.base)
+took_shard work root op copy t uuid at name place is took =
+    let took_it = subst (λ (w : CodeWork). TookWork w root op copy t) is took in
+    (ap (λ (x : Ticket). x.work) took_it.1, ap (λ (x : Ticket). x.base) took_it.1)
+
+pub drew_went : (s : Start) (old new : List Moment) (who first n : ℕ) → Grew s old new → ticket_of s new who ≡ record (ticket_of s old who) { first = first; drawn = n } → Went s old new who
+drew_went s old new who first n grew is =
+    let t = ticket_of s old who in
+    record { grew = grew; worked = record { first = first; drawn = n; noted = t.noted; wrote = t.wrote; read = t.read; is = is } }
+
+pub ok_on : {T E : Type 0} {A B : Type 0} (r : Result T E) → (A → B) → OnOk r A → OnOk r B
+ok_on (Ok x) f h = f h
+ok_on (Err e) f h = tt
+
+pub err_on : {T E : Type 0} {A B : Type 0} (r : Result T E) → (A → B) → IfErr r (λ e. A) → IfErr r (λ e. B)
+err_on (Ok x) f h = tt
+err_on (Err e) f h = f h

@@ -1,0 +1,99 @@
+-- A base that is at fault, and one that isn't.
+use Rattle.std.proofs.Common.{◌≡◌, inl, inr, ℕ, Bool, true, false, List, [], ◌∷◌, map, find, Option, Some, None, option_map, refl, sym, ap, ◌∙◌, subst}
+use Rattle.std.proofs.lemmas.Bool.{cases_Bool, eqb-true}
+use Rattle.std.specs.Option.{is_some}
+use Rattle.esr_names.specs.declared.ids.Id.{Id}
+use Rattle.esr_model.specs.Names.{ShardIndex}
+use Rattle.esr_model.specs.Values.{Has, ShardFiles, ReadsBack}
+use Rattle.esr_core.specs.World.{Ticket}
+use Rattle.esr_core.specs.Entry.{Moment}
+use Rattle.esr_core.specs.Allowed.{Based}
+use Rattle.esr_shardidx.specs.declared.entry.FileEntry.{FileEntry as CodeEntry}
+use Rattle.esr_shardidx.specs.declared.index.SnapList.{SnapList as CodeList}
+use Rattle.esr_shardidx.specs.Indices.{IndexValue, IsShardIndex, has_uuid}
+use Rattle.esr_formats.specs.Ids.{number_of}
+use Rattle.esr_formats.specs.Formats.{formats}
+use Rattle.esr_formats.specs.Shards.{entry_of, snap_list_of, shard_index_of, shard_index_kind}
+use Rattle.esr_formats.proofs.ShardTexts.{shard_index_reads_back}
+use Rattle.esr_desk.specs.Start.{Start, formats_of, ticket_of}
+use Rattle.esr_upload.specs.Base.{HasBase, IsAhead, BaseFault}
+use Rattle.esr_upload.specs.Stored.{IsAt}
+use Rattle.esr_upload.specs.Trouble.{BadBase}
+use Rattle.esr_upload.specs.Published.{HasIndex}
+
+-- ---- what is ahead
+
+pub has_list : (u : Id) (ls : List CodeList) (l : CodeList) → find (has_uuid u) ls ≡ Some l → Has (map snap_list_of ls) (snap_list_of l) × (l.uuid.number ≡ u.number)
+has_list u [] l is = cc
+has_list u (x ∷ ls) l is = elim (cases_Bool (has_uuid u x)) [
+  | inl here ↦
+      let some : ◌≡◌ {A = Option CodeList} (Some x) (Some l) = rw here at is in
+      let same : x ≡ l = cc in
+      (inl (ap snap_list_of same), subst (λ (y : CodeList). y.uuid.number ≡ u.number) same (eqb-true x.uuid.number u.number here))
+  | inr other ↦ let later = has_list u ls l (rw other at is) in (inr later.0, later.1)
+]
+
+pub list_ahead : (t : Ticket) (u : Id) (base : IndexValue) (l : CodeList) → t.uuid ≡ u.number → find (has_uuid u) base.snapshots ≡ Some l → IsAhead t (shard_index_of base)
+list_ahead t u base l own is = let has = has_list u base.snapshots l is in inl (snap_list_of l, has.0, has.1 ∙ sym own)
+
+pub has_file : (es : List CodeEntry) (e : CodeEntry) → Has es e → Has (map entry_of es) (entry_of e)
+has_file [] e has = absurd has
+has_file (x ∷ es) e (inl same) = inl (ap entry_of same)
+has_file (x ∷ es) e (inr has) = inr (has_file es e has)
+
+-- ---- the fault
+
+read_fault : (s : Start) (log : List Moment) (who index number g : ℕ) (value : ShardFiles) → Based (formats_of s) (ticket_of s log who) index number (Some g) value → IsAhead (ticket_of s log who) value → BaseFault s log who (ShardIndex index number g)
+unfolding formats
+read_fault s log who index number g value based ahead = inr (based.0, λ tells. based.1, inr (value, based.2, ahead))
+
+text_fault : (s : Start) (log : List Moment) (who index number g : ℕ) (value : ShardFiles) → s.tells ≡ false → ReadsBack shard_index_kind value → IsAhead (ticket_of s log who) value → BaseFault s log who (ShardIndex index number g)
+text_fault s log who index number g value untold back ahead = inr (shard_index_kind.text value, λ tells. absurd (contra s.tells tells untold), inr (value, back, ahead))
+  where
+    contra : (b : Bool) → b ≡ true → b ≡ false → ⊥
+    contra b x y = cc (x, y)
+
+pub bad_base : (s : Start) (log : List Moment) (who index number g : ℕ) (base : IndexValue) → IsAt (ticket_of s log who) index number → (ticket_of s log who).base ≡ Some g
+    → (s.tells ≡ true → Based (formats_of s) (ticket_of s log who) index number (ticket_of s log who).base (shard_index_of base)) → IsShardIndex base → IsAhead (ticket_of s log who) (shard_index_of base) → BadBase s log who
+bad_base s log who index number g base at is based whole ahead = record {
+  index = index;
+  number = number;
+  base = g;
+  work = at.work;
+  base_is = is;
+  fault = elim (cases_Bool s.tells) [
+    | inl tells ↦ read_fault s log who index number g (shard_index_of base) (subst (λ (b : Option ℕ). Based (formats_of s) (ticket_of s log who) index number b (shard_index_of base)) is (based tells)) ahead
+    | inr untold ↦ text_fault s log who index number g (shard_index_of base) untold (shard_index_reads_back base whole) ahead
+  ];
+}
+
+-- ---- no base
+
+empty_based : (s : Start) (t : Ticket) (index number : ℕ) (b : Option ℕ) (base : IndexValue) → b ≡ None → base ≡ record { files = []; snapshots = [] } → Based (formats_of s) t index number b (shard_index_of base)
+empty_based s t index number b base none empty = subst (λ (o : Option ℕ). Based (formats_of s) t index number o (shard_index_of base)) (sym none) (ap shard_index_of empty)
+
+empty_whole : (base : IndexValue) → base ≡ record { files = []; snapshots = [] } → IsShardIndex base
+empty_whole base empty = subst IsShardIndex (sym empty) (record { entries = tt; rises = tt; lists = tt; named = tt })
+
+pub no_index : (s : Start) (index number : ℕ) (u : Id) (t : Ticket) (base : IndexValue) → t.base ≡ None → base ≡ record { files = []; snapshots = [] } → HasIndex s index number u t t base
+no_index s index number u t base none empty = record {
+  has_base = record { read = t.read; is = refl; based = λ tells. empty_based s t index number t.base base none empty };
+  none = λ x. empty;
+  whole = empty_whole base empty;
+  unlisted = ap (λ (v : IndexValue). find (has_uuid u) v.snapshots) empty;
+}
+
+pub some_from : (o : Option Id) → is_some o ≡ true → (b : Id) × (o ≡ Some b)
+some_from None h = cc
+some_from (Some b) h = (b, refl)
+
+pub none_from : (o : Option Id) → is_some o ≡ false → option_map number_of o ≡ None
+none_from None h = refl
+none_from (Some b) h = cc
+
+pub read_at : (s : Start) (old new : Ticket) (index number : ℕ) (value : ShardFiles) → HasBase s old new index number value → IsAt old index number → IsAt new index number
+read_at s old new index number value has at = record {
+  out = ap (λ (t : Ticket). t.out) has.is ∙ at.out;
+  unsettled = ap (λ (t : Ticket). t.settled) has.is ∙ at.unsettled;
+  work = ap (λ (t : Ticket). t.work) has.is ∙ at.work;
+}

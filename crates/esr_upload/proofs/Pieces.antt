@@ -1,0 +1,244 @@
+-- The parts of a file, one after another.
+use Rattle.std.proofs.Common.{◌≡◌, inl, inr, ℕ, zero, suc, ◌+◌, ◌-◌, ◌*◌, ◌/◌, ◌%◌, ◌<◌, ◌≤◌, ◌^◌, min, nat_le, Bool, true, false, List, [], ◌∷◌, ◌++◌, length, take, drop, Option, Some, None, refl, sym, ap, ◌∙◌, subst, arith, add-one, append_assoc, length-append, if◌then◌else◌}
+use Rattle.std.proofs.lemmas.Bool.{cases_Bool, leb-true, leb-false}
+use Rattle.std.proofs.lemmas.List.{length-drop, take_all, take-append-le, drop-append-le}
+use Rattle.std.proofs.Math.Nat.{le-mul_of_pos_right}
+use Rattle.std.specs.Io.KnownBytes.{Consumes, IsAtEnd}
+use Rattle.esr_names.specs.declared.blob.ShardId.{ShardId}
+use Rattle.esr_names.specs.declared.blob.BlobName.{BlobName as CodeName}
+use Rattle.esr_names.specs.declared.blob.BlobName.TheVariants as code
+use Rattle.esr_names.specs.Layout.{IsName}
+use Rattle.esr_model.specs.Names.{BlobName, File, Part}
+use Rattle.esr_model.specs.Values.{Bytes}
+use Rattle.esr_model.specs.Parts.{part_count, parts_from}
+use Rattle.esr_model.specs.Uploads.{pieces, pairs, file_blobs}
+use Rattle.esr_core.specs.World.{Ticket, Work, Shard, Swap, swap_of}
+use Rattle.esr_core.specs.Ready.{IsShard}
+use Rattle.esr_core.specs.After.{committing}
+use Rattle.esr_core.specs.Texts.{IsMetaOf}
+use Rattle.esr_hash.specs.declared.hasher.Hasher.{Hasher}
+use Rattle.esr_hash.specs.Fed.{HasFed}
+use Rattle.esr_shardidx.specs.declared.entry.FileEntry.{FileEntry as CodeEntry}
+use Rattle.esr_shardidx.specs.Parts.{part_name, part_count as code_count}
+use Rattle.esr_formats.specs.Names.{name_of}
+use Rattle.esr_formats.specs.Shards.{entry_of}
+use Rattle.esr_desk.specs.Start.{Start, formats_of, told_bytes}
+use Rattle.esr_desk.specs.Taken.{after_writes}
+use Rattle.esr_upload.specs.Stored.{MayStore}
+use Rattle.esr_upload.specs.Pieces.{CanStore, blob_name, cut, PutParts}
+
+-- ---- which parts may be stored
+
+no_file_meta : (i k x u : ℕ) → IsMetaOf u (File i k x) → ⊥
+no_file_meta i k x u (inl is) = cc
+no_file_meta i k x u (inr (inl is)) = cc
+no_file_meta i k x u (inr (inr is)) = let e = is.1 in cc
+
+no_part_meta : (i k x p u : ℕ) → IsMetaOf u (Part i k x p) → ⊥
+no_part_meta i k x p u (inl is) = cc
+no_part_meta i k x p u (inr (inl is)) = cc
+no_part_meta i k x p u (inr (inr is)) = let e = is.1 in cc
+
+-- the unit of a shard swaps nothing
+no_swap : (s : Start) (t : Ticket) (i k : ℕ) → t.work ≡ Shard i k → ◌≡◌ {A = Option Swap} (swap_of (formats_of s) t.work t.root) None
+no_swap s t i k is = subst (λ (w : Work). ◌≡◌ {A = Option Swap} (swap_of (formats_of s) w t.root) None) (sym is) refl
+
+of_shard : (t : Ticket) (i k : ℕ) → t.work ≡ Shard i k → IsShard t.work
+of_shard t i k is = subst IsShard (sym is) tt
+
+whole_can : (s : Start) (t : Ticket) (at : ShardId) (e : CodeEntry) → MayStore t at.index.number at.number e.name.number → at.number < 1024 → CanStore s t (code.Whole at e.name)
+unfolding IsName
+whole_can s t at e may few = record {
+  layout = few;
+  own = λ meta. no_file_meta at.index.number at.number e.name.number meta.0 meta.1;
+  may = λ bytes. record {
+    out = may.out;
+    unsettled = may.unsettled;
+    may = inr (no_swap s t at.index.number at.number may.work, (may.work, may.drew), of_shard t at.index.number at.number may.work);
+    stored = λ is. cc;
+  };
+}
+
+part_can : (s : Start) (t : Ticket) (at : ShardId) (e : CodeEntry) (k : ℕ) → MayStore t at.index.number at.number e.name.number → at.number < 1024 → k < 2 ^ 61 → CanStore s t (code.Part at e.name k)
+unfolding IsName
+part_can s t at e k may few low = record {
+  layout = (few, low);
+  own = λ meta. no_part_meta at.index.number at.number e.name.number k meta.0 meta.1;
+  may = λ bytes. record {
+    out = may.out;
+    unsettled = may.unsettled;
+    may = inr (no_swap s t at.index.number at.number may.work, (may.work, may.drew), of_shard t at.index.number at.number may.work);
+    stored = λ is. cc;
+  };
+}
+
+can_store : (s : Start) (t : Ticket) (at : ShardId) (e : CodeEntry) (k : ℕ) → MayStore t at.index.number at.number e.name.number → at.number < 1024 → k < 2 ^ 61 → CanStore s t (part_name at e k)
+can_store s t at e k may few low =
+    elim (nat_le e.print.len e.part_size) as (λ b. CanStore s t (if b then code.Whole at e.name else code.Part at e.name k)) [
+      | true ↦ whole_can s t at e may few
+      | false ↦ part_can s t at e k may few low
+    ]
+
+may_committing : (name : BlobName) (o : Option Bytes) (t : Ticket) (i n id : ℕ) → MayStore t i n id → MayStore (committing name o t) i n id
+may_committing name None t i n id may = record { out = may.out; unsettled = may.unsettled; work = may.work; drew = record { from = may.drew.from; below = may.drew.below } }
+may_committing name (Some bytes) t i n id may = record { out = may.out; unsettled = may.unsettled; work = may.work; drew = record { from = may.drew.from; below = may.drew.below } }
+
+may_after : (s : Start) (ws : List (BlobName × Bytes)) (t : Ticket) (i n id : ℕ) → MayStore t i n id → MayStore (after_writes s ws t) i n id
+may_after s [] t i n id may = may
+may_after s (w ∷ ws) t i n id may = may_after s ws (committing w.0 (told_bytes s w.1) t) i n id (may_committing w.0 (told_bytes s w.1) t i n id may)
+
+-- the next part may be stored
+pub can_store_next : (s : Start) (old now : Ticket) (ws : List (BlobName × Bytes)) (at : ShardId) (e : CodeEntry) (k : ℕ) (name : CodeName) → MayStore old at.index.number at.number e.name.number → at.number < 1024 → 1 ≤ e.part_size → k * e.part_size < 2 ^ 61
+    → now ≡ after_writes s ws old → name ≡ part_name at e k → CanStore s now name
+can_store_next s old now ws at e k name may few some low is named =
+    let less : k ≤ k * e.part_size = le-mul_of_pos_right k some in
+    let number : k < 2 ^ 61 = omega (arith, less, low) in
+    let here = can_store s (after_writes s ws old) at e k (may_after s ws old at.index.number at.number e.name.number may) few number in
+    let own = subst (λ (t : Ticket). CanStore s t (part_name at e k)) (sym is) here in
+    subst (λ (n : CodeName). CanStore s now n) (sym named) own
+
+-- ---- one part more
+
+pub cut_none : (s : Start) (name : ℕ → BlobName) (size : ℕ) (t : Ticket) → t ≡ after_writes s (cut name size 0 0 []) t
+unfolding cut
+cut_none s name size t = refl
+
+empty : (bytes : Bytes) → length bytes ≡ 0 → bytes ≡ []
+empty [] h = refl
+empty (b ∷ bytes) h = absurd (omega (arith, h))
+
+cut_more : (name : ℕ → BlobName) (size j k : ℕ) (bytes piece : Bytes) → length bytes ≡ k * size → length piece ≤ size → cut name size j (suc k) (bytes ++ piece) ≡ cut name size j k bytes ++ (name (j + k), piece) ∷ []
+unfolding cut
+cut_more name size j zero bytes piece len le =
+    let none : bytes ≡ [] = empty bytes (omega (arith, len)) in
+    let number : j + 0 ≡ j = omega arith in
+    rw (none, number) (ap (λ (x : Bytes). (name j, x) ∷ []) (take_all size piece le))
+cut_more name size j (suc k) bytes piece len le =
+    let sum : suc k * size ≡ size + k * size = omega arith in
+    let fits : size ≤ length bytes = omega (arith, len, sum) in
+    let rest : length (drop size bytes) ≡ k * size = omega (arith, length-drop size bytes, len, sum) in
+    let front = take-append-le size bytes piece fits in
+    let back = drop-append-le size bytes piece fits in
+    let number : suc j + k ≡ j + suc k = omega arith in
+    let more : cut name size (suc j) (suc k) (drop size bytes ++ piece) ≡ cut name size (suc j) k (drop size bytes) ++ (name (j + suc k), piece) ∷ [] = rw number at (cut_more name size (suc j) k (drop size bytes) piece rest le) in
+    rw (front, back) (ap (λ (ws : List (BlobName × Bytes)). (name j, take size bytes) ∷ ws) more)
+
+writes_on : (s : Start) (ws us : List (BlobName × Bytes)) (t : Ticket) → after_writes s (ws ++ us) t ≡ after_writes s us (after_writes s ws t)
+writes_on s [] us t = refl
+writes_on s (w ∷ ws) us t = writes_on s ws us (committing w.0 (told_bytes s w.1) t)
+
+pub cut_put : (s : Start) (at : ShardId) (e : CodeEntry) (k : ℕ) (bytes piece : Bytes) (name : CodeName) (a b c : Ticket) → length bytes ≡ k * e.part_size → length piece ≤ e.part_size
+    → b ≡ after_writes s (cut (blob_name at e) e.part_size 0 k bytes) a → c ≡ committing (name_of name) (told_bytes s piece) b → name ≡ part_name at e k
+    → c ≡ after_writes s (cut (blob_name at e) e.part_size 0 (k + 1) (bytes ++ piece)) a
+cut_put s at e k bytes piece name a b c len le before now named =
+    let front : List (BlobName × Bytes) = cut (blob_name at e) e.part_size 0 k bytes in
+    let more : cut (blob_name at e) e.part_size 0 (k + 1) (bytes ++ piece) ≡ front ++ (blob_name at e k, piece) ∷ [] =
+    let start : 0 + k ≡ k = omega arith in
+    rw add-one (rw start at (cut_more (blob_name at e) e.part_size 0 k bytes piece len le)) in
+    now
+    ∙ ap (λ (n : CodeName). committing (name_of n) (told_bytes s piece) b) named
+    ∙ ap (λ (t : Ticket). committing (blob_name at e k) (told_bytes s piece) t) before
+    ∙ sym (writes_on s front ((blob_name at e k, piece) ∷ []) a)
+    ∙ ap (λ (ws : List (BlobName × Bytes)). after_writes s ws a) (sym more)
+
+-- ---- all parts
+
+pairs_cut : (i n x size j k : ℕ) (bytes : Bytes) → length bytes ≤ suc k * size → pairs (parts_from i n x j (suc k)) (pieces size (suc k) bytes) ≡ cut (λ p. Part i n x p) size j (suc k) bytes
+unfolding cut
+pairs_cut i n x size j zero bytes le =
+    let fits : length bytes ≤ size = omega (arith, le) in
+    ap (λ (b : Bytes). (Part i n x j, b) ∷ []) (sym (take_all size bytes fits))
+pairs_cut i n x size j (suc k) bytes le =
+    let sum : suc (suc k) * size ≡ size + suc k * size = omega arith in
+    let rest : length (drop size bytes) ≤ suc k * size = omega (arith, length-drop size bytes, le, sum) in
+    ap (λ (ws : List (BlobName × Bytes)). (Part i n x j, take size bytes) ∷ ws) (pairs_cut i n x size (suc j) k (drop size bytes) rest)
+
+-- a file of more parts than one
+quotient : (len size q r : ℕ) → size * q + r ≡ len + (size - 1) → r < size → size < len → (m : ℕ) × (q ≡ suc m) × (len ≤ suc m * size)
+quotient len size zero r is small long = absurd (omega arith)
+quotient len size (suc m) r is small long = (m, refl, omega arith)
+
+several : (len size : ℕ) → 1 ≤ size → size < len → (m : ℕ) × ((len + (size - 1)) / size ≡ suc m) × (len ≤ suc m * size)
+several len size some long =
+    let small : (len + (size - 1)) % size < size = omega (arith, some) in
+    let all : size * ((len + (size - 1)) / size) + (len + (size - 1)) % size ≡ len + (size - 1) = omega (arith, some) in
+    quotient len size ((len + (size - 1)) / size) ((len + (size - 1)) % size) all small long
+
+-- the blobs of a file, by whether it fits into one
+abbrev AreCut : ShardId → CodeEntry → Bytes → ℕ → Bool → Type 0
+AreCut at e bytes q b =
+    pairs (if b then File at.index.number at.number e.name.number ∷ [] else parts_from at.index.number at.number e.name.number 0 (if b then 1 else q)) (pieces e.part_size (if b then 1 else q) bytes)
+    ≡ cut (λ k. name_of (if b then code.Whole at e.name else code.Part at e.name k)) e.part_size 0 (if b then 1 else q) bytes
+
+one_cut : (at : ShardId) (e : CodeEntry) (bytes : Bytes) (q : ℕ) → length bytes ≤ e.part_size → AreCut at e bytes q true
+unfolding cut
+one_cut at e bytes q short = ap (λ (b : Bytes). (File at.index.number at.number e.name.number, b) ∷ []) (sym (take_all e.part_size bytes short))
+
+more_cut : (at : ShardId) (e : CodeEntry) (bytes : Bytes) (q m : ℕ) → q ≡ suc m → length bytes ≤ suc m * e.part_size → AreCut at e bytes q false
+more_cut at e bytes q m is within = subst (λ (n : ℕ). AreCut at e bytes n false) (sym is) (pairs_cut at.index.number at.number e.name.number e.part_size 0 m bytes within)
+
+blobs_cut : (at : ShardId) (e : CodeEntry) (bytes : Bytes) → 1 ≤ e.part_size → length bytes ≡ e.print.len
+    → file_blobs at.index.number at.number (entry_of e) bytes ≡ cut (blob_name at e) e.part_size 0 (part_count e.print.len e.part_size) bytes
+blobs_cut at e bytes some len = elim (cases_Bool (nat_le e.print.len e.part_size)) [
+  | inl fits ↦
+      let short : length bytes ≤ e.part_size = omega (arith, len, leb-true e.print.len e.part_size fits) in
+      subst (AreCut at e bytes ((e.print.len + (e.part_size - 1)) / e.part_size)) (sym fits) (one_cut at e bytes ((e.print.len + (e.part_size - 1)) / e.part_size) short)
+  | inr longer ↦
+      let m = several e.print.len e.part_size some (leb-false e.print.len e.part_size longer) in
+      let within : length bytes ≤ suc m.0 * e.part_size = omega (arith, len, m.2) in
+      subst (AreCut at e bytes ((e.print.len + (e.part_size - 1)) / e.part_size)) (sym longer) (more_cut at e bytes ((e.print.len + (e.part_size - 1)) / e.part_size) m.0 m.1 within)
+]
+
+covers : (len size : ℕ) → 1 ≤ size → len ≤ part_count len size * size
+covers len size some = elim (cases_Bool (nat_le len size)) [
+  | inl fits ↦ let short : len ≤ size = leb-true len size fits in rw fits (omega (arith, short))
+  | inr longer ↦ let m = several len size some (leb-false len size longer) in rw (longer, m.1) m.2
+]
+
+-- both count alike
+same_count : (len size : ℕ) → 1 ≤ size → code_count len size ≡ part_count len size
+same_count len size some =
+    let sum : len + size - 1 ≡ len + (size - 1) = omega (arith, some) in
+    ap (λ (n : ℕ). if nat_le len size then 1 else n / size) sum
+
+pub all_put : (s : Start) (left_old left_new : Option Bytes) (hasher : Hasher) (at : ShardId) (e : CodeEntry) (old new : Ticket) (n end : ℕ) (bytes : Bytes) → 1 ≤ e.part_size → n ≡ end → end ≡ code_count e.print.len e.part_size
+    → Consumes left_old left_new bytes → HasFed hasher bytes → length bytes ≡ min (n * e.part_size) e.print.len → new ≡ after_writes s (cut (blob_name at e) e.part_size 0 n bytes) old
+    → PutParts s left_old left_new hasher at e old new
+all_put s left_old left_new hasher at e old new n end bytes some last count took fed len is =
+    let number : n ≡ part_count e.print.len e.part_size = last ∙ count ∙ same_count e.print.len e.part_size some in
+    let enough : e.print.len ≤ n * e.part_size = rw number (covers e.print.len e.part_size some) in
+    let all : length bytes ≡ e.print.len = omega (arith, len, enough) in
+    record {
+      bytes = bytes;
+      took = took;
+      fed = fed;
+      ends = inr all;
+      is = λ whole.
+          is
+          ∙ ap (λ (k : ℕ). after_writes s (cut (blob_name at e) e.part_size 0 k bytes) old) number
+          ∙ ap (λ (ws : List (BlobName × Bytes)). after_writes s ws old) (sym (blobs_cut at e bytes some whole));
+    }
+
+pub consumes_more : (a b c : Option Bytes) (xs ys : Bytes) → Consumes a b xs → Consumes b c ys → Consumes a c (xs ++ ys)
+consumes_more None b c xs ys h k = tt
+consumes_more (Some a) None c xs ys h k = absurd h
+consumes_more (Some a) (Some b) None xs ys h k = absurd k
+consumes_more (Some a) (Some b) (Some c) xs ys h k = h ∙ ap (λ (l : Bytes). xs ++ l) k ∙ sym (append_assoc xs ys c)
+
+pub consumes_none : (a : Option Bytes) → Consumes a a []
+consumes_none None = tt
+consumes_none (Some a) = refl
+
+-- the file was at its end before its entry's length
+pub short_put : (s : Start) (left_old left_mid left_new : Option Bytes) (hasher : Hasher) (at : ShardId) (e : CodeEntry) (old new : Ticket) (bytes piece : Bytes)
+    → Consumes left_old left_mid bytes → Consumes left_mid left_new piece → HasFed hasher (bytes ++ piece) → IsAtEnd left_new → length bytes + length piece < e.print.len
+    → PutParts s left_old left_new hasher at e old new
+short_put s left_old left_mid left_new hasher at e old new bytes piece took more fed ended less =
+    let sum : length (bytes ++ piece) ≡ length bytes + length piece = length-append bytes piece in
+    record {
+      bytes = bytes ++ piece;
+      took = consumes_more left_old left_mid left_new bytes piece took more;
+      fed = fed;
+      ends = inl ended;
+      is = λ whole. absurd (omega (arith, whole, sum, less));
+    }

@@ -1,0 +1,100 @@
+-- The base of a shard's ticket is fetched and read.
+use Rattle.std.proofs.Common.{◌≡◌, ◌<◌, inl, inr, ℕ, Bool, true, false, List, [], ◌∷◌, Option, Some, None, refl, sym, ap, ◌∙◌, subst}
+use Rattle.std.specs.Prelude.{if◌then◌else◌}
+use Rattle.esr_names.specs.declared.ids.Id.{Id}
+use Rattle.esr_names.specs.declared.blob.ShardId.{ShardId}
+use Rattle.esr_names.specs.declared.blob.BlobName.TheVariants as names
+use Rattle.esr_names.specs.Layout.{IsName}
+use Rattle.esr_model.specs.Names.{BlobName, ShardIndex}
+use Rattle.esr_model.specs.Values.{Bytes, Has, Kind, ShardFiles}
+use Rattle.esr_core.specs.World.{Ticket}
+use Rattle.esr_core.specs.Entry.{FetchStep, Moment}
+use Rattle.esr_core.specs.After.{fetching}
+use Rattle.esr_core.specs.Allowed.{Based}
+use Rattle.esr_json.specs.declared.refusal.Reason.{Reason}
+use Rattle.esr_json.specs.declared.refusal.ReadRefusal.{ReadRefusal}
+use Rattle.esr_json.specs.declared.refusal.ReadRefusal.TheVariants as refusals
+use Rattle.esr_formats.specs.Kinds.{IsUnread}
+use Rattle.esr_formats.specs.Formats.{formats}
+use Rattle.esr_formats.specs.Shards.{shard_index_kind}
+use Rattle.esr_desk.specs.Start.{Start, formats_of, ticket_of, told_bytes}
+use Rattle.esr_desk.specs.Outcome.{Stepped, fetch_reply}
+use Rattle.esr_desk.specs.Taken.{fetched_by}
+use Rattle.esr_upload.specs.Base.{HasBase}
+use Rattle.esr_upload.specs.Stored.{IsAt}
+use Rattle.esr_upload.specs.Trouble.{BadBase}
+use Rattle.esr_upload.specs.Worked.{Worked}
+use Rattle.esr_upload.proofs.Going.{worked_none, grew_none}
+
+-- ---- what a fetch makes of the ticket
+
+fetching_worked : (t : Ticket) (name : BlobName) (left : Option Bytes) → Worked t (fetching name left t)
+fetching_worked t name None = worked_none t
+fetching_worked t name (Some bytes) = record { first = t.first; drawn = t.drawn; noted = t.noted; wrote = t.wrote; read = (name, bytes) ∷ t.read; is = refl }
+
+-- the name of an index is one of the layout
+pub index_name : (shard : ShardId) (base : Id) → shard.number < 1024 → IsName (names.ShardIndex shard base)
+unfolding IsName
+index_name shard base few = few
+
+-- ---- the base is at fault
+
+-- it was absent
+pub absent_base : {F : Type 0} (left : F → Option Bytes) (o : Option F) (s : Start) (old new : List Moment) (who index number base : ℕ) → o ≡ None → IsAt (ticket_of s old who) index number → (ticket_of s old who).base ≡ Some base
+    → Stepped s old new who (FetchStep (ShardIndex index number base)) (fetch_reply o) → ticket_of s new who ≡ fetched_by left (ShardIndex index number base) o (ticket_of s old who) → BadBase s new who
+absent_base left None s old new who index number base none at is step same = record {
+  index = index;
+  number = number;
+  base = base;
+  work = ap (λ (t : Ticket). t.work) same ∙ at.work;
+  base_is = ap (λ (t : Ticket). t.base) same ∙ is;
+  fault = inl (new, record { front = step.front; image = step.image; is = step.is }, grew_none s new);
+}
+absent_base left (Some f) s old new who index number base none at is step same = absurd cc
+
+told_has : (tells : Bool) (old new : Ticket) (name : BlobName) (b : Bytes) → new ≡ fetching name (if tells then Some b else None) old → tells ≡ true → Has new.read (name, b)
+told_has true old new name b is yes_is = subst (λ (t : Ticket). Has t.read (name, b)) (sym is) (inl refl)
+told_has false old new name b is yes_is = absurd cc
+
+-- its bytes don't read
+pub damaged_base : (s : Start) (old new : List Moment) (who index number base : ℕ) (b : Bytes) → IsAt (ticket_of s old who) index number → (ticket_of s old who).base ≡ Some base
+    → ticket_of s new who ≡ fetching (ShardIndex index number base) (told_bytes s b) (ticket_of s old who) → shard_index_kind.read b ≡ None → BadBase s new who
+damaged_base s old new who index number base b at is fetched none =
+    let worked = fetching_worked (ticket_of s old who) (ShardIndex index number base) (told_bytes s b) in
+    let same = fetched ∙ worked.is in record {
+      index = index;
+      number = number;
+      base = base;
+      work = ap (λ (t : Ticket). t.work) same ∙ at.work;
+      base_is = ap (λ (t : Ticket). t.base) same ∙ is;
+      fault = inr (b, told_has s.tells (ticket_of s old who) (ticket_of s new who) (ShardIndex index number base) b fetched, inl none);
+    }
+
+-- ---- the base is read
+
+fetching_base : (t : Ticket) (name : BlobName) (left : Option Bytes) → (read : List (BlobName × Bytes)) × (fetching name left t ≡ record t { read = read })
+fetching_base t name None = (t.read, refl)
+fetching_base t name (Some bytes) = ((name, bytes) ∷ t.read, refl)
+
+pub has_base : (s : Start) (old new : Ticket) (index number base : ℕ) (b : Bytes) (value : ShardFiles) → old.base ≡ Some base → new ≡ fetching (ShardIndex index number base) (told_bytes s b) old
+    → shard_index_kind.read b ≡ Some value → HasBase s old new index number value
+unfolding formats
+has_base s old new index number base b value is fetched reads =
+    let more = fetching_base old (ShardIndex index number base) (told_bytes s b) in
+    let same = fetched ∙ more.1 in record {
+      read = more.0;
+      is = same;
+      based = λ tells. subst (λ (o : Option ℕ). Based (formats_of s) new index number o value) (sym (ap (λ (t : Ticket). t.base) same ∙ is)) (b, told_has s.tells old new (ShardIndex index number base) b fetched tells, reads);
+    }
+
+-- there is none
+pub has_no_base : (s : Start) (t : Ticket) (index number : ℕ) → t.base ≡ None → HasBase s t t index number (record { files = []; snapshots = [] })
+has_no_base s t index number is = record {
+  read = t.read;
+  is = refl;
+  based = λ tells. subst (λ (o : Option ℕ). Based (formats_of s) t index number o (record { files = []; snapshots = [] })) (sym is) refl;
+}
+
+-- bytes that were refused as damaged are no index
+pub unread : {V : Type 0} (kind : Kind V) (bytes b : Bytes) (e : ReadRefusal) (why : Reason) → bytes ≡ b → e ≡ refusals.Damaged why → IsUnread kind bytes e → kind.read b ≡ None
+unread kind bytes b e why same is no_value = subst (λ (x : Bytes). kind.read x ≡ None) same (subst (λ (r : ReadRefusal). IsUnread kind bytes r) is no_value)

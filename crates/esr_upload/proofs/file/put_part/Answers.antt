@@ -1,0 +1,93 @@
+use Rattle.std.proofs.Common.{Bool, [], Err, inl, ap, subst}
+use Rattle.esr_core.specs.Entry.{BeginStep, CommitStep, WasBegun}
+use Rattle.esr_formats.specs.Names.{name_of}
+use Rattle.esr_parts.specs.Reads.{Copied, is_of_stage}
+use Rattle.esr_parts.specs.declared.copy.CopyError.{CopyError}
+use Rattle.esr_desk.specs.Refusals.{told_refusal}
+use Rattle.esr_desk.specs.Start.{ticket_of}
+use Rattle.esr_desk.specs.Outcome.{commit_reply}
+use Rattle.esr_upload.specs.declared.trouble.Trouble.TheVariants.{Step}
+use Rattle.esr_upload.specs.Trouble.{Shown}
+use Rattle.esr_upload.proofs.FileParts.{refusing_last, err_passed, refused_grew, made_grew, has_fault, begun_is, stage_holds, can_commit, went_same, went_refused, not_there, part_put, went_put}
+use Rattle.esr_upload.proofs.file.put_part.Goals as goal
+
+pub begin-requires-clause-may : goal.begin-requires-clause-may
+begin-requires-clause-may g c = inl ([], c.requires.may.may [])
+
+pub returns-in_err-named-clause-trouble : goal.returns-in_err-named-clause-trouble
+returns-in_err-named-clause-trouble g c =
+    let s = g.Q.Desk.start in
+    let refusal = c.in_err-named.field-0.0 in
+    let log = g.Q.Desk.seen c.begin.new.self in
+    err_passed c.from_residual.result (Shown g.Q.Stage.Counted.faults g.Q.Fetch.Counted.faults (g.S.Counted.faults c.args.shard.now) (g.S.Shard.origin c.args.shard.now).files s log c.args.ticket) (Step refusal)
+    c.from_residual.ensures.1 (refusing_last s (g.Q.Desk.seen c.args.desk.now) log c.args.ticket (BeginStep (name_of c.args.name)) (told_refusal refusal) c.in_err-named.ensures.step)
+
+pub returns-in_err-named-clause-went : goal.returns-in_err-named-clause-went
+returns-in_err-named-clause-went g c =
+    let s = g.Q.Desk.start in
+    let old = g.Q.Desk.seen c.args.desk.now in
+    let new = g.Q.Desk.seen c.begin.new.self in
+    went_same s old new c.args.ticket (refused_grew s old new c.args.ticket (BeginStep (name_of c.args.name)) c.in_err-named.field-0.0 c.in_err-named.ensures.step)
+    (begun_is s c.args.name c.begin.result (ticket_of s old c.args.ticket) (ticket_of s new c.args.ticket) c.requires.may c.begin.ensures.own)
+
+pub returns-in-Err-Stage-clause-trouble : goal.returns-in-Err-Stage-clause-trouble
+returns-in-Err-Stage-clause-trouble g c = (
+  c.copy_part.new.stage,
+  has_fault (g.Q.Stage.Counted.faults c.in_ok-named.named.stage) (g.Q.Stage.Counted.faults c.copy_part.new.stage) (is_of_stage {T = Bool} (Err c.in-Err-Stage.field-0)) c.in-Err-Stage.ensures.stage
+      (ap (λ (e : CopyError). is_of_stage {T = Bool} (Err e)) c.in-Err-Stage.field-0-is),
+)
+
+pub commit-requires-clause-may : goal.commit-requires-clause-may
+commit-requires-clause-may g c =
+    let s = g.Q.Desk.start in
+    let copied = c.in-Ok-true.ensures.copied in
+    let begun = c.in_ok-named.ensures in (
+      copied.piece,
+      stage_holds s (g.Q.Stage.Stage.contents c.in_ok-named.named.stage) (g.Q.Stage.Stage.contents c.copy_part.new.stage) copied.piece begun.contents copied.stage_is,
+      can_commit s (ticket_of s (g.Q.Desk.seen c.args.desk.now) c.args.ticket) (ticket_of s (g.Q.Desk.seen c.begin.new.self) c.args.ticket) c.args.name c.in_ok-named.named.name copied.piece c.requires.may begun.own begun.name,
+    )
+
+pub returns-clause-put : goal.returns-clause-put
+returns-clause-put g c =
+    let s = g.Q.Desk.start in
+    let begun = c.in_ok-named.ensures in
+    let committed = c.in_ok-commit.ensures in
+    part_put s (g.S.Shard.left c.args.shard.now) (g.S.Shard.left c.copy_part.new.shard) (g.Q.Stage.Stage.contents c.in_ok-named.named.stage) (g.Q.Stage.Stage.contents c.copy_part.new.stage)
+    c.args.hasher.now c.copy_part.new.hasher (ticket_of s (g.Q.Desk.seen c.args.desk.now) c.args.ticket) (ticket_of s (g.Q.Desk.seen c.begin.new.self) c.args.ticket) (ticket_of s (g.Q.Desk.seen c.commit.new.self) c.args.ticket)
+    c.args.name c.in_ok-named.named.name c.args.size c.in_ok-commit.field-0
+    (subst (λ (full : Bool). Copied (g.S.Shard.left c.args.shard.now) (g.S.Shard.left c.copy_part.new.shard) (g.Q.Stage.Stage.contents c.in_ok-named.named.stage) (g.Q.Stage.Stage.contents c.copy_part.new.stage) c.args.hasher.now c.copy_part.new.hasher c.args.size full) c.in-Ok-true.field-0-test c.in-Ok-true.ensures.copied)
+    begun.contents begun.own begun.name
+    (not_there c.args.name c.in_ok-named.named.name c.in_ok-commit.field-0 begun.name c.requires.may.own committed.found) committed.own
+
+pub returns-clause-went : goal.returns-clause-went
+returns-clause-went g c =
+    let s = g.Q.Desk.start in
+    let old = g.Q.Desk.seen c.args.desk.now in
+    let mid = g.Q.Desk.seen c.begin.new.self in
+    let new = g.Q.Desk.seen c.commit.new.self in
+    went_put s (g.S.Shard.left c.args.shard.now) (g.S.Shard.left c.copy_part.new.shard) c.args.hasher.now c.copy_part.new.hasher old mid new c.args.ticket (name_of c.args.name) c.args.size
+    (made_grew s old mid c.args.ticket (BeginStep (name_of c.args.name)) WasBegun c.in_ok-named.ensures.step)
+    (made_grew s mid new c.args.ticket (CommitStep (name_of c.in_ok-named.named.name)) (commit_reply c.in_ok-commit.field-0) c.in_ok-commit.ensures.step)
+    (returns-clause-put g c)
+
+pub returns-in_err-commit-clause-trouble : goal.returns-in_err-commit-clause-trouble
+returns-in_err-commit-clause-trouble g c =
+    let s = g.Q.Desk.start in
+    let refusal = c.in_err-commit.field-0.0 in
+    let log = g.Q.Desk.seen c.commit.new.self in
+    err_passed c.from_residual-in_err-commit.result (Shown g.Q.Stage.Counted.faults g.Q.Fetch.Counted.faults (g.S.Counted.faults c.copy_part.new.shard) (g.S.Shard.origin c.args.shard.now).files s log c.args.ticket) (Step refusal)
+    c.from_residual-in_err-commit.ensures.1
+    (refusing_last s (g.Q.Desk.seen c.begin.new.self) log c.args.ticket (CommitStep (name_of c.in_ok-named.named.name)) (told_refusal refusal) c.in_err-commit.ensures.step)
+
+pub returns-in_err-commit-clause-went : goal.returns-in_err-commit-clause-went
+returns-in_err-commit-clause-went g c =
+    let s = g.Q.Desk.start in
+    let old = g.Q.Desk.seen c.args.desk.now in
+    let mid = g.Q.Desk.seen c.begin.new.self in
+    let new = g.Q.Desk.seen c.commit.new.self in
+    let begun = c.in_ok-named.ensures in
+    let refused = c.in_err-commit.ensures in
+    went_refused s old mid new c.args.ticket
+    (made_grew s old mid c.args.ticket (BeginStep (name_of c.args.name)) WasBegun begun.step)
+    (refused_grew s mid new c.args.ticket (CommitStep (name_of c.in_ok-named.named.name)) c.in_err-commit.field-0.0 refused.step)
+    begun.own refused.kept

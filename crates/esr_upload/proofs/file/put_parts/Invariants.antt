@@ -1,0 +1,25 @@
+use Rattle.std.proofs.Common.{◌≡◌, ◌*◌, ◌≤◌, ℕ, List, length, min}
+use Rattle.std.specs.Io.KnownBytes.{Consumes}
+use Rattle.esr_hash.specs.Fed.{HasFed}
+use Rattle.esr_desk.specs.Start.{ticket_of}
+use Rattle.esr_desk.specs.Taken.{after_writes}
+use Rattle.esr_upload.specs.Pieces.{blob_name, cut}
+use Rattle.esr_upload.specs.Worked.{Went}
+use Rattle.esr_upload.proofs.file.put_parts.Given as goal
+
+abbrev pub invariant-loop-number : goal.invariant-loop-number
+invariant-loop-number g l =
+    record {
+      holds : g.Q.Desk.holds l.desk l.ticket;
+      listed : g.S.Shard.listed l.shard ≡ g.S.Shard.listed l.fn.shard;
+      origin : g.S.Shard.origin l.shard ≡ g.S.Shard.origin l.fn.shard;
+      buffer : length l.buf ≡ length l.fn.buf;
+      later : g.S.Counted.faults l.fn.shard ≤ g.S.Counted.faults l.shard;
+      bytes : List ℕ;
+      took : Consumes (g.S.Shard.left l.fn.shard) (g.S.Shard.left l.shard) bytes;
+      fed : HasFed l.hasher bytes;
+      count : length bytes ≡ min (l.number * l.entry.part_size) l.entry.print.len;
+      is : ticket_of g.Q.Desk.start (g.Q.Desk.seen l.desk) l.ticket
+          ≡ after_writes g.Q.Desk.start (cut (blob_name l.at l.entry) l.entry.part_size 0 l.number bytes) (ticket_of g.Q.Desk.start (g.Q.Desk.seen l.fn.desk) l.ticket);
+      went : Went g.Q.Desk.start (g.Q.Desk.seen l.fn.desk) (g.Q.Desk.seen l.desk) l.ticket;
+    }

@@ -1,0 +1,104 @@
+use Rattle.std.proofs.Common.{◌+◌, ◌<◌, ◌≤◌, IfSome, List, length, refl, sym, ◌∙◌, subst, arith}
+use Rattle.esr_core.specs.World.{Ticket}
+use Rattle.esr_source.specs.Files.{bytes_at}
+use Rattle.esr_source.specs.Origin.{Origin}
+use Rattle.esr_shardidx.specs.declared.entry.FileEntry.{FileEntry as CodeEntry}
+use Rattle.esr_desk.specs.Start.{ticket_of}
+use Rattle.esr_upload.specs.Entries.{blobs_at, ReadOnce, StoredOne}
+use Rattle.esr_upload.proofs.Planning.{count_front, count_next}
+use Rattle.esr_upload.proofs.Modelled.{reads_place}
+use Rattle.esr_upload.proofs.Writing.{writes_keep, writes_at}
+use Rattle.esr_upload.proofs.Going.{went_none, went_on}
+use Rattle.esr_upload.proofs.Storing.{StoredFirst, stored_none, stored_next, stored_all, next_short, next_read}
+use Rattle.esr_upload.proofs.files.store_files.Goals as goal
+
+pub loop-file-init : goal.loop-file-init
+loop-file-init g c =
+    let s = g.Q.Desk.start in
+    let t = ticket_of s (g.Q.Desk.seen c.args.desk.now) c.args.ticket in
+    record {
+      holds = c.requires.mine;
+      at = c.requires.work;
+      from = c.requires.from;
+      drawn = c.requires.drawn;
+      listed = refl;
+      origin = refl;
+      buffer = refl;
+      went = went_none s (g.Q.Desk.seen c.args.desk.now) c.args.ticket;
+      next = omega arith;
+      stored = subst (λ (es : List CodeEntry). StoredFirst s (g.S.Shard.origin c.args.shard.now).files c.args.at.index.number c.args.at.number c.args.part_size c.args.first.number 0 c.args.plans.now es t t) (sym c.new-entries.ensures)
+          (stored_none s (g.S.Shard.origin c.args.shard.now).files c.args.at.index.number c.args.at.number c.args.part_size c.args.first.number c.args.plans.now t);
+    }
+
+pub store_one-requires-clause-drew : goal.store_one-requires-clause-drew
+store_one-requires-clause-drew g c κs within =
+    let inv = c.loop-file.invariant in
+    let front = count_front c.args.plans.now c.loop-file.file c.index-plans-file.result c.loop-file-test.true c.index-plans-file.is in
+    λ one. record { from = omega (arith, inv.from, inv.next); below = omega (arith, inv.from, inv.next, inv.drawn, front, one) }
+
+pub store_one-requires-clause-short : goal.store_one-requires-clause-short
+store_one-requires-clause-short g c κs within =
+    next_short (g.S.Shard.origin c.args.shard.now).files (g.S.Shard.listed c.args.shard.now) c.args.plans.now c.loop-file.file c.index-plans-file.result c.requires.reads c.loop-file-test.true c.index-plans-file.is
+
+pub store_one-requires-clause-read : goal.store_one-requires-clause-read
+store_one-requires-clause-read g c κs within =
+    subst (λ (o : Origin). ReadOnce (bytes_at o.files c.loop-file.file) c.index-plans-file.result.print) (sym c.loop-file.invariant.origin)
+    (next_read (g.S.Shard.origin c.args.shard.now).files (g.S.Shard.listed c.args.shard.now) c.args.plans.now c.loop-file.file c.index-plans-file.result c.requires.reads c.loop-file-test.true c.index-plans-file.is)
+
+pub store_one-requires-clause-place : goal.store_one-requires-clause-place
+store_one-requires-clause-place g c κs within =
+    subst (λ (o : Origin). IfSome o.files (λ fs. c.loop-file.file < length fs)) (sym c.loop-file.invariant.origin)
+    (reads_place (g.S.Shard.origin c.args.shard.now).files (g.S.Shard.listed c.args.shard.now) c.args.plans.now c.loop-file.file c.requires.reads c.loop-file-test.true)
+
+pub overflow_add-next : goal.overflow_add-next
+overflow_add-next g c =
+    let front = count_front c.args.plans.now c.loop-file.file c.index-plans-file.result c.loop-file-test.true c.index-plans-file.is in
+    let room = c.requires.room in
+    let next = c.loop-file.invariant.next in
+    let is = c.is_new.ensures in
+    let from = c.from.ensures in
+    omega (arith, front, room, next, is, from)
+
+pub loop-file-preserved : goal.loop-file-preserved
+loop-file-preserved g c =
+    let s = g.Q.Desk.start in
+    let who = c.args.ticket in
+    let ps = c.args.plans.now in
+    let i = c.loop-file.file in
+    let p = c.index-plans-file.result in
+    let told = (g.S.Shard.origin c.args.shard.now).files in
+    let index = c.args.at.index.number in
+    let number = c.args.at.number in
+    let old = ticket_of s (g.Q.Desk.seen c.args.desk.now) who in
+    let mid = ticket_of s (g.Q.Desk.seen c.loop-file.desk) who in
+    let new = ticket_of s (g.Q.Desk.seen c.store_one.new.desk) who in
+    let inv = c.loop-file.invariant in
+    let e = c.in_ok-entry.entry in
+    let one = subst (λ (o : Origin). StoredOne s (bytes_at o.files i) index number p e mid new) inv.origin c.in_ok-entry.ensures.stored in
+    let blobs = blobs_at index number e one.bytes p.reused in
+    let count = count_next ps i p c.loop-file-test.true c.index-plans-file.is in
+    let is = c.is_new.ensures in
+    let from = c.from.ensures in
+    let next = inv.next in
+    record {
+      holds = c.store_one.ensures.holds;
+      at = writes_at s blobs mid new index number one.is inv.at;
+      from = writes_keep (λ (t : Ticket). t.first) (λ t n w. refl) s blobs mid new one.is ∙ inv.from;
+      drawn = writes_keep (λ (t : Ticket). t.drawn) (λ t n w. refl) s blobs mid new one.is ∙ inv.drawn;
+      listed = c.store_one.ensures.listed ∙ inv.listed;
+      origin = c.store_one.ensures.origin ∙ inv.origin;
+      buffer = c.store_one.ensures.buffer ∙ inv.buffer;
+      went = went_on s (g.Q.Desk.seen c.args.desk.now) (g.Q.Desk.seen c.loop-file.desk) (g.Q.Desk.seen c.store_one.new.desk) who inv.went c.store_one.ensures.went;
+      next = omega (arith, count, is, from, next);
+      stored = subst (λ (es : List CodeEntry). StoredFirst s told index number c.args.part_size c.args.first.number (i + 1) ps es old new) (sym c.in_ok-push.ensures.ok)
+          (stored_next s told (g.S.Shard.listed c.args.shard.now) index number c.args.part_size c.args.first.number i c.loop-file.next.number ps p c.loop-file.entries e old mid new
+          c.requires.reads c.loop-file-test.true c.index-plans-file.is next inv.stored c.in_ok-entry.ensures.entry one);
+    }
+
+pub returns-clause-stored : goal.returns-clause-stored
+returns-clause-stored g c =
+    let s = g.Q.Desk.start in
+    let who = c.args.ticket in
+    let le : length c.args.plans.now ≤ c.loop-file.file = omega arith in
+    stored_all s (g.S.Shard.origin c.args.shard.now).files (g.S.Shard.listed c.args.shard.now) c.args.at.index.number c.args.at.number c.args.part_size c.args.first.number c.loop-file.file c.args.plans.now c.loop-file.entries
+    (ticket_of s (g.Q.Desk.seen c.args.desk.now) who) (ticket_of s (g.Q.Desk.seen c.loop-file.desk) who) c.requires.reads le c.loop-file.invariant.stored

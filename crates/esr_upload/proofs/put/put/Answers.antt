@@ -1,0 +1,40 @@
+use Rattle.std.proofs.Common.{Option, Ok, Some, [], sym, ap, ◌∙◌}
+use Rattle.std.specs.Io.KnownBytes.{append_known}
+use Rattle.esr_model.specs.Values.{Bytes}
+use Rattle.esr_core.specs.Entry.{BeginStep}
+use Rattle.esr_formats.specs.Names.{name_of}
+use Rattle.esr_desk.specs.Start.{ticket_of}
+use Rattle.esr_desk.specs.Refusals.{told_refusal}
+use Rattle.esr_upload.specs.Trouble.{Shown}
+use Rattle.esr_upload.proofs.Putting.{refusing_last, begun_went, told_append, step_err, on_ok, has_risen, committed_done}
+use Rattle.esr_upload.proofs.put.put.Goals as goal
+
+pub returns-in_err-named-clause-trouble : goal.returns-in_err-named-clause-trouble
+returns-in_err-named-clause-trouble g c =
+    let s = g.Q.Desk.start in
+    let old = g.Q.Desk.seen c.args.desk.now in
+    let new = g.Q.Desk.seen c.begin.new.self in
+    let who = c.args.ticket in
+    step_err c.from_residual.result (Shown g.Q.Stage.Counted.faults g.Q.Fetch.Counted.faults 0 (Some []) s new who) c.in_err-named.field-0.0 c.from_residual.ensures.1
+    (refusing_last s old new who (BeginStep (name_of c.args.name)) (told_refusal c.in_err-named.field-0.0) c.in_err-named.ensures.step)
+
+pub returns-in_err-named-clause-went : goal.returns-in_err-named-clause-went
+returns-in_err-named-clause-went g c =
+    let s = g.Q.Desk.start in
+    let old = g.Q.Desk.seen c.args.desk.now in
+    let new = g.Q.Desk.seen c.begin.new.self in
+    let who = c.args.ticket in
+    begun_went s old new who (name_of c.args.name) c.begin.result c.requires.may.stored c.begin.ensures.step c.begin.ensures.own
+
+pub returns-then-is_err-clause-trouble : goal.returns-then-is_err-clause-trouble
+returns-then-is_err-clause-trouble g c = (c.write.new.self, has_risen _ _ _ c.write.ensures.cause (sym c.is_err.ensures.value ∙ c.if-is_err.true))
+
+pub returns-clause-ok : goal.returns-clause-ok
+returns-clause-ok g c =
+    let s = g.Q.Desk.start in
+    let named = c.in_ok-named.named in
+    let who = c.args.ticket in
+    committed_done s c.args.name named.name (g.Q.Stage.Stage.contents c.write.new.self) c.args.bytes.now c.in_ok-commit.field-0 (ticket_of s (g.Q.Desk.seen c.args.desk.now) who) (ticket_of s (g.Q.Desk.seen c.begin.new.self) who)
+    (ticket_of s (g.Q.Desk.seen c.commit.new.self) who) c.in_ok-named.ensures.name c.requires.data (λ same. c.commit.ensures.found (c.in_ok-commit.was ∙ ap Ok same))
+    (on_ok c.write.result _ (sym c.is_err.ensures.value ∙ c.if-is_err.false) c.write.ensures.written ∙ ap (λ (o : Option Bytes). append_known o c.args.bytes.now) c.in_ok-named.ensures.contents ∙ told_append s c.args.bytes.now)
+    c.in_ok-named.ensures.own c.in_ok-commit.ensures.own

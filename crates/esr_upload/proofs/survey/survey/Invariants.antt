@@ -1,0 +1,14 @@
+use Rattle.std.proofs.Common.{◌≡◌, ◌≤◌, Some, length}
+use Rattle.esr_upload.proofs.Surveying.{ReadFirst}
+use Rattle.esr_upload.proofs.survey.survey.Given as goal
+
+abbrev pub invariant-loop-file : goal.invariant-loop-file
+invariant-loop-file g l =
+    record {
+      origin : g.S.Shard.origin l.shard ≡ g.S.Shard.origin l.fn.shard;
+      listed : g.S.Shard.listed l.shard ≡ Some l.file-items;
+      buffer : length l.buf ≡ length l.fn.buf;
+      later : g.S.Counted.faults l.fn.shard ≤ g.S.Counted.faults l.shard;
+      place_is : l.place ≡ l.file-index;
+      read : ReadFirst (g.S.Shard.origin l.fn.shard).files l.file-items l.file-index l.reads;
+    }

@@ -1,0 +1,46 @@
+use Rattle.std.proofs.Common.{◌≡◌, ℕ, ◌+◌, ◌∙◌, refl, ap}
+use Rattle.esr_desk.specs.Start.{ticket_of}
+use Rattle.esr_upload.specs.Entries.{new_count}
+use Rattle.esr_upload.proofs.Ending.{done_on}
+use Rattle.esr_upload.proofs.Closing.{ready, drew_last, bad_end}
+use Rattle.esr_upload.specs.Refused.{HasDone}
+use Rattle.esr_upload.proofs.Shown.{shown_err, ok_on}
+use Rattle.esr_upload.proofs.unit.store.Goals as goal
+
+pub finish-requires-clause-drew : goal.finish-requires-clause-drew
+finish-requires-clause-drew g c =
+    let s = g.Q.Desk.start in
+    let who = c.args.ticket in
+    let count : c.args.first.number + c.from.result ≡ c.args.first.number + new_count c.args.plans.now = ap (λ (n : ℕ). c.args.first.number + n) (c.from.ensures ∙ c.count_new.ensures.count) in
+    drew_last s (g.S.Shard.origin c.args.shard.now).files (g.S.Shard.listed c.args.shard.now) c.args.at c.args.uuid c.args.base.now c.args.plans.now c.args.part_size c.args.first.number c.in_ok-entries.entries
+    (ticket_of s (g.Q.Desk.seen c.args.desk.now) who) (ticket_of s (g.Q.Desk.seen c.store_files.new.desk) who) c.requires.drawn c.requires.size c.requires.sized.0 c.in_ok-entries.ensures.stored
+    (c.args.first.number + c.from.result) count
+
+pub finish-requires-clause-ahead : goal.finish-requires-clause-ahead
+finish-requires-clause-ahead g c =
+    let s = g.Q.Desk.start in
+    let who = c.args.ticket in
+    bad_end s (g.S.Shard.origin c.args.shard.now).files (g.S.Shard.listed c.args.shard.now) c.args.at c.args.uuid c.args.base.now c.args.plans.now c.args.part_size c.args.first.number c.in_ok-entries.entries
+    (ticket_of s (g.Q.Desk.seen c.args.desk.now) who) (ticket_of s (g.Q.Desk.seen c.store_files.new.desk) who) c.requires.drawn c.requires.size c.requires.sized.0 c.in_ok-entries.ensures.stored
+    (g.Q.Desk.seen c.store_files.new.desk) who refl c.requires.sized.1
+
+pub finish-requires-clause-ready : goal.finish-requires-clause-ready
+finish-requires-clause-ready g c =
+    let s = g.Q.Desk.start in
+    let who = c.args.ticket in
+    let count : c.args.first.number + c.from.result ≡ c.args.first.number + new_count c.args.plans.now = ap (λ (n : ℕ). c.args.first.number + n) (c.from.ensures ∙ c.count_new.ensures.count) in
+    ready s (g.S.Shard.origin c.args.shard.now).files (g.S.Shard.listed c.args.shard.now) c.args.at c.args.uuid c.args.base.now c.args.plans.now c.args.part_size c.args.first.number c.in_ok-entries.entries
+    (ticket_of s (g.Q.Desk.seen c.args.desk.now) who) (ticket_of s (g.Q.Desk.seen c.store_files.new.desk) who) c.requires.drawn c.requires.size c.requires.sized.0 c.in_ok-entries.ensures.stored
+    (c.args.first.number + c.from.result) c.sum_of.result count c.sum_of.ensures
+
+pub returns-clause-ok : goal.returns-clause-ok
+returns-clause-ok g c =
+    let s = g.Q.Desk.start in
+    let old = g.Q.Desk.seen c.args.desk.now in
+    let mid = g.Q.Desk.seen c.store_files.new.desk in
+    let new = g.Q.Desk.seen c.finish.new.desk in
+    ok_on c.finish.result (HasDone s mid new c.args.ticket) (HasDone s old new c.args.ticket) (λ done. done_on s old mid new c.args.ticket c.store_files.ensures.went done) c.finish.ensures.ok
+
+pub returns-clause-trouble : goal.returns-clause-trouble
+returns-clause-trouble g c =
+    shown_err c.finish.result g.Q.Stage.Counted.faults g.Q.Fetch.Counted.faults (g.S.Counted.faults c.store_files.new.shard) (g.S.Shard.origin c.args.shard.now).files g.Q.Desk.start (g.Q.Desk.seen c.finish.new.desk) c.args.ticket c.finish.ensures.trouble

@@ -1,0 +1,89 @@
+use Rattle.std.proofs.Common.{◌≡◌, ◌+◌, ◌∙◌, true, false, option_map, ap}
+use Rattle.esr_formats.specs.Ids.{number_of}
+use Rattle.esr_core.specs.Entry.{DrawStep, DrawnFrom}
+use Rattle.esr_names.specs.declared.ids.Id.{Id}
+use Rattle.esr_desk.specs.Start.{ticket_of}
+use Rattle.esr_upload.specs.Entries.{new_count}
+use Rattle.esr_upload.specs.Trouble.{Shown}
+use Rattle.esr_upload.proofs.Going.{went_on, grew_on, outcome_grew}
+use Rattle.esr_upload.proofs.Ending.{done_on, if_err, went_same}
+use Rattle.esr_upload.proofs.Drawing.{can_draw, has_drawn, drawn_for, drew_went, ok_on, err_on}
+use Rattle.esr_upload.proofs.Refusing.{passed}
+use Rattle.esr_upload.proofs.unit.work.Goals as goal
+
+pub returns-in_err-index-clause-trouble : goal.returns-in_err-index-clause-trouble
+returns-in_err-index-clause-trouble g c =
+    passed c.from_residual.result
+    (Shown g.Q.Stage.Counted.faults g.Q.Fetch.Counted.faults (g.S.Counted.faults c.args.shard.now) (g.S.Shard.origin c.args.shard.now).files g.Q.Desk.start (g.Q.Desk.seen c.base_of.new.desk) c.args.ticket)
+    c.in_err-index.field-0.0 c.from_residual.ensures.1 (c.in_err-index.ensures.trouble (g.S.Counted.faults c.args.shard.now) (g.S.Shard.origin c.args.shard.now).files)
+
+pub returns-in_err-first-clause-went : goal.returns-in_err-first-clause-went
+returns-in_err-first-clause-went g c =
+    let s = g.Q.Desk.start in
+    let who = c.args.ticket in
+    let old = g.Q.Desk.seen c.args.desk.now in
+    let mid = g.Q.Desk.seen c.base_of.new.desk in
+    let new = g.Q.Desk.seen c.draw.new.self in
+    let n = c.count_new.result + 1 in
+    if_err c.from_residual-in_err-first.result
+    (went_on s old mid new who c.base_of.ensures.went (went_same s mid new who (outcome_grew s mid new who (DrawStep n) (λ (first : Id). DrawnFrom first.number) c.draw.result c.draw.ensures.step) c.in_err-first.ensures.kept))
+
+pub returns-in_err-first-clause-grew : goal.returns-in_err-first-clause-grew
+returns-in_err-first-clause-grew g c =
+    let s = g.Q.Desk.start in
+    let who = c.args.ticket in
+    let old = g.Q.Desk.seen c.args.desk.now in
+    let mid = g.Q.Desk.seen c.base_of.new.desk in
+    let new = g.Q.Desk.seen c.draw.new.self in
+    let n = c.count_new.result + 1 in
+    grew_on s old mid new c.base_of.ensures.went.grew (outcome_grew s mid new who (DrawStep n) (λ (first : Id). DrawnFrom first.number) c.draw.result c.draw.ensures.step)
+
+pub returns-clause-ok : goal.returns-clause-ok
+returns-clause-ok g c =
+    let s = g.Q.Desk.start in
+    let who = c.args.ticket in
+    let old = g.Q.Desk.seen c.args.desk.now in
+    let mid = g.Q.Desk.seen c.base_of.new.desk in
+    let drawn = g.Q.Desk.seen c.draw.new.self in
+    let new = g.Q.Desk.seen c.store.new.desk in
+    let n = c.count_new.result + 1 in
+    let went = drew_went s mid drawn who c.in_ok-first.first.number n (outcome_grew s mid drawn who (DrawStep n) (λ (first : Id). DrawnFrom first.number) c.draw.result c.draw.ensures.step) c.in_ok-first.ensures.own in
+    ok_on c.store.result (done_on s old drawn new who (went_on s old mid drawn who c.base_of.ensures.went went)) c.store.ensures.ok
+
+pub returns-clause-went : goal.returns-clause-went
+returns-clause-went g c =
+    let s = g.Q.Desk.start in
+    let who = c.args.ticket in
+    let old = g.Q.Desk.seen c.args.desk.now in
+    let mid = g.Q.Desk.seen c.base_of.new.desk in
+    let drawn = g.Q.Desk.seen c.draw.new.self in
+    let new = g.Q.Desk.seen c.store.new.desk in
+    let n = c.count_new.result + 1 in
+    let went = drew_went s mid drawn who c.in_ok-first.first.number n (outcome_grew s mid drawn who (DrawStep n) (λ (first : Id). DrawnFrom first.number) c.draw.result c.draw.ensures.step) c.in_ok-first.ensures.own in
+    err_on c.store.result (went_on s old drawn new who (went_on s old mid drawn who c.base_of.ensures.went went)) c.store.ensures.went
+
+pub draw-requires-clause-may : goal.draw-requires-clause-may
+draw-requires-clause-may g c =
+    let s = g.Q.Desk.start in
+    let who = c.args.ticket in
+    let origin = g.S.Shard.origin c.args.shard.now in
+    can_draw s origin.files origin.is_there (g.S.Shard.listed c.plan_files.new.shard) c.args.at.index.number c.args.at.number c.args.uuid (option_map number_of c.args.base) c.in_ok-index.index c.in_ok-plans.plans
+    (ticket_of s (g.Q.Desk.seen c.args.desk.now) who) (ticket_of s (g.Q.Desk.seen c.base_of.new.desk) who) c.requires.unit c.in_ok-index.ensures.based c.in_ok-plans.ensures.planned
+    (λ no_place. let failed : false ≡ true = c.in_ok-plans.ensures.absent no_place in cc) c.count_new.result (c.count_new.ensures.count ∙ ap new_count c.as_slice.ensures)
+
+pub store-requires-clause-drawn : goal.store-requires-clause-drawn
+store-requires-clause-drawn g c κs within =
+    let s = g.Q.Desk.start in
+    let who = c.args.ticket in
+    let origin = g.S.Shard.origin c.args.shard.now in
+    let listed = g.S.Shard.listed c.plan_files.new.shard in
+    let i = c.args.at.index.number in
+    let k = c.args.at.number in
+    let index = c.in_ok-index.index in
+    let ps = c.in_ok-plans.plans in
+    let first = c.in_ok-first.first.number in
+    let new = ticket_of s (g.Q.Desk.seen c.draw.new.self) who in
+    drawn_for s listed i k c.args.uuid index ps c.as_slice-2.result.now first new origin (g.S.Shard.origin c.plan_files.new.shard) c.plan_files.ensures.origin c.as_slice-2.ensures
+    (has_drawn s origin.files origin.is_there listed i k c.args.uuid (option_map number_of c.args.base) index ps (ticket_of s (g.Q.Desk.seen c.args.desk.now) who) (ticket_of s (g.Q.Desk.seen c.base_of.new.desk) who)
+    c.requires.unit c.in_ok-index.ensures.based c.in_ok-plans.ensures.planned (λ no_place. let failed : false ≡ true = c.in_ok-plans.ensures.absent no_place in cc)
+    first c.count_new.result new (c.count_new.ensures.count ∙ ap new_count c.as_slice.ensures) c.in_ok-first.ensures.own)

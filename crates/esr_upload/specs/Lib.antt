@@ -1,0 +1,9 @@
+pub mod Worked
+pub mod Trouble
+pub mod Base
+pub mod Surveyed
+pub mod Stored
+pub mod Pieces
+pub mod Refused
+pub mod Entries
+pub mod Published

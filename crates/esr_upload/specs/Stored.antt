@@ -1,0 +1,37 @@
+-- A file that is stored under an id.
+use Rattle.std.specs.Prelude.{◌≡◌, ℕ, false, true, List, Option, Some, None}
+use Rattle.esr_model.specs.Values.{Bytes, FileEntry}
+use Rattle.esr_model.specs.Uploads.{file_blobs}
+use Rattle.esr_core.specs.World.{Ticket, Shard}
+use Rattle.esr_core.specs.Steps.{Drew}
+use Rattle.esr_hash.specs.Prints.{print_of}
+use Rattle.esr_parts.specs.Reads.{Tells}
+use Rattle.esr_shardidx.specs.declared.entry.FileEntry.{FileEntry as CodeEntry}
+use Rattle.esr_formats.specs.Shards.{entry_of}
+use Rattle.esr_desk.specs.Start.{Start}
+use Rattle.esr_desk.specs.Taken.{after_writes}
+
+-- the ticket is out for the shard, and has drawn the id
+pub record MayStore (t : Ticket) (index number id : ℕ) : Type 0 where
+  pub out : t.out ≡ true
+  pub unsettled : t.settled ≡ false
+  pub work : t.work ≡ Shard index number
+  pub drew : Drew t id
+
+-- the ticket is out for the shard
+pub record IsAt (t : Ticket) (index number : ℕ) : Type 0 where
+  pub out : t.out ≡ true
+  pub unsettled : t.settled ≡ false
+  pub work : t.work ≡ Shard index number
+
+-- the entry has the print of the file, where that is told
+abbrev pub HasPrint : Option Bytes → CodeEntry → Type 0
+HasPrint None e = Unit {0}
+HasPrint (Some bytes) e = print_of bytes ≡ e.print
+
+-- the blobs of the file were committed, one after another: they have the bytes that the file is told to have, of the entry's print
+pub record Stored (s : Start) (told : Option Bytes) (index number : ℕ) (e : CodeEntry) (old new : Ticket) : Type 0 where
+  pub bytes : Bytes
+  pub tells : Tells told bytes
+  pub print : print_of bytes ≡ e.print
+  pub is : new ≡ after_writes s (file_blobs index number (entry_of e) bytes) old

@@ -1,0 +1,115 @@
+//! The index on which the unit of a shard builds.
+ghost use Rattle.std.specs.Prelude.{◌≡◌, ◌<◌, None, Some, IfOk, IfErr, option_map, []};
+ghost use Rattle.esr_model.specs.Names.{ShardIndex as IndexName};
+ghost use Rattle.esr_core.specs.After.{fetching};
+ghost use Rattle.esr_depot.specs.Calls.{HasCause, has_failed};
+ghost use Rattle.esr_formats.specs.Ids.{number_of};
+ghost use Rattle.esr_formats.specs.Shards.{shard_index_of};
+ghost use Rattle.esr_parts.specs.Reads.{Tells};
+ghost use Rattle.esr_desk.specs.Start.{ticket_of, told_bytes};
+ghost use Rattle.esr_upload.specs.Base.{HasBase};
+ghost use Rattle.esr_upload.specs.Stored.{IsAt};
+ghost use Rattle.esr_upload.specs.Trouble.{Shown};
+ghost use Rattle.esr_upload.specs.Worked.{Went};
+
+use crate::trouble::Trouble;
+use esr_depot::{CallError, Fetch};
+use esr_desk::{Desk, StepRefusal};
+use esr_formats::read_shard_index;
+use esr_json::ReadRefusal;
+use esr_names::{BlobName, Id, ShardId};
+use esr_seq::Bytes;
+use esr_shardidx::ShardIndex;
+use std::alloc::Global;
+
+/// The bytes that are left, which are read to their end.
+fn read_all<F: Fetch>(alloc: Global, fetch: &mut F) -> Result<Bytes, CallError>
+    ensures told { IfOk result (λ b. Tells (F.left fetch.old) b) }
+    ensures cause { HasCause (F.faults fetch.old) (F.faults fetch.new) (has_failed result) }
+{
+    let mut bytes = Vec::new(alloc);
+    let mut buf = [0; 65536];
+    loop {
+        let got = fetch.read(&mut buf)?;
+        if got == 0 {
+            return Ok(Bytes::from_vec(bytes));
+        }
+        bytes.extend_from_slice(&buf[..got])?;
+    }
+}
+
+/// The bytes of the base, which is there.
+fn fetch_bytes<Q: Desk>(
+    alloc: Global,
+    desk: &mut Q,
+    ticket: u64,
+    shard: ShardId,
+    base: Id,
+) -> Result<Bytes, Trouble>
+    requires mine { Q.holds desk.old ticket }
+    requires at { IsAt (ticket_of Q.start (Q.seen desk.old) ticket) shard.index.number shard.number }
+    requires base { (ticket_of Q.start (Q.seen desk.old) ticket).base ≡ Some base.number }
+    requires few { shard.number < 1024 }
+    ensures fetched { IfOk result (λ b. ticket_of Q.start (Q.seen desk.new) ticket ≡ fetching (IndexName shard.index.number shard.number base.number) (told_bytes Q.start b) (ticket_of Q.start (Q.seen desk.old) ticket)) }
+    ensures trouble { IfErr result (Shown Q.Stage.faults Q.Fetch.faults 0 (Some []) Q.start (Q.seen desk.new) ticket) }
+    ensures went { Went Q.start (Q.seen desk.old) (Q.seen desk.new) ticket }
+    ensures holds { Q.holds desk.new ticket }
+{
+    let mut fetch = match desk.fetch(alloc, ticket, BlobName::ShardIndex(shard, base))? {
+        Some(fetch) => fetch,
+        None => return Err(Trouble::Base),
+    };
+    match read_all(alloc, &mut fetch) {
+        Ok(bytes) => Ok(bytes),
+        Err(CallError::Memory) => Err(Trouble::Step(StepRefusal::Memory)),
+        Err(CallError::Failed) => Err(Trouble::Fetch),
+    }
+}
+
+/// The index of this base.
+fn fetch_index<Q: Desk>(
+    alloc: Global,
+    desk: &mut Q,
+    ticket: u64,
+    shard: ShardId,
+    base: Id,
+) -> Result<ShardIndex, Trouble>
+    requires mine { Q.holds desk.old ticket }
+    requires at { IsAt (ticket_of Q.start (Q.seen desk.old) ticket) shard.index.number shard.number }
+    requires base { (ticket_of Q.start (Q.seen desk.old) ticket).base ≡ Some base.number }
+    requires few { shard.number < 1024 }
+    ensures based { IfOk result (λ v. HasBase Q.start (ticket_of Q.start (Q.seen desk.old) ticket) (ticket_of Q.start (Q.seen desk.new) ticket) shard.index.number shard.number (shard_index_of v)) }
+    ensures trouble { IfErr result (Shown Q.Stage.faults Q.Fetch.faults 0 (Some []) Q.start (Q.seen desk.new) ticket) }
+    ensures went { Went Q.start (Q.seen desk.old) (Q.seen desk.new) ticket }
+    ensures holds { Q.holds desk.new ticket }
+{
+    let bytes = fetch_bytes(alloc, desk, ticket, shard, base)?;
+    match read_shard_index(alloc, bytes.as_slice()) {
+        Ok(index) => Ok(index),
+        Err(ReadRefusal::Memory) => Err(Trouble::Step(StepRefusal::Memory)),
+        Err(ReadRefusal::Damaged { .. }) => Err(Trouble::Base),
+    }
+}
+
+/// The index of the base, which is read to its end; one of no file where there is no base.
+pub fn read_base<Q: Desk>(
+    alloc: Global,
+    desk: &mut Q,
+    ticket: u64,
+    shard: ShardId,
+    base: Option<Id>,
+) -> Result<ShardIndex, Trouble>
+    requires mine { Q.holds desk.old ticket }
+    requires at { IsAt (ticket_of Q.start (Q.seen desk.old) ticket) shard.index.number shard.number }
+    requires base { (ticket_of Q.start (Q.seen desk.old) ticket).base ≡ option_map number_of base }
+    requires few { shard.number < 1024 }
+    ensures based { IfOk result (λ v. HasBase Q.start (ticket_of Q.start (Q.seen desk.old) ticket) (ticket_of Q.start (Q.seen desk.new) ticket) shard.index.number shard.number (shard_index_of v)) }
+    ensures trouble { IfErr result (Shown Q.Stage.faults Q.Fetch.faults 0 (Some []) Q.start (Q.seen desk.new) ticket) }
+    ensures went { Went Q.start (Q.seen desk.old) (Q.seen desk.new) ticket }
+    ensures holds { Q.holds desk.new ticket }
+{
+    match base {
+        Some(base) => fetch_index(alloc, desk, ticket, shard, base),
+        None => Ok(ShardIndex::new(alloc)),
+    }
+}

@@ -1,0 +1,163 @@
+//! The blobs of a file.
+ghost use Rattle.std.specs.Prelude.{◌≡◌, ◌+◌, ◌<◌, ◌≤◌, ◌^◌, [], IfErr, IfOk, IfSome, OnOk, IsSomeAnd, length};
+ghost use Rattle.esr_formats.specs.Names.{name_of};
+ghost use Rattle.esr_hash.specs.Fed.{fed_count, HasFed};
+ghost use Rattle.esr_source.specs.Files.{bytes_at};
+ghost use Rattle.esr_desk.specs.Start.{ticket_of};
+ghost use Rattle.esr_upload.specs.Pieces.{IsOfStart, CanStore, PutPart, PutParts};
+ghost use Rattle.esr_upload.specs.Stored.{MayStore, HasPrint, Stored};
+ghost use Rattle.esr_upload.specs.Trouble.{Shown};
+ghost use Rattle.esr_upload.specs.Worked.{Went};
+
+use crate::trouble::Trouble;
+use esr_depot::CallError;
+use esr_desk::{Desk, Named, StepRefusal};
+use esr_hash::Hasher;
+use esr_names::{BlobName, ShardId};
+use esr_parts::{CopyError, copy_part, part_plan};
+use esr_shardidx::{FileEntry, part_count, part_name};
+use esr_source::{Gate, Shard};
+use std::alloc::Global;
+
+/// Goes to the first byte of a file.
+fn start_file<S: Shard>(alloc: Global, shard: &mut S, file: usize) -> Result<(), Trouble>
+    requires listed { IsSomeAnd (S.listed shard.old) (λ fs. file < length fs) }
+    ensures started { OnOk result (S.left shard.new ≡ bytes_at (S.origin shard.old).files file) }
+    ensures listed { S.listed shard.new ≡ S.listed shard.old }
+    ensures origin { S.origin shard.new ≡ S.origin shard.old }
+    ensures faults { S.faults shard.old ≤ S.faults shard.new }
+    ensures trouble { IfErr result (IsOfStart (S.faults shard.new)) }
+{
+    shard.start(alloc, file).map_err(|error| match error {
+        CallError::Memory => Trouble::Step(StepRefusal::Memory),
+        CallError::Failed => Trouble::Source,
+    })
+}
+
+/// Stores the next `size` bytes of the file that was started as a blob, and hashes them. It answers whether the file had
+/// so many; where it hadn't, no blob is stored.
+fn put_part<Q: Desk, S: Shard, G: Gate>(
+    alloc: Global,
+    desk: &mut Q,
+    ticket: u64,
+    name: BlobName,
+    size: u64,
+    shard: &mut S,
+    hasher: &mut Hasher,
+    gate: &G,
+    buf: &mut [u8],
+) -> Result<bool, Trouble>
+    requires mine { Q.holds desk.old ticket }
+    requires may { CanStore Q.start (ticket_of Q.start (Q.seen desk.old) ticket) name }
+    requires bound { fed_count hasher.old + size < 2 ^ 61 }
+    requires buffer { 0 < length buf.old }
+    ensures listed { S.listed shard.new ≡ S.listed shard.old }
+    ensures origin { S.origin shard.new ≡ S.origin shard.old }
+    ensures buffer { length buf.new ≡ length buf.old }
+    ensures put { IfOk result (PutPart Q.start (S.left shard.old) (S.left shard.new) hasher.old hasher.new (ticket_of Q.start (Q.seen desk.old) ticket) (ticket_of Q.start (Q.seen desk.new) ticket) (name_of name) size) }
+    ensures faults { S.faults shard.old ≤ S.faults shard.new }
+    ensures trouble { IfErr result (Shown Q.Stage.faults Q.Fetch.faults (S.faults shard.new) (S.origin shard.old).files Q.start (Q.seen desk.new) ticket) }
+    ensures went { Went Q.start (Q.seen desk.old) (Q.seen desk.new) ticket }
+    ensures holds { Q.holds desk.new ticket }
+{
+    let mut named = desk.begin(alloc, ticket, name, size as usize)?;
+    match copy_part(shard, &mut named.stage, hasher, size, gate, ticket, buf) {
+        Ok(true) => {}
+        Ok(false) => return Ok(false),
+        Err(CopyError::Source) => return Err(Trouble::Source),
+        Err(CopyError::Stage) => return Err(Trouble::Stage),
+    }
+    let Named { name, stage } = named;
+    desk.commit(alloc, ticket, name, stage)?;
+    Ok(true)
+}
+
+/// Stores the parts of the file that was started, as far as its entry's length, and hashes them. Where the file ends before,
+/// the rest is missing.
+fn put_parts<Q: Desk, S: Shard, G: Gate>(
+    alloc: Global,
+    desk: &mut Q,
+    ticket: u64,
+    at: ShardId,
+    entry: &FileEntry,
+    shard: &mut S,
+    hasher: &mut Hasher,
+    gate: &G,
+    buf: &mut [u8],
+) -> Result<(), Trouble>
+    requires mine { Q.holds desk.old ticket }
+    requires may { MayStore (ticket_of Q.start (Q.seen desk.old) ticket) at.index.number at.number entry.now.name.number }
+    requires few { at.number < 1024 }
+    requires size { (1 ≤ entry.now.part_size) × (entry.now.part_size ≤ 2 ^ 30) }
+    requires short { entry.now.print.len < 2 ^ 60 }
+    requires fresh { HasFed hasher.old [] }
+    requires buffer { 0 < length buf.old }
+    ensures listed { S.listed shard.new ≡ S.listed shard.old }
+    ensures origin { S.origin shard.new ≡ S.origin shard.old }
+    ensures buffer { length buf.new ≡ length buf.old }
+    ensures put { OnOk result (PutParts Q.start (S.left shard.old) (S.left shard.new) hasher.new at entry.now (ticket_of Q.start (Q.seen desk.old) ticket) (ticket_of Q.start (Q.seen desk.new) ticket)) }
+    ensures faults { S.faults shard.old ≤ S.faults shard.new }
+    ensures trouble { IfErr result (Shown Q.Stage.faults Q.Fetch.faults (S.faults shard.new) (S.origin shard.old).files Q.start (Q.seen desk.new) ticket) }
+    ensures went { Went Q.start (Q.seen desk.old) (Q.seen desk.new) ticket }
+    ensures holds { Q.holds desk.new ticket }
+{
+    for number in 0..part_count(entry.print.len, entry.part_size) {
+        let (_, size) = part_plan(entry.print.len, entry.part_size, number);
+        let name = part_name(at, entry, number);
+        if !put_part(alloc, desk, ticket, name, size, shard, hasher, gate, buf)? {
+            return Ok(());
+        }
+    }
+    Ok(())
+}
+
+/// Reads a file again and stores its blobs under the id of its entry. It must have the entry's print.
+pub fn store_file<Q: Desk, S: Shard, G: Gate>(
+    alloc: Global,
+    desk: &mut Q,
+    ticket: u64,
+    at: ShardId,
+    shard: &mut S,
+    file: usize,
+    entry: &FileEntry,
+    gate: &G,
+    buf: &mut [u8],
+) -> Result<(), Trouble>
+    requires mine { Q.holds desk.old ticket }
+    requires may { MayStore (ticket_of Q.start (Q.seen desk.old) ticket) at.index.number at.number entry.now.name.number }
+    requires few { at.number < 1024 }
+    requires size { (1 ≤ entry.now.part_size) × (entry.now.part_size ≤ 2 ^ 30) }
+    requires short { entry.now.print.len < 2 ^ 60 }
+    requires listed { IsSomeAnd (S.listed shard.old) (λ fs. file < length fs) }
+    requires place { IfSome (S.origin shard.old).files (λ fs. file < length fs) }
+    requires print { HasPrint (bytes_at (S.origin shard.old).files file) entry.now }
+    requires buffer { 0 < length buf.old }
+    ensures listed { S.listed shard.new ≡ S.listed shard.old }
+    ensures origin { S.origin shard.new ≡ S.origin shard.old }
+    ensures buffer { length buf.new ≡ length buf.old }
+    ensures stored { OnOk result (Stored Q.start (bytes_at (S.origin shard.old).files file) at.index.number at.number entry.now (ticket_of Q.start (Q.seen desk.old) ticket) (ticket_of Q.start (Q.seen desk.new) ticket)) }
+    ensures faults { S.faults shard.old ≤ S.faults shard.new }
+    ensures trouble { IfErr result (Shown Q.Stage.faults Q.Fetch.faults (S.faults shard.new) (S.origin shard.old).files Q.start (Q.seen desk.new) ticket) }
+    ensures went { Went Q.start (Q.seen desk.old) (Q.seen desk.new) ticket }
+    ensures holds { Q.holds desk.new ticket }
+{
+    start_file(alloc, shard, file)?;
+    let mut hasher = Hasher::start();
+    put_parts(
+        alloc,
+        desk,
+        ticket,
+        at,
+        entry,
+        shard,
+        &mut hasher,
+        gate,
+        buf,
+    )?;
+    let first = entry.print;
+    let second = hasher.end();
+    if first != second {
+        return Err(Trouble::Changed { first, second });
+    }
+    Ok(())
+}

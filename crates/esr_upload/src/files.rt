@@ -1,0 +1,155 @@
+//! The files of a shard, one after another.
+ghost use Rattle.std.specs.Prelude.{◌≡◌, ◌+◌, ◌-◌, ◌<◌, ◌≤◌, ◌^◌, min, sum_by, length, IfErr, IfOk, IsSomeAnd, IfSome};
+ghost use Rattle.esr_core.specs.Steps.{Drew};
+ghost use Rattle.esr_source.specs.Files.{bytes_at};
+ghost use Rattle.esr_desk.specs.Start.{ticket_of};
+ghost use Rattle.esr_upload.specs.Entries.{is_new, new_count, len_planned, entry_at, ReadOnce, Reads, StoredOne, StoredAll};
+ghost use Rattle.esr_upload.specs.Stored.{IsAt};
+ghost use Rattle.esr_upload.specs.Trouble.{Shown};
+ghost use Rattle.esr_upload.specs.Worked.{Went};
+
+use crate::file::store_file;
+use crate::trouble::Trouble;
+use esr_desk::Desk;
+use esr_names::{Id, ShardId};
+use esr_reuse::Planned;
+use esr_seq::Seq;
+use esr_shardidx::{FileEntries, FileEntry};
+use esr_source::{Gate, Shard};
+use std::alloc::{AllocError, Global};
+
+/// One for a file that reuses nothing.
+fn is_new(plan: &Planned) -> u64
+    ensures { result ≡ is_new plan.now.reused }
+{
+    match plan.reused {
+        Some(_) => 0,
+        None => 1,
+    }
+}
+
+/// How many files reuse nothing.
+pub fn count_new(plans: &[Planned]) -> u64
+    ensures count { result ≡ new_count plans.now }
+    ensures bound { result ≤ length plans.now }
+{
+    let mut count = 0;
+    for plan in plans {
+        count += is_new(plan);
+    }
+    count
+}
+
+/// The sum of the files' lengths in bytes, at most 2^64 - 1.
+pub fn sum_of(plans: &[Planned]) -> u64
+    ensures { result ≡ min (sum_by len_planned plans.now) (2 ^ 64 - 1) }
+{
+    let mut sum: u64 = 0;
+    for plan in plans {
+        sum = sum.saturating_add(plan.print.len);
+    }
+    sum
+}
+
+/// The entry of a file that reuses nothing.
+fn new_entry(
+    alloc: Global,
+    plan: &Planned,
+    name: Id,
+    part_size: u64,
+) -> Result<FileEntry, AllocError>
+    ensures { IfOk result (λ e. e ≡ record { name = name; physical = plan.now.physical; print = plan.now.print; part_size = part_size }) }
+{
+    Ok(FileEntry {
+        name,
+        physical: plan.physical.try_clone(alloc)?,
+        print: plan.print,
+        part_size,
+    })
+}
+
+/// Stores a file under the id, unless it is reused, and answers its entry.
+fn store_one<Q: Desk, S: Shard, G: Gate>(
+    alloc: Global,
+    desk: &mut Q,
+    ticket: u64,
+    at: ShardId,
+    shard: &mut S,
+    file: usize,
+    plan: &Planned,
+    name: Id,
+    part_size: u64,
+    gate: &G,
+    buf: &mut [u8],
+) -> Result<FileEntry, Trouble>
+    requires mine { Q.holds desk.old ticket }
+    requires work { IsAt (ticket_of Q.start (Q.seen desk.old) ticket) at.index.number at.number }
+    requires drew { is_new plan.now.reused ≡ 1 → Drew (ticket_of Q.start (Q.seen desk.old) ticket) name.number }
+    requires few { at.number < 1024 }
+    requires size { (1 ≤ part_size) × (part_size ≤ 2 ^ 30) }
+    requires short { plan.now.print.len < 2 ^ 60 }
+    requires listed { IsSomeAnd (S.listed shard.old) (λ fs. file < length fs) }
+    requires place { IfSome (S.origin shard.old).files (λ fs. file < length fs) }
+    requires read { ReadOnce (bytes_at (S.origin shard.old).files file) plan.now.print }
+    requires buffer { 0 < length buf.old }
+    ensures listed { S.listed shard.new ≡ S.listed shard.old }
+    ensures origin { S.origin shard.new ≡ S.origin shard.old }
+    ensures buffer { length buf.new ≡ length buf.old }
+    ensures entry { IfOk result (λ e. e ≡ entry_at part_size name.number plan.now plan.now.reused) }
+    ensures stored { IfOk result (λ e. StoredOne Q.start (bytes_at (S.origin shard.old).files file) at.index.number at.number plan.now e (ticket_of Q.start (Q.seen desk.old) ticket) (ticket_of Q.start (Q.seen desk.new) ticket)) }
+    ensures faults { S.faults shard.old ≤ S.faults shard.new }
+    ensures trouble { IfErr result (Shown Q.Stage.faults Q.Fetch.faults (S.faults shard.new) (S.origin shard.old).files Q.start (Q.seen desk.new) ticket) }
+    ensures went { Went Q.start (Q.seen desk.old) (Q.seen desk.new) ticket }
+    ensures holds { Q.holds desk.new ticket }
+{
+    match &plan.reused {
+        Some(entry) => Ok(entry.try_clone(alloc)?),
+        None => {
+            let entry = new_entry(alloc, plan, name, part_size)?;
+            store_file(alloc, desk, ticket, at, shard, file, &entry, gate, buf)?;
+            Ok(entry)
+        }
+    }
+}
+
+/// Stores each file that reuses nothing, under ids from `first` on, and answers the entries of all.
+pub fn store_files<Q: Desk, S: Shard, G: Gate>(
+    alloc: Global,
+    desk: &mut Q,
+    ticket: u64,
+    at: ShardId,
+    shard: &mut S,
+    plans: &[Planned],
+    first: Id,
+    part_size: u64,
+    gate: &G,
+    buf: &mut [u8],
+) -> Result<FileEntries, Trouble>
+    requires mine { Q.holds desk.old ticket }
+    requires work { IsAt (ticket_of Q.start (Q.seen desk.old) ticket) at.index.number at.number }
+    requires from { (ticket_of Q.start (Q.seen desk.old) ticket).first ≡ first.number }
+    requires drawn { (ticket_of Q.start (Q.seen desk.old) ticket).drawn ≡ new_count plans.now + 1 }
+    requires room { first.number + (new_count plans.now + 1) < 2 ^ 128 }
+    requires few { at.number < 1024 }
+    requires size { (1 ≤ part_size) × (part_size ≤ 2 ^ 30) }
+    requires reads { Reads (S.origin shard.old).files (S.listed shard.old) plans.now }
+    requires buffer { 0 < length buf.old }
+    ensures listed { S.listed shard.new ≡ S.listed shard.old }
+    ensures origin { S.origin shard.new ≡ S.origin shard.old }
+    ensures buffer { length buf.new ≡ length buf.old }
+    ensures stored { IfOk result (λ es. StoredAll Q.start (S.origin shard.old).files at.index.number at.number part_size first.number plans.now es (ticket_of Q.start (Q.seen desk.old) ticket) (ticket_of Q.start (Q.seen desk.new) ticket)) }
+    ensures trouble { IfErr result (Shown Q.Stage.faults Q.Fetch.faults (S.faults shard.new) (S.origin shard.old).files Q.start (Q.seen desk.new) ticket) }
+    ensures went { Went Q.start (Q.seen desk.old) (Q.seen desk.new) ticket }
+    ensures holds { Q.holds desk.new ticket }
+{
+    let mut entries = Seq::new(alloc);
+    let mut next = first;
+    for (file, plan) in plans.iter().enumerate() {
+        let entry = store_one(
+            alloc, desk, ticket, at, shard, file, plan, next, part_size, gate, buf,
+        )?;
+        entries.push(entry)?;
+        next.number += u128::from(is_new(plan));
+    }
+    Ok(entries)
+}

@@ -1,0 +1,13 @@
+//! The unit that stores the files of a shard.
+#![tactic(auto)]
+
+mod base;
+mod file;
+mod files;
+mod publish;
+mod put;
+mod survey;
+mod trouble;
+mod unit;
+
+pub use unit::run_unit;

@@ -1,0 +1,240 @@
+//! The unit of a shard.
+ghost use Rattle.std.specs.Prelude.{◌≡◌, ◌+◌, ◌<◌, ◌≤◌, ◌^◌, ℕ, List, Option, None, Some, find, false, length, option_map, IfErr, IfOk, IsErr, IsSome, OnOk};
+ghost use Rattle.esr_formats.specs.Ids.{number_of};
+ghost use Rattle.esr_formats.specs.Shards.{shard_index_of};
+ghost use Rattle.esr_shardidx.specs.Indices.{has_uuid};
+ghost use Rattle.esr_desk.specs.Start.{ticket_of};
+ghost use Rattle.esr_desk.specs.Taken.{Took};
+ghost use Rattle.esr_desk.specs.Sources.{TellsFiles};
+ghost use Rattle.esr_desk.specs.Grew.{Grew};
+ghost use Rattle.esr_upload.specs.Entries.{new_count};
+ghost use Rattle.esr_upload.specs.Published.{IsUnit, IsPlanned, HasIndex, HasDrawn, ReadShown, why_by};
+ghost use Rattle.esr_upload.specs.Refused.{IsOfShard, told_of, HasDone, IsUnitRefused};
+ghost use Rattle.esr_upload.specs.Stored.{IsAt};
+ghost use Rattle.esr_upload.specs.Trouble.{Shown};
+ghost use Rattle.esr_upload.specs.Worked.{Went};
+ghost use Rattle.esr_upload.specs.declared.trouble.Trouble.TheVariants.{Base};
+
+use crate::base::read_base;
+use crate::files::{count_new, store_files, sum_of};
+use crate::publish::finish;
+use crate::survey::survey;
+use crate::trouble::Trouble;
+use esr_depot::CallError;
+use esr_desk::{Desk, EntryRefusal, StepRefusal, Unit, UnitRefusal, Why};
+use esr_names::{BlobName, Id, ShardId};
+use esr_progress::Work;
+use esr_results::ShardResult;
+use esr_reuse::{Planned, Plans, plan};
+use esr_shardidx::ShardIndex;
+use esr_source::{Gate, Shard, Sources};
+use std::alloc::Global;
+
+/// The index of the base, which doesn't list the snapshot; an empty one where there is no base.
+fn base_of<Q: Desk>(
+    alloc: Global,
+    desk: &mut Q,
+    ticket: u64,
+    at: ShardId,
+    uuid: Id,
+    base: Option<Id>,
+) -> Result<ShardIndex, Trouble>
+    requires mine { Q.holds desk.old ticket }
+    requires at { IsAt (ticket_of Q.start (Q.seen desk.old) ticket) at.index.number at.number }
+    requires undrawn { (ticket_of Q.start (Q.seen desk.old) ticket).drawn ≡ 0 }
+    requires uuid { (ticket_of Q.start (Q.seen desk.old) ticket).uuid ≡ uuid.number }
+    requires base { (ticket_of Q.start (Q.seen desk.old) ticket).base ≡ option_map number_of base }
+    requires few { at.number < 1024 }
+    ensures based { IfOk result (HasIndex Q.start at.index.number at.number uuid (ticket_of Q.start (Q.seen desk.old) ticket) (ticket_of Q.start (Q.seen desk.new) ticket)) }
+    ensures trouble { IfErr result (λ e. (n : ℕ) (files : Option (List (List ℕ × List ℕ))) → Shown Q.Stage.faults Q.Fetch.faults n files Q.start (Q.seen desk.new) ticket e) }
+    ensures went { Went Q.start (Q.seen desk.old) (Q.seen desk.new) ticket }
+    ensures holds { Q.holds desk.new ticket }
+{
+    if base.is_none() {
+        return Ok(ShardIndex::new(alloc));
+    }
+    let index = read_base(alloc, desk, ticket, at, base)?;
+    match index.list(uuid) {
+        Some(_) => Err(Trouble::Base),
+        None => Ok(index),
+    }
+}
+
+/// Reads the files for their prints, and plans what each reuses of the base.
+fn plan_files<S: Shard>(
+    alloc: Global,
+    shard: &mut S,
+    base: &ShardIndex,
+    buf: &mut [u8],
+) -> Result<Plans, Trouble>
+    requires buffer { 0 < length buf.old }
+    ensures buffer { length buf.new ≡ length buf.old }
+    ensures origin { S.origin shard.new ≡ S.origin shard.old }
+    ensures planned { IfOk result (IsPlanned (S.origin shard.old).files (S.listed shard.new) base.now) }
+    ensures absent { (S.origin shard.old).is_there ≡ Some false → IsErr result }
+    ensures trouble { IfErr result (ReadShown (S.faults shard.new)) }
+{
+    match survey(alloc, shard, buf) {
+        Ok(files) => Ok(plan(alloc, base, files.as_slice())?),
+        Err(CallError::Memory) => Err(Trouble::Step(StepRefusal::Memory)),
+        Err(CallError::Failed) => Err(Trouble::Source),
+    }
+}
+
+/// Stores the files that reuse nothing, then the shard's snapshot and its next index, and ends the ticket.
+fn store<Q: Desk, S: Shard, G: Gate>(
+    alloc: Global,
+    desk: &mut Q,
+    ticket: u64,
+    at: ShardId,
+    uuid: Id,
+    base: &ShardIndex,
+    shard: &mut S,
+    plans: &[Planned],
+    first: Id,
+    part_size: u64,
+    gate: &G,
+    buf: &mut [u8],
+) -> Result<(), Trouble>
+    requires mine { Q.holds desk.old ticket }
+    requires drawn { HasDrawn Q.start (S.origin shard.old).files (S.listed shard.old) at.index.number at.number uuid base.now plans.now first.number (ticket_of Q.start (Q.seen desk.old) ticket) }
+    requires room { first.number + (new_count plans.now + 1) < 2 ^ 128 }
+    requires few { at.number < 1024 }
+    requires size { part_size ≡ Q.start.part_size }
+    requires sized { (1 ≤ part_size) × (part_size ≤ 2 ^ 30) }
+    requires buffer { 0 < length buf.old }
+    ensures ok { OnOk result (HasDone Q.start (Q.seen desk.old) (Q.seen desk.new) ticket) }
+    ensures trouble { IfErr result (Shown Q.Stage.faults Q.Fetch.faults (S.faults shard.new) (S.origin shard.old).files Q.start (Q.seen desk.new) ticket) }
+    ensures origin { S.origin shard.new ≡ S.origin shard.old }
+    ensures went { IfErr result (λ e. Went Q.start (Q.seen desk.old) (Q.seen desk.new) ticket) }
+    ensures grew { Grew Q.start (Q.seen desk.old) (Q.seen desk.new) }
+    ensures holds { Q.holds desk.new ticket }
+{
+    let entries = store_files(
+        alloc, desk, ticket, at, shard, plans, first, part_size, gate, buf,
+    )?;
+    let outcome = ShardResult {
+        shard: at,
+        generation: Id {
+            number: first.number + u128::from(count_new(plans)),
+        },
+        files: plans.len() as u64,
+        bytes: sum_of(plans),
+    };
+    finish(alloc, desk, ticket, base, entries, uuid, &outcome)
+}
+
+/// What the unit does until its ticket ends as done, or a trouble.
+fn work<Q: Desk, S: Shard, G: Gate>(
+    alloc: Global,
+    desk: &mut Q,
+    ticket: u64,
+    at: ShardId,
+    uuid: Id,
+    base: Option<Id>,
+    shard: &mut S,
+    part_size: u64,
+    gate: &G,
+) -> Result<(), Trouble>
+    requires mine { Q.holds desk.old ticket }
+    requires unit { IsUnit Q.start (S.origin shard.old).files (S.origin shard.old).is_there at.index.number at.number uuid.number (option_map number_of base) (ticket_of Q.start (Q.seen desk.old) ticket) }
+    requires few { at.number < 1024 }
+    requires size { part_size ≡ Q.start.part_size }
+    requires sized { (1 ≤ part_size) × (part_size ≤ 2 ^ 30) }
+    ensures ok { OnOk result (HasDone Q.start (Q.seen desk.old) (Q.seen desk.new) ticket) }
+    ensures trouble { IfErr result (Shown Q.Stage.faults Q.Fetch.faults (S.faults shard.new) (S.origin shard.old).files Q.start (Q.seen desk.new) ticket) }
+    ensures went { IfErr result (λ e. Went Q.start (Q.seen desk.old) (Q.seen desk.new) ticket) }
+    ensures grew { Grew Q.start (Q.seen desk.old) (Q.seen desk.new) }
+    ensures holds { Q.holds desk.new ticket }
+{
+    let mut buf = [0; 65536];
+    let index = base_of(alloc, desk, ticket, at, uuid, base)?;
+    let plans = plan_files(alloc, shard, &index, &mut buf)?;
+    let first = desk.draw(alloc, ticket, count_new(plans.as_slice()) + 1)?;
+    store(
+        alloc,
+        desk,
+        ticket,
+        at,
+        uuid,
+        &index,
+        shard,
+        plans.as_slice(),
+        first,
+        part_size,
+        gate,
+        &mut buf,
+    )
+}
+
+/// Why a trouble ends the ticket, or the refusal that leaves it out.
+fn why_of(at: ShardId, base: Option<Id>, trouble: Trouble) -> Result<Why, StepRefusal>
+    requires { trouble ≡ Base → IsSome base }
+    ensures { result ≡ why_by at base trouble }
+{
+    match trouble {
+        Trouble::Step(StepRefusal::Refused(EntryRefusal::DepotFault)) => Ok(Why::Depot),
+        Trouble::Step(refusal) => Err(refusal),
+        Trouble::Source => Ok(Why::Source),
+        Trouble::Stage | Trouble::Fetch => Ok(Why::Depot),
+        Trouble::Changed { first, second } => Ok(Why::Changed { first, second }),
+        Trouble::Base => {
+            let Some(base) = base else {
+                unreachable!();
+            };
+            Ok(Why::Damaged {
+                name: BlobName::ShardIndex(at, base),
+            })
+        }
+    }
+}
+
+/// Stores the files of a shard that its base doesn't have, the snapshot of the shard and its next index, and ends the ticket.
+/// Where an object failed, a file changed or the base is at fault, the ticket ends as failed.
+pub fn run_unit<Q: Desk, S: Sources, G: Gate>(
+    alloc: Global,
+    desk: &mut Q,
+    unit: &Unit,
+    sources: &S,
+    gate: &G,
+    part_size: u64,
+) -> Result<(), UnitRefusal>
+    requires mine { Q.holds desk.old unit.now.ready.ticket }
+    requires fresh { Took Q.start (Q.seen desk.old) unit.now }
+    requires work { IsOfShard unit.now.ready.work }
+    requires sources { TellsFiles Q.start (S.files sources.now) (S.is_there sources.now) }
+    requires size { part_size ≡ Q.start.part_size }
+    requires sized { (1 ≤ part_size) × (part_size ≤ 2 ^ 30) }
+    ensures ok { OnOk result (HasDone Q.start (Q.seen desk.old) (Q.seen desk.new) unit.now.ready.ticket) }
+    ensures refused { IfErr result (IsUnitRefused Q.Stage.faults Q.Fetch.faults S.Shard.faults (told_of (S.files sources.now) unit.now.ready.work) Q.start (Q.seen desk.old) (Q.seen desk.new) unit.now.ready.ticket) }
+    ensures grew { Grew Q.start (Q.seen desk.old) (Q.seen desk.new) }
+    ensures holds { Q.holds desk.new unit.now.ready.ticket }
+{
+    let ticket = unit.ready.ticket;
+    let base = unit.ready.copy.base;
+    let Work::Shard {
+        uuid,
+        shard: at,
+        index,
+        place,
+    } = &unit.ready.work
+    else {
+        unreachable!();
+    };
+    let mut shard = match sources.shard(alloc, place.as_str(), index.as_str(), at.number) {
+        Ok(shard) => shard,
+        Err(_) => return Err(UnitRefusal::Stopped(StepRefusal::Memory)),
+    };
+    match work(
+        alloc, desk, ticket, *at, *uuid, base, &mut shard, part_size, gate,
+    ) {
+        Ok(()) => Ok(()),
+        Err(trouble) => match why_of(*at, base, trouble) {
+            Ok(why) => {
+                desk.failed(alloc, ticket, why)?;
+                Err(UnitRefusal::Failed(why))
+            }
+            Err(refusal) => Err(UnitRefusal::Stopped(refusal)),
+        },
+    }
+}
