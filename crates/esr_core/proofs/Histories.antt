@@ -21,7 +21,7 @@ use Rattle.esr_core.proofs.Laws.{kept_of}
 use Rattle.esr_core.proofs.Lists.{shelf_after-append}
 
 -- `safe` never falls
-settled_above : (f : Formats) (w : World) (shelf : List Shelved) → Law f w shelf → (k n : ℕ) (t : Ticket) (s : Swap) → MaySettle f w k n t s → t.term ≡ w.term → w.safe ≤ n
+pub settled_above : (f : Formats) (w : World) (shelf : List Shelved) → Law f w shelf → (k n : ℕ) (t : Ticket) (s : Swap) → MaySettle f w k n t s → t.term ≡ w.term → w.safe ≤ n
 settled_above f w shelf l k n t s may present = ((l.lawful.sound.rooted.tickets k t may.out.there).last s (record { is = may.is; out = may.out.out; unsettled = may.unsettled }) present n may.raised).1
 
 same_safe : (w new up : World) → new ≡ up → up.safe ≡ w.safe → w.safe ≤ new.safe
@@ -59,7 +59,7 @@ turn_safe f w new shelf l (Removing m k names h) = same_safe w m _ h.new_is refl
 turn_safe f w new shelf l (Deposes m up h e) = let a : w.safe ≤ up.safe = turn_safe f w up shelf l h in let b : m.safe ≡ up.safe = ap (λ (x : World). x.safe) e in omega (arith, a, b)
 
 -- after a record swap that failed the world stays
-deposed_stays : (f : Formats) (w : World) (m : Moment) → IsDeposed w m → after f w m ≡ w
+pub deposed_stays : (f : Formats) (w : World) (m : Moment) → IsDeposed w m → after f w m ≡ w
 deposed_stays f w m d = (λ j. record (answered f w m.entry.who m.entry.step (d.refused j) m.image) { blobs = blobs_in m.image w.blobs }) ∙ (λ j. record w { blobs = same m.image d.same j })
   where
     same : (image : Option Image) → SameBlobs w image → blobs_in image w.blobs ≡ w.blobs
@@ -129,7 +129,7 @@ legal_law f size (m ∷ log) w shelf known l legal told honest =
     subst (Law f last) (sym (shelf_after-append shelf s.commands (committed f last.safe (after f w m) log)) ∙ ap (λ cs. shelf_after shelf (cs ++ committed f last.safe (after f w m) log)) (sym mine)) law
 
 -- the image after a moment is that of the world
-image_is : (f : Formats) (size : ℕ) (w : World) (m : Moment) (i : Image) → m.image ≡ Some i → Allowed f size w m → i ≡ image_of f (after f w m)
+pub image_is : (f : Formats) (size : ℕ) (w : World) (m : Moment) (i : Image) → m.image ≡ Some i → Allowed f size w m → i ≡ image_of f (after f w m)
 image_is f size w m i told a = λ j. record { blobs = blobs_told m.image told j; text = a.text i told j }
   where
     blobs_told : (image : Option Image) → image ≡ Some i → i.blobs ≡ blobs_in image w.blobs
@@ -158,11 +158,11 @@ image_kept f size log w shelf m i known l image legal told honest =
 
 -- ---- a history in two parts
 
-legal_parts : (f : Formats) (size : ℕ) (xs ys : List Moment) (w : World) → IsLegal f size w (xs ++ ys) → IsLegal f size w xs × IsLegal f size (world_from f w xs) ys
+pub legal_parts : (f : Formats) (size : ℕ) (xs ys : List Moment) (w : World) → IsLegal f size w (xs ++ ys) → IsLegal f size w xs × IsLegal f size (world_from f w xs) ys
 legal_parts f size [] ys w h = (tt, h)
 legal_parts f size (x ∷ xs) ys w h = let r = legal_parts f size xs ys (after f w x) h.1 in ((h.0, r.0), r.1)
 
-told_parts : (xs ys : List Moment) → AreTold (xs ++ ys) → AreTold xs × AreTold ys
+pub told_parts : (xs ys : List Moment) → AreTold (xs ++ ys) → AreTold xs × AreTold ys
 told_parts [] ys h = (tt, h)
 told_parts (x ∷ xs) ys h = let r = told_parts xs ys h.1 in ((h.0, r.0), r.1)
 
@@ -170,7 +170,7 @@ honest_here : (f : Formats) (w : World) (ys : List Moment) → AreHonest f w ys 
 honest_here f w [] h = h
 honest_here f w (y ∷ ys) h = h.0
 
-honest_parts : (f : Formats) (xs ys : List Moment) (w : World) → AreHonest f w (xs ++ ys) → AreHonest f w xs × AreHonest f (world_from f w xs) ys
+pub honest_parts : (f : Formats) (xs ys : List Moment) (w : World) → AreHonest f w (xs ++ ys) → AreHonest f w xs × AreHonest f (world_from f w xs) ys
 honest_parts f [] ys w h = (honest_here f w ys h, h)
 honest_parts f (x ∷ xs) ys w h = let r = honest_parts f xs ys (after f w x) h.1 in ((h.0, r.0), r.1)
 
@@ -183,7 +183,7 @@ committed_parts f safe (x ∷ xs) ys w = ap (λ cs. commands_at f safe w x.entry
     append_assoc (x ∷ xs) ys zs = ap (λ ds. x ∷ ds) (append_assoc xs ys zs)
 
 -- no later command counts in an image
-later_none : (f : Formats) (size : ℕ) (log : List Moment) (w : World) (shelf : List Shelved) (safe : ℕ) → AllKnown f → Law f w shelf → safe ≤ w.safe → IsLegal f size w log → AreTold log → AreHonest f w log → committed f safe w log ≡ []
+pub later_none : (f : Formats) (size : ℕ) (log : List Moment) (w : World) (shelf : List Shelved) (safe : ℕ) → AllKnown f → Law f w shelf → safe ≤ w.safe → IsLegal f size w log → AreTold log → AreHonest f w log → committed f safe w log ≡ []
 later_none f size [] w shelf safe known l below legal told honest = refl
 later_none f size (m ∷ log) w shelf safe known l below legal told honest =
     let s = step_law f size w shelf known l honest.0 m told.0.0 told.0.1 legal.0 in

@@ -51,6 +51,7 @@ pub mod Storing
 pub mod Accepting
 pub mod Moments
 pub mod Histories
+pub mod Left
 pub mod Example
 pub mod Naming
 pub mod Tracking

@@ -16,4 +16,5 @@ pub mod Entry
 pub mod After
 pub mod Allowed
 pub mod History
+pub mod Left
 pub mod Example

@@ -24,11 +24,12 @@ ghost use Rattle.std.specs.FinMap.{FinMap};
 ghost use Rattle.std.specs.Ordering.{nat_cmp};
 ghost use Rattle.esr_core.specs.Turns.{Turn, Turns, commands_of};
 ghost use Rattle.esr_core.specs.Doomed.{Dooms};
-ghost use Rattle.esr_core.specs.Entry.{Moment, Refused, StaleTerm};
+ghost use Rattle.esr_core.specs.Entry.{Moment, SettleStep, WasSettled, Refused, StaleTerm};
 ghost use Rattle.esr_core.specs.After.{swaps_record, after};
 ghost use Rattle.esr_core.specs.Example.{CanWrite, HasSnapshot};
 ghost use Rattle.esr_core.specs.Allowed.{SameBlobs, Allowed};
 ghost use Rattle.esr_core.specs.History.{world_from, IsLegal, AllKnown, AreTold, AreHonest, committed, Lasts};
+ghost use Rattle.esr_core.specs.Left.{cut_off, Leaves, safe_in};
 
 /// A raise keeps the law, and the generation that it begins is that of no root that is there.
 pub fn raise_is_sound()
@@ -101,6 +102,35 @@ pub fn safe_never_falls()
 pub fn each_image_is_kept()
     ensures { (f : Formats) (part_size : ℕ) (image : Image) (shelf : List Shelved) (w : World) (log rest : List Moment) (m : Moment) (i : Image) → AllKnown f → Kept f image shelf → Opened f image w → m.image ≡ Some i → IsLegal f part_size w (log ++ m ∷ rest)
         → AreTold (log ++ m ∷ rest) → AreHonest f w (log ++ m ∷ rest) → Kept f i (shelf_after shelf (committed f (world_from f w (log ++ m ∷ [])).safe w (log ++ m ∷ rest))) }
+{}
+
+/// Each image that a crash might leave over a legal history is kept for the commands of the whole history that count in it, also one that stands nowhere in the history:
+/// what a call would have left that failed, where it was answered Ok or failed otherwise. The record of the opened world can be written, as opening writes it.
+pub fn each_left_image_is_kept()
+    ensures { (f : Formats) (part_size : ℕ) (image : Image) (shelf : List Shelved) (w : World) (log : List Moment) (i : Image) → AllKnown f → Kept f image shelf → Opened f image w → ReadsBack f.cluster (record_of w) → IsLegal f part_size w log
+        → AreTold log → AreHonest f w log → Leaves f part_size w log i → Kept f i (shelf_after shelf (committed f (safe_in f i) w log)) }
+{}
+
+/// From any lawful world of a history on, whose record can be written, no image that a crash might leave has an older safe root.
+pub fn left_images_are_no_older()
+    ensures { (f : Formats) (part_size : ℕ) (shelf : List Shelved) (w : World) (log : List Moment) (i : Image) → AllKnown f → Law f w shelf → ReadsBack f.cluster (record_of w) → IsLegal f part_size w log
+        → AreTold log → AreHonest f w log → Leaves f part_size w log i → w.safe ≤ safe_in f i }
+{}
+
+/// A settle that was answered stays: in each image that a crash might leave after it its root is the safe one or lies below it.
+pub fn answered_settles_stay()
+    ensures { (f : Formats) (part_size : ℕ) (image : Image) (shelf : List Shelved) (w : World) (before rest : List Moment) (m : Moment) (t : Ticket) (n : ℕ) (i : Image) → AllKnown f → Kept f image shelf → Opened f image w
+        → IsLegal f part_size w (before ++ m ∷ rest) → AreTold (before ++ m ∷ rest) → AreHonest f w (before ++ m ∷ rest) → m.entry.step ≡ SettleStep → m.entry.reply ≡ WasSettled
+        → fin.get (world_from f w before).tickets m.entry.who ≡ Some t → t.raised ≡ Some n → Leaves f part_size (after f (world_from f w before) m) rest i → suc n ≤ safe_in f i }
+{}
+
+/// What a crash might leave over a history it might leave over a longer one; so the image of each world that a history passes, what a call there leaves that fails, and each image that the history tells.
+pub fn leaves_go_on()
+    ensures longer { (f : Formats) (part_size : ℕ) (w : World) (log rest : List Moment) (i : Image) → Leaves f part_size w log i → Leaves f part_size w (log ++ rest) i }
+    ensures later { (f : Formats) (part_size : ℕ) (w : World) (before rest : List Moment) (i : Image) → Leaves f part_size (world_from f w before) rest i → Leaves f part_size w (before ++ rest) i }
+    ensures now { (f : Formats) (part_size : ℕ) (w : World) (log rest : List Moment) (i : Image) → i ≡ image_of f (world_from f w log) → Leaves f part_size w (log ++ rest) i }
+    ensures by_call { (f : Formats) (part_size : ℕ) (w : World) (log rest : List Moment) (m : Moment) (i : Image) → Allowed f part_size (world_from f w log) (cut_off m i) → Leaves f part_size w (log ++ m ∷ rest) i }
+    ensures told { (f : Formats) (part_size : ℕ) (w : World) (log rest : List Moment) (m : Moment) (i : Image) → IsLegal f part_size w (log ++ m ∷ rest) → m.image ≡ Some i → Leaves f part_size w (log ++ m ∷ rest) i }
 {}
 
 /// A raise, settle or drop of an older term changes nothing.

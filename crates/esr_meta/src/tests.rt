@@ -105,6 +105,17 @@ fn the_first_refusal_of_an_info_decides(rt: HostRuntime) -> Result<(), Fail> {
         ),
         ("{\"bytes\":3,\"indices\":{}}", Missing { key: Files }),
         (
+            "{\"bytes\":3,\"files\":[],\"indices\":{}}",
+            WrongKind { key: Files },
+        ),
+        (
+            "{\"bytes\":3,\"files\":-1,\"indices\":{}}",
+            OutOfRange {
+                key: Files,
+                limit: 0,
+            },
+        ),
+        (
             "{\"bytes\":3,\"files\":1,\"moment\":-1}",
             Missing { key: Indices },
         ),
@@ -128,12 +139,31 @@ fn the_first_refusal_of_an_info_decides(rt: HostRuntime) -> Result<(), Fail> {
             WrongKind { key: Moment },
         ),
         (
+            "{\"bytes\":3,\"files\":1,\"indices\":[],\"moment\":7,\"state\":256}",
+            Missing { key: Name },
+        ),
+        (
+            "{\"bytes\":3,\"files\":1,\"indices\":[],\"moment\":7,\"name\":null,\"state\":256}",
+            WrongKind { key: Name },
+        ),
+        (
             "{\"bytes\":3,\"files\":1,\"indices\":[],\"moment\":18446744073709551615,\"name\":\"_s\",\"uuid\":\"\"}",
             BadName,
         ),
         (
             "{\"bytes\":3,\"files\":1,\"indices\":[],\"moment\":7,\"name\":\"s1\",\"uuid\":\"\"}",
             Missing { key: State },
+        ),
+        (
+            "{\"bytes\":3,\"files\":1,\"indices\":[],\"moment\":7,\"name\":\"s1\",\"state\":\"1\",\"uuid\":\"\"}",
+            WrongKind { key: State },
+        ),
+        (
+            "{\"bytes\":3,\"files\":1,\"indices\":[],\"moment\":7,\"name\":\"s1\",\"state\":-1,\"uuid\":\"\"}",
+            OutOfRange {
+                key: State,
+                limit: 0,
+            },
         ),
         (
             "{\"bytes\":3,\"files\":1,\"indices\":[],\"moment\":7,\"name\":\"s1\",\"state\":256,\"uuid\":\"\"}",
@@ -149,6 +179,10 @@ fn the_first_refusal_of_an_info_decides(rt: HostRuntime) -> Result<(), Fail> {
         (
             "{\"bytes\":3,\"files\":1,\"indices\":[],\"moment\":7,\"name\":\"s1\",\"state\":1}",
             Missing { key: Uuid },
+        ),
+        (
+            "{\"bytes\":3,\"files\":1,\"indices\":[],\"moment\":7,\"name\":\"s1\",\"state\":1,\"uuid\":7}",
+            WrongKind { key: Uuid },
         ),
     ];
     for (text, why) in cases {
@@ -173,12 +207,20 @@ fn the_first_refusal_of_a_list_of_indices_decides(rt: HostRuntime) -> Result<(),
             Missing { key: Name },
         ),
         (
+            "[{\"id\":\"AAAAAAAAAAEAAAAAAAAAAQ\",\"name\":7,\"shards\":0}]",
+            WrongKind { key: Name },
+        ),
+        (
             "[{\"id\":\"AAAAAAAAAAEAAAAAAAAAAQ\",\"name\":\"+a\",\"shards\":0}]",
             BadName,
         ),
         (
             "[{\"id\":\"AAAAAAAAAAEAAAAAAAAAAQ\",\"name\":\"logs\"}]",
             Missing { key: Shards },
+        ),
+        (
+            "[{\"id\":\"AAAAAAAAAAEAAAAAAAAAAQ\",\"name\":\"logs\",\"shards\":1.0}]",
+            WrongKind { key: Shards },
         ),
         (
             "[{\"id\":\"AAAAAAAAAAEAAAAAAAAAAQ\",\"name\":\"logs\",\"shards\":0}]",
@@ -222,33 +264,80 @@ fn the_first_refusal_of_a_list_of_indices_decides(rt: HostRuntime) -> Result<(),
 }
 
 #[test]
-fn the_first_refusal_of_metadata_decides(rt: HostRuntime) -> Result<(), Fail> {
-    let globals = [
+fn the_first_refusal_of_global_metadata_decides(rt: HostRuntime) -> Result<(), Fail> {
+    let cases = [
+        ("{\"moment\":7,", Json),
         ("{}", Missing { key: Moment }),
         (
             "{\"moment\":\"7\",\"name\":\"_\"}",
             WrongKind { key: Moment },
         ),
+        (
+            "{\"moment\":-1,\"name\":\"_\"}",
+            OutOfRange {
+                key: Moment,
+                limit: 0,
+            },
+        ),
         ("{\"moment\":7,\"uuid\":\"\"}", Missing { key: Name }),
+        (
+            "{\"moment\":7,\"name\":[],\"uuid\":\"\"}",
+            WrongKind { key: Name },
+        ),
         ("{\"moment\":7,\"name\":\"S\",\"uuid\":\"\"}", BadName),
+        ("{\"moment\":7,\"name\":\"s1\"}", Missing { key: Uuid }),
+        (
+            "{\"moment\":7,\"name\":\"s1\",\"uuid\":null}",
+            WrongKind { key: Uuid },
+        ),
         (
             "{\"moment\":7,\"name\":\"s1\",\"uuid\":\"AAAAAAAAAAEAAAAAAAAAAR\"}",
             BadId,
         ),
     ];
-    for (text, why) in globals {
+    for (text, why) in cases {
         assert_eq!(rt;
             global_read(rt.alloc(), text.as_bytes()).err(),
             Some(Damaged { why }),
             "{text}"
         );
     }
-    let indices = [
+    Ok(())
+}
+
+#[test]
+fn the_first_refusal_of_index_metadata_decides(rt: HostRuntime) -> Result<(), Fail> {
+    let cases = [
+        ("{\"id\":}", Json),
         ("{}", Missing { key: IdKey }),
+        ("{\"id\":7,\"name\":\"_\"}", WrongKind { key: IdKey }),
         ("{\"id\":\"\",\"name\":\"_\"}", BadId),
+        (
+            "{\"id\":\"AAAAAAAAAAEAAAAAAAAAAQ\",\"shards\":0}",
+            Missing { key: Name },
+        ),
+        (
+            "{\"id\":\"AAAAAAAAAAEAAAAAAAAAAQ\",\"name\":7,\"shards\":0}",
+            WrongKind { key: Name },
+        ),
         (
             "{\"id\":\"AAAAAAAAAAEAAAAAAAAAAQ\",\"name\":\"..\",\"shards\":0}",
             BadName,
+        ),
+        (
+            "{\"id\":\"AAAAAAAAAAEAAAAAAAAAAQ\",\"name\":\"logs\",\"uuid\":\"\"}",
+            Missing { key: Shards },
+        ),
+        (
+            "{\"id\":\"AAAAAAAAAAEAAAAAAAAAAQ\",\"name\":\"logs\",\"shards\":null,\"uuid\":\"\"}",
+            WrongKind { key: Shards },
+        ),
+        (
+            "{\"id\":\"AAAAAAAAAAEAAAAAAAAAAQ\",\"name\":\"logs\",\"shards\":0,\"uuid\":\"\"}",
+            OutOfRange {
+                key: Shards,
+                limit: 1,
+            },
         ),
         (
             "{\"id\":\"AAAAAAAAAAEAAAAAAAAAAQ\",\"name\":\"logs\",\"shards\":1025,\"uuid\":\"\"}",
@@ -258,15 +347,19 @@ fn the_first_refusal_of_metadata_decides(rt: HostRuntime) -> Result<(), Fail> {
             },
         ),
         (
-            "{\"id\":\"AAAAAAAAAAEAAAAAAAAAAQ\",\"name\":\"logs\",\"shards\":1024,\"uuid\":\"\"}",
-            BadId,
-        ),
-        (
             "{\"id\":\"AAAAAAAAAAEAAAAAAAAAAQ\",\"name\":\"logs\",\"shards\":1024}",
             Missing { key: Uuid },
         ),
+        (
+            "{\"id\":\"AAAAAAAAAAEAAAAAAAAAAQ\",\"name\":\"logs\",\"shards\":1024,\"uuid\":7}",
+            WrongKind { key: Uuid },
+        ),
+        (
+            "{\"id\":\"AAAAAAAAAAEAAAAAAAAAAQ\",\"name\":\"logs\",\"shards\":1024,\"uuid\":\"\"}",
+            BadId,
+        ),
     ];
-    for (text, why) in indices {
+    for (text, why) in cases {
         assert_eq!(rt;
             index_meta_read(rt.alloc(), text.as_bytes()).err(),
             Some(Damaged { why }),

@@ -109,6 +109,8 @@ fn other_texts_name_no_blob(rt: HostRuntime) -> Result<(), Fail> {
         "index--1",
         "index-+1",
         "index-0 ",
+        "index-0/",
+        "/index-0",
         "index-9223372036854775808",
         "index-18446744073709551616",
         "Index.latest",
@@ -119,6 +121,12 @@ fn other_texts_name_no_blob(rt: HostRuntime) -> Result<(), Fail> {
         "snap-AAAAAAAAAAEAAAAAAAAAAQ",
         "meta-AAAAAAAAAAEAAAAAAAAAAQ.data",
         "indices/AAAAAAAAAAEAAAAAAAAAAQ",
+        "indices/AAAAAAAAAAEAAAAAAAAAAQ/index-0",
+        "indices/AAAAAAAAAAEAAAAAAAAAAQ/snap-AAAAAAAAAAEAAAAAAAAAAA.dat",
+        "indices/AAAAAAAAAAEAAAAAAAAAAQ/0/",
+        "indices/AAAAAAAAAAEAAAAAAAAAAQ/0/meta-AAAAAAAAAAEAAAAAAAAAAA.dat",
+        "indices/AAAAAAAAAAEAAAAAAAAAAQ/0/index-0",
+        "indices/AAAAAAAAAAEAAAAAAAAAAQ/-1/__AAAAAAAAAAEAAAAAAAAAAg",
         "indices/AAAAAAAAAAEAAAAAAAAAAQ/1024/__AAAAAAAAAAEAAAAAAAAAAg",
         "indices/AAAAAAAAAAEAAAAAAAAAAQ/00/__AAAAAAAAAAEAAAAAAAAAAg",
         "indices/AAAAAAAAAAEAAAAAAAAAAQ/0/__AAAAAAAAAAEAAAAAAAAAAg.part",
@@ -126,6 +134,7 @@ fn other_texts_name_no_blob(rt: HostRuntime) -> Result<(), Fail> {
         "indices/AAAAAAAAAAEAAAAAAAAAAQ/0/__AAAAAAAAAAEAAAAAAAAAAg.part2305843009213693952",
         "indices/AAAAAAAAAAEAAAAAAAAAAQ/0/index-AAAAAAAAAAEAAAAAAAAAAg.dat",
         "tests-AAAAAAAAAAMAAAAAAAAAAA/data-w64.dat",
+        "tests-AAAAAAAAAAMAAAAAAAAAAA/data-w07.dat",
         "tests-AAAAAAAAAAMAAAAAAAAAAA/master.da",
     ] {
         assert_eq!(rt; parse_name(text.as_bytes()), None, "{text}");
@@ -169,6 +178,9 @@ fn the_first_broken_rule_of_a_name(rt: HostRuntime) -> Result<(), Fail> {
         ("ab|A", bad(2, Rule::Forbidden), bad(2, Rule::Forbidden)),
         ("a b,", bad(1, Rule::Outside), bad(1, Rule::Outside)),
         ("a\u{7f}", bad(1, Rule::Outside), bad(1, Rule::Outside)),
+        ("aé", bad(1, Rule::Outside), bad(1, Rule::Outside)),
+        ("s1 A,", bad(2, Rule::Outside), bad(2, Rule::Outside)),
+        ("s1\n", bad(2, Rule::Outside), bad(2, Rule::Outside)),
         (".", None, bad(0, Rule::Dots)),
         ("..", None, bad(0, Rule::Dots)),
         ("...", None, None),
@@ -179,6 +191,29 @@ fn the_first_broken_rule_of_a_name(rt: HostRuntime) -> Result<(), Fail> {
         assert_eq!(rt; snap.err(), of_snap, "snapshot {text}");
         assert_eq!(rt; index.err(), of_index, "index {text}");
     }
+    Ok(())
+}
+
+#[test]
+fn ten_printed_bytes_stand_in_no_name(rt: HostRuntime) -> Result<(), Fail> {
+    let forbidden = [",", "#", "\\", "/", "*", "?", "\"", "<", ">", "|"];
+    for byte in forbidden {
+        let text = format!(in rt.alloc(); "a{byte}")?;
+        let wanted = bad(1, Rule::Forbidden);
+        assert_eq!(rt;
+            SnapName::new(rt.alloc(), text.as_str()).err(),
+            wanted,
+            "{text}"
+        );
+        assert_eq!(rt;
+            IndexName::new(rt.alloc(), text.as_str()).err(),
+            wanted,
+            "{text}"
+        );
+    }
+    let others = "!$%&'()+-.0123456789:;=@[]^_`abcdefghijklmnopqrstuvwxyz{}~";
+    assert!(rt; SnapName::new(rt.alloc(), others).is_ok());
+    assert!(rt; IndexName::new(rt.alloc(), others).is_ok());
     Ok(())
 }
 

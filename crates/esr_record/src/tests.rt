@@ -196,6 +196,17 @@ fn the_first_refusal_of_a_record_decides(rt: HostRuntime) -> Result<(), Fail> {
             Missing { key: Safe },
         ),
         (
+            "{\"ops\":[],\"pending\":3,\"safe\":\"3\",\"term\":-1}",
+            WrongKind { key: Safe },
+        ),
+        (
+            "{\"ops\":[],\"pending\":3,\"safe\":9223372036854775808,\"term\":-1}",
+            OutOfRange {
+                key: Safe,
+                limit: most,
+            },
+        ),
+        (
             "{\"ops\":[],\"pending\":3,\"safe\":-2,\"term\":-1}",
             OutOfRange {
                 key: Safe,
@@ -212,6 +223,10 @@ fn the_first_refusal_of_a_record_decides(rt: HostRuntime) -> Result<(), Fail> {
         (
             "{\"ops\":[],\"pending\":3,\"safe\":3}",
             Missing { key: Term },
+        ),
+        (
+            "{\"ops\":[],\"pending\":3,\"safe\":3,\"term\":null}",
+            WrongKind { key: Term },
         ),
         (
             "{\"ops\":[],\"pending\":3,\"safe\":3,\"term\":-1}",
@@ -249,6 +264,10 @@ fn the_first_refusal_of_an_op_decides(rt: HostRuntime) -> Result<(), Fail> {
             Missing { key: Indices },
         ),
         (
+            "{\"indices\":7,\"kind\":\"create\",\"moment\":-1}",
+            WrongKind { key: Indices },
+        ),
+        (
             "{\"indices\":[{\"id\":\"\"}],\"kind\":\"create\",\"moment\":-1}",
             BadId,
         ),
@@ -272,6 +291,10 @@ fn the_first_refusal_of_an_op_decides(rt: HostRuntime) -> Result<(), Fail> {
             Missing { key: Moment },
         ),
         (
+            "{\"indices\":[],\"kind\":\"create\",\"moment\":\"7\",\"name\":\"_\"}",
+            WrongKind { key: Moment },
+        ),
+        (
             "{\"indices\":[],\"kind\":\"clone\",\"moment\":-1,\"name\":\"_\"}",
             OutOfRange {
                 key: Moment,
@@ -281,6 +304,10 @@ fn the_first_refusal_of_an_op_decides(rt: HostRuntime) -> Result<(), Fail> {
         (
             "{\"indices\":[],\"kind\":\"create\",\"moment\":7,\"op\":0}",
             Missing { key: Name },
+        ),
+        (
+            "{\"indices\":[],\"kind\":\"create\",\"moment\":7,\"name\":7,\"op\":0}",
+            WrongKind { key: Name },
         ),
         (
             "{\"indices\":[],\"kind\":\"create\",\"moment\":7,\"name\":\"_\",\"op\":0}",
@@ -299,12 +326,33 @@ fn the_first_refusal_of_an_op_decides(rt: HostRuntime) -> Result<(), Fail> {
             Missing { key: Uuid },
         ),
         (
+            "{\"indices\":[],\"kind\":\"create\",\"moment\":7,\"name\":\"s1\",\"op\":1,\"uuid\":1}",
+            WrongKind { key: Uuid },
+        ),
+        (
+            "{\"indices\":[],\"kind\":\"create\",\"moment\":7,\"name\":\"s1\",\"op\":1,\"uuid\":\"\"}",
+            BadId,
+        ),
+        (
             "{\"indices\":[],\"kind\":\"clone\",\"moment\":7,\"name\":\"s1\",\"op\":1,\"uuid\":\"\"}",
             Missing { key: Source },
         ),
         (
+            "{\"indices\":[],\"kind\":\"clone\",\"moment\":7,\"name\":\"s1\",\"op\":1,\"source\":1}",
+            WrongKind { key: Source },
+        ),
+        (
             "{\"indices\":[],\"kind\":\"clone\",\"moment\":7,\"name\":\"s1\",\"op\":1,\"source\":\"\"}",
             BadId,
+        ),
+        (
+            "{\"indices\":[],\"kind\":\"clone\",\"moment\":7,\"name\":\"s1\",\"op\":1,\"source\":\"AAAAAAAAAAEAAAAAAAAAAQ\"}",
+            Missing { key: Uuid },
+        ),
+        ("{\"kind\":\"delete\",\"uuids\":7}", Missing { key: Op }),
+        (
+            "{\"kind\":\"delete\",\"op\":1.0,\"uuids\":7}",
+            WrongKind { key: Op },
         ),
         (
             "{\"kind\":\"delete\",\"op\":4611686018427387905}",
@@ -330,6 +378,7 @@ fn the_first_refusal_of_an_op_decides(rt: HostRuntime) -> Result<(), Fail> {
             "{\"kind\":\"delete\",\"op\":1,\"uuids\":[\"AAAAAAAAAAEAAAAAAAAAAQ\",\"AAAAAAAAAAEAAAAAAAAAAQ\",1]}",
             Duplicate,
         ),
+        ("{\"kind\":\"cleanup\"},7", Missing { key: Op }),
         (
             "{\"kind\":\"cleanup\",\"op\":5},{\"kind\":\"cleanup\",\"op\":5}",
             OutOfRange { key: Op, limit: 5 },

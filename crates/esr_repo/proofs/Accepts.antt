@@ -1,22 +1,20 @@
 -- A command that is asked for.
-use Rattle.std.proofs.Common.{◌≡◌, ℕ, suc, ◌+◌, ◌^◌, ◌<◌, ◌≤◌, true, false, List, length, map, Option, Some, None, Result, Ok, Err, IfErr, IsErrAnd, refl, sym, ap, ◌∙◌, subst, arith, nat_cmp}
-use Rattle.std.specs.FinMap.{FinMap}
+use Rattle.std.proofs.Common.{◌≡◌, ℕ, suc, ◌+◌, ◌^◌, ◌<◌, ◌≤◌, true, List, map, Some, None, refl, sym, ap, ◌∙◌, subst, arith}
 use Rattle.std.specs.FinMap as fin
 use Rattle.esr_model.specs.Kept.{first_id}
-use Rattle.esr_core.specs.World.{World, Op, Deletion, record_ops, ledger_of, record_of}
+use Rattle.esr_core.specs.World.{World, Deletion, record_ops, ledger_of}
 use Rattle.esr_core.specs.Entry.{Asked, Snapshot, AskStep, Accepted, CleanupRunning, NameInUse, TooMany, IdsSpent, Moment}
 use Rattle.esr_core.specs.After.{asked}
 use Rattle.esr_core.specs.Allowed.{NoCleanup, IsNameOf, IsUnused, open_count, Accepting, Cleaning, Used, Full, AskSpent}
-use Rattle.esr_core.specs.Tracked.{Tracked, Named}
 use Rattle.esr_record.specs.Record.{Record}
 use Rattle.esr_root.specs.Root.{Root}
 use Rattle.esr_formats.specs.Roots.{root_of}
 use Rattle.esr_formats.specs.Clusters.{op_of, cluster_of}
 use Rattle.esr_progress.specs.Asked.{IsAskable}
 use Rattle.esr_progress.specs.Plan.{Plan, IsPlanOf, IsAskedIn}
-use Rattle.esr_progress.specs.Accepting.{drawn_by, MayAccept, IsAccepted, TextsAreWritable, name_asked}
+use Rattle.esr_progress.specs.Accepting.{drawn_by, MayAccept, IsAccepted, name_asked}
 use Rattle.esr_progress.specs.declared.command.Accepted.{Accepted as CodeAccepted}
-use Rattle.esr_desk.specs.Start.{Start, formats_of, world_of}
+use Rattle.esr_desk.specs.Start.{Start, world_of}
 use Rattle.esr_repo.specs.May.{MaySwap, MayRefuse}
 use Rattle.esr_repo.proofs.Swapping.{cluster_from}
 

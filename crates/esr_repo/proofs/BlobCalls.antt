@@ -1,5 +1,5 @@
 -- Entries of steps that call the container for a blob.
-use Rattle.std.proofs.Common.{◌≡◌, ◌⊎◌, ℕ, Bool, true, false, cond, List, [], ◌∷◌, ◌++◌, Option, Some, None, Result, Ok, Err, IsSome, IfSome, refl, sym, ap, ◌∙◌, subst, inl, inr, nat_cmp, Ordering, Less, Equal, Greater, is_eq, true≢false}
+use Rattle.std.proofs.Common.{◌≡◌, ◌⊎◌, ℕ, ◌≤◌, Bool, true, false, cond, List, [], ◌∷◌, ◌++◌, Option, Some, None, Result, Ok, Err, IsSome, IfSome, refl, sym, ap, ◌∙◌, subst, inl, inr, nat_cmp, Ordering, Less, Equal, Greater, is_eq, true≢false}
 use Rattle.std.specs.Prelude.{option_map, if◌then◌else◌}
 use Rattle.std.specs.Ordering.{eq_by_cmp}
 use Rattle.std.specs.Cmp.{nat_cmp_total, eq_by_cmp_equiv}
@@ -11,10 +11,11 @@ use Rattle.esr_model.specs.Values.{Bytes, ReadsBack, Formats}
 use Rattle.esr_model.specs.Image.{Blobs, Image, IsStored}
 use Rattle.esr_core.specs.World.{World, Ticket, record_of}
 use Rattle.esr_core.specs.Steps.{noting}
-use Rattle.esr_core.specs.Entry.{BeginStep, CommitStep, LatestStep, FetchStep, WasBegun, WasDone, WasThere, WasReplaced, WasFetched, WasAbsent, Refused, DepotFault, NameTaken, Entry, Moment}
+use Rattle.esr_core.specs.Entry.{Reply, BeginStep, CommitStep, LatestStep, FetchStep, WasBegun, WasDone, WasThere, WasReplaced, WasFetched, WasAbsent, Refused, DepotFault, NameTaken, Entry, Moment}
 use Rattle.esr_core.specs.After.{with_given, change, told_blob, committing, fetching, swaps_record, is_latest, tried, answered, blobs_in, after}
 use Rattle.esr_core.specs.Allowed.{Allows, Told, IsMetadata, Allowed}
 use Rattle.esr_core.specs.Allowed as allowed
+use Rattle.esr_core.specs.Left.{Leaves}
 use Rattle.esr_depot.specs.declared.error.CallError.{CallError}
 use Rattle.esr_depot.specs.declared.error.CallError.TheVariants.{Memory, Failed}
 use Rattle.esr_depot.specs.declared.depot.Commit.{Commit}
@@ -75,24 +76,30 @@ pub record IsCall (old new : Look) (s : Start) (seen : List Moment) (e : Entry) 
   pub goes : Goes old new e
   pub tells : TellsSo new s.tells
   pub allowed : Allowed (formats_of s) s.part_size (world_of s seen) (record { entry = e; image = image_now new })
+  -- a crash might have left what it might have left before, or what this entry leaves
+  pub left : (t : ℕ) (i : Held) → t ≤ old.clock → new.since t i → old.since t i ⊎ Leaves (formats_of s) s.part_size (world_of s seen) (record { entry = e; image = image_now new } ∷ []) (image_of i)
 
 -- one entry was added, with what is kept then
-pub record Made (new : Look) (s : Start) (clock : ℕ) (es : List Entry) (k : Kept) (d : Option ℕ) (seen : List Moment) (e : Entry) : Type 0 where
-  pub added : Added s seen (log_of new clock es) e.who e.step e.reply
+pub record Made (old new : Look) (s : Start) (clock : ℕ) (es es' : List Entry) (k : Kept) (d : Option ℕ) (seen : List Moment) (e : Entry) : Type 0 where
+  pub more : es' ≡ es ++ e ∷ []
+  pub call : IsCall old new s seen e
+  pub added : Added s seen (log_of new clock es') e.who e.step e.reply
   pub image_is : added.image ≡ image_now new
-  pub repo : IsRepo new s clock es k d
+  pub repo : IsRepo new s clock es' k d
 
 pub more_is : (es mid es' : List Entry) (e : Entry) → Pushed es mid es' e → es' ≡ es ++ e ∷ []
 more_is es mid es' e p = p.pushed ∙ ap (λ (x : List Entry). x ++ e ∷ []) p.reserved
 
 -- the entry is added to the history
 pub made : (old new : Look) (s : Start) (clock : ℕ) (es es' : List Entry) (k k' : Kept) (d d' : Option ℕ) (seen : List Moment) (e : Entry)
-    → Before old s clock es k d seen → es' ≡ es ++ e ∷ [] → IsCall old new s seen e → IsRepo new s clock es' k' d' → Made new s clock es' k' d' seen e
+    → Before old s clock es k d seen → es' ≡ es ++ e ∷ [] → IsCall old new s seen e → IsRepo new s clock es' k' d' → Made old new s clock es es' k' d' seen e
 made old new s clock es es' k k' d d' seen e b more c repo =
     let m : Moment = record { entry = e; image = image_now new } in
     let grown : log_of new clock es' ≡ seen ++ m ∷ [] =
     ap (log_of new clock) more ∙ log_goes old new clock es e b.repo.bounded b.repo.clock_is c.goes ∙ ap (λ (l : List Moment). l ++ m ∷ []) b.view in
     record {
+      more = more;
+      call = c;
       added =
           record {
             image = image_now new;
@@ -188,19 +195,13 @@ tells_stay old new tells t h = record { untold = λ n. go (now old) refl n; told
     go None e n = t.untold e
     go (Some i) e n = absurd (some_none (h.told i e).0 (sym (h.told i e).1 ∙ n))
 
-pub held_now : (l : Look) (image : Image) → image_now l ≡ Some image → (j : Held) × (now l ≡ Some j) × (image_of j ≡ image)
-held_now l image e = go (now l) refl e
-  where
-    go : (o : Option Held) → now l ≡ o → option_map image_of o ≡ Some image → (j : Held) × (now l ≡ Some j) × (image_of j ≡ image)
-    go None n q = absurd (some_none image (sym q))
-    go (Some j) n q = (j, n, some_same (image_of j) image q)
+pub held_of : (o : Option Held) (image : Image) → option_map image_of o ≡ Some image → (j : Held) × (o ≡ Some j) × (image_of j ≡ image)
+held_of None image q = absurd (some_none image (sym q))
+held_of (Some j) image q = (j, refl, some_same (image_of j) image q)
 
-pub told_now : (l : Look) (P : Blobs → Type 0) → ((i : Held) → now l ≡ Some i → P i.blobs) → Told (image_now l) P
-told_now l P h = go (now l) refl
-  where
-    go : (o : Option Held) → now l ≡ o → Told (option_map image_of o) P
-    go None e = tt
-    go (Some i) e = h i e
+pub told_of : (o : Option Held) (P : Blobs → Type 0) → ((i : Held) → o ≡ Some i → P i.blobs) → Told (option_map image_of o) P
+told_of None P h = tt
+told_of (Some i) P h = h i refl
 
 -- the text of a name, and that it reads back
 names_text : (s : Start) (nm : BlobName) → name_kind.text nm ≡ (formats_of s).names.text nm
@@ -236,63 +237,12 @@ told_known f (Some i) nm = refl
 
 -- ---- a call of a step that doesn't swap the record
 
-module _ {old : Look} {s : Start} {clock : ℕ} {es : List Entry} {k : Kept} {d : Option ℕ} {seen : List Moment} (b : Before old s clock es k d seen) (new : Look) where
+module _ {old : Look} {s : Start} {clock : ℕ} {es : List Entry} {k : Kept} {d : Option ℕ} {seen : List Moment} (b : Before old s clock es k d seen) where
   steady : IsSteady s seen old
   steady = steady_now old s clock es k d seen b.repo b.view
 
   blobs_are : (i : Held) → now old ≡ Some i → i.blobs ≡ (world_of s seen).blobs
   blobs_are i e = ap (λ (x : Image). x.blobs) (steady.image i e)
-
-  module _ (e : Entry) (noswap : swaps_record e.step ≡ false) where
-    abbrev here : Moment
-    here = record { entry = e; image = image_now new }
-
-    same_record : record_of (after (formats_of s) (world_of s seen) here) ≡ record_of (world_of s seen)
-    same_record = b.laws.record_stays (formats_of s) (world_of s seen) here noswap
-
-    text_then : TextStays (now old) (now new) → (image : Image) → image_now new ≡ Some image → image.text ≡ Some ((formats_of s).cluster.text (record_of (after (formats_of s) (world_of s seen) here)))
-    text_then h image is =
-        let x = held_now new image is in
-        let y = was_told (now old) (now new) h x.0 x.1 in
-        ap (λ (z : Image). z.text) (sym x.2) ∙ y.2
-        ∙ text_same s seen old steady (image_of y.0) (ap (option_map image_of) y.1)
-        ∙ ap (λ r. Some ((formats_of s).cluster.text r)) (sym same_record)
-
-    call_is : (may : Change) → Passed old new may → calls e.step e.reply ≡ true → TextStays (now old) (now new)
-        → Allows (formats_of s) s.part_size (world_of s seen) e.who e.step e.reply (image_now new) → IsCall old new s seen e
-    call_is may passed called text allows =
-        record {
-          goes = goes_passed old new may e called passed;
-          tells = tells_stay old new s.tells b.repo.tells text;
-          allowed =
-              record {
-                answered = inl (b.live, allows);
-                record_back = subst (λ kind. ReadsBack kind (record_of (after (formats_of s) (world_of s seen) here))) (sym (cluster_is s)) (subst (λ r. ReadsBack cluster_kind r) (sym same_record) steady.record_back);
-                text = text_then text;
-              };
-        }
-
-    -- what is kept stays
-    call_made : (mid es' : List Entry) → Pushed es mid es' e → IsCall old new s seen e → Idles (world_of s seen) (answered (formats_of s) (world_of s seen) e.who e.step e.reply (image_now new)) → Made new s clock es' k d seen e
-    call_made mid es' p c idles =
-        let more = more_is es mid es' e p in
-        let kept = kept_now old s clock es k d seen b.repo b.view b.live in
-        let w : World = answered (formats_of s) (world_of s seen) e.who e.step e.reply (image_now new) in
-        let rests = rests_answered (formats_of s) (world_of s seen) e.who e.step e.reply (image_now new) noswap in
-        made old new s clock es es' k k d d seen e b more c
-        (added_repo old new s clock es es' k k d d seen e b.laws b.repo b.view c.goes c.tells more c.allowed
-        (λ none. (
-          rests.deposed ∙ b.live,
-          record {
-            cluster = kept.1.cluster ∙ sym same_record;
-            root = kept.1.root ∙ sym rests.root;
-            plan = plan_aside w (blobs_in (image_now new) (world_of s seen).blobs) w.deposed k.plan (idles.plan k.plan kept.1.plan);
-            next = kept.1.next ∙ sym idles.next;
-          },
-        ))
-        (λ place n. absurd (some_none place (sym n ∙ kept.0))))
-
-  -- ---- a blob put
 
   contents_told : (contents : Option Bytes) (bytes : Bytes) → Holds s contents bytes → (i : Held) → now old ≡ Some i → contents ≡ Some bytes
   contents_told contents bytes h i e = h ∙ ap (λ (t : Bool). if t then Some bytes else None) (b.repo.tells.told i e)
@@ -300,230 +250,310 @@ module _ {old : Look} {s : Start} {clock : ℕ} {es : List Entry} {k : Kept} {d 
   contents_untold : (contents : Option Bytes) (bytes : Bytes) → Holds s contents bytes → now old ≡ None → contents ≡ None
   contents_untold contents bytes h e = h ∙ ap (λ (t : Bool). if t then Some bytes else None) (b.repo.tells.untold e)
 
-  module _ (name : Bytes) (contents : Option Bytes) (bytes : Bytes) (h : Holds s contents bytes) (is : now new ≡ put_known (now old) name contents) where
-    put_told : (i : Held) → now old ≡ Some i → now new ≡ Some (with_blob i name bytes)
-    put_told i e = let full = contents_told contents bytes h i e in is ∙ (λ j. put_known (e j) name (full j))
+  -- ---- the image that the call leaves, answered or not
 
-    text_put : TextStays (now old) (now new)
-    text_put = record { untold = λ n. is ∙ ap (λ (o : Option Held). put_known o name contents) n; told = λ i e. (with_blob i name bytes, put_told i e, refl) }
+  module _ (o : Option Held) where
+    module _ (e : Entry) (noswap : swaps_record e.step ≡ false) where
+      abbrev left_then : Moment
+      left_then = record { entry = e; image = option_map image_of o }
 
-    blobs_put : (j : Held) → now new ≡ Some j → j.blobs ≡ fin.insert (world_of s seen).blobs name bytes
-    blobs_put j e =
-        let x = was_told (now old) (now new) text_put j e in
-        ap (λ (y : Held). y.blobs) (some_same j (with_blob x.0 name bytes) (sym e ∙ put_told x.0 x.1)) ∙ ap (λ (m : Blobs). fin.insert m name bytes) (blobs_are x.0 x.1)
+      same_record : record_of (after (formats_of s) (world_of s seen) left_then) ≡ record_of (world_of s seen)
+      same_record = b.laws.record_stays (formats_of s) (world_of s seen) left_then noswap
 
-    name_free : IsFree (now old) name → (j : Held) → now new ≡ Some j → fin.get (world_of s seen).blobs name ≡ None
-    name_free free j e =
-        let x = was_told (now old) (now new) text_put j e in
-        ap (λ (m : Blobs). fin.get m name) (sym (blobs_are x.0 x.1)) ∙ free x.0 x.1
+      text_then : TextStays (now old) o → (image : Image) → option_map image_of o ≡ Some image → image.text ≡ Some ((formats_of s).cluster.text (record_of (after (formats_of s) (world_of s seen) left_then)))
+      text_then h image is =
+          let x = held_of o image is in
+          let y = was_told (now old) o h x.0 x.1 in
+          ap (λ (z : Image). z.text) (sym x.2) ∙ y.2
+          ∙ text_same s seen old steady (image_of y.0) (ap (option_map image_of) y.1)
+          ∙ ap (λ r. Some ((formats_of s).cluster.text r)) (sym same_record)
 
-  blob_put : (nm : BlobName) (contents : Option Bytes) (bytes : Bytes) → Holds s contents bytes → now new ≡ put_known (now old) ((formats_of s).names.text nm) contents
-      → told_blob (formats_of s) (image_now new) nm ≡ contents
-  blob_put nm contents bytes h is = go (now old) refl
-    where
-      go : (o : Option Held) → now old ≡ o → told_blob (formats_of s) (image_now new) nm ≡ contents
-      go None e =
-          ap (λ (o : Option Held). told_blob (formats_of s) (option_map image_of o) nm) (is ∙ ap (λ (o : Option Held). put_known o ((formats_of s).names.text nm) contents) e)
-          ∙ sym (contents_untold contents bytes h e)
-      go (Some i) e =
-          ap (λ (o : Option Held). told_blob (formats_of s) (option_map image_of o) nm) (put_told ((formats_of s).names.text nm) contents bytes h is i e)
-          ∙ put_there i.blobs ((formats_of s).names.text nm) bytes
-          ∙ sym (contents_told contents bytes h i e)
+      allowed_is : TextStays (now old) o → Allows (formats_of s) s.part_size (world_of s seen) e.who e.step e.reply (option_map image_of o) → Allowed (formats_of s) s.part_size (world_of s seen) left_then
+      allowed_is text allows =
+          record {
+            answered = inl (b.live, allows);
+            record_back = subst (λ kind. ReadsBack kind (record_of (after (formats_of s) (world_of s seen) left_then))) (sym (cluster_is s)) (subst (λ r. ReadsBack cluster_kind r) (sym same_record) steady.record_back);
+            text = text_then text;
+          }
 
-  told_same : now new ≡ now old → Told (image_now new) (Same s seen)
-  told_same same = told_now new (Same s seen) (λ i e. blobs_are i (sym same ∙ e))
+    module _ (name : Bytes) (contents : Option Bytes) (bytes : Bytes) (h : Holds s contents bytes) (is : o ≡ put_known (now old) name contents) where
+      put_told : (i : Held) → now old ≡ Some i → o ≡ Some (with_blob i name bytes)
+      put_told i e = let full = contents_told contents bytes h i e in is ∙ (λ j. put_known (e j) name (full j))
 
-  -- ---- a new stage
+      text_put : TextStays (now old) o
+      text_put = record { untold = λ n. is ∙ ap (λ (x : Option Held). put_known x name contents) n; told = λ i e. (with_blob i name bytes, put_told i e, refl) }
 
-  module _ (who : ℕ) (nm : BlobName) (m : MayBegin s seen who nm) (back : ReadsBack name_kind nm) where
-    pub begin_ok : {T : Type 0} (x : T) → Called old new (λ _. SameImage) SameImage (Ok x) → (mid es' : List Entry) → Pushed es mid es' (record { who = who; step = BeginStep nm; reply = WasBegun })
-        → Made new s clock es' k d seen (record { who = who; step = BeginStep nm; reply = WasBegun })
-    begin_ok x c mid es' p =
-        let e : Entry = record { who = who; step = BeginStep nm; reply = WasBegun } in
-        let same : now new ≡ now old = c.done in
-        call_made e refl mid es' p (call_is e refl SameImage (c.passed refl) refl (text_same_image (now old) (now new) same) (m.begins (named_of s nm back) (image_now new) (told_same same))) (idles_same (world_of s seen))
+      blobs_put : (j : Held) → o ≡ Some j → j.blobs ≡ fin.insert (world_of s seen).blobs name bytes
+      blobs_put j e =
+          let x = was_told (now old) o text_put j e in
+          ap (λ (y : Held). y.blobs) (some_same j (with_blob x.0 name bytes) (sym e ∙ put_told x.0 x.1)) ∙ ap (λ (m : Blobs). fin.insert m name bytes) (blobs_are x.0 x.1)
 
-    pub begin_fault : {T : Type 0} (error : CallError) → error ≡ Failed → Called {T = T} old new (λ _. SameImage) SameImage (Err error) → (mid es' : List Entry) → Pushed es mid es' (record { who = who; step = BeginStep nm; reply = Refused DepotFault })
-        → Made new s clock es' k d seen (record { who = who; step = BeginStep nm; reply = Refused DepotFault })
-    begin_fault {T} error is c mid es' p =
-        let e : Entry = record { who = who; step = BeginStep nm; reply = Refused DepotFault } in
-        let g = failed_is {T = T} old new (λ _. SameImage) SameImage error is c in
-        let same : now new ≡ now old = g.1 in
-        call_made e refl mid es' p (call_is e refl SameImage g.0 refl (text_same_image (now old) (now new) same) (m.fails (named_of s nm back) (image_now new) (told_same same)))
-        (idles_either (world_of s seen) (tried (world_of s seen) who) (is_latest nm) (idles_tried (world_of s seen) who))
+      name_free : IsFree (now old) name → (j : Held) → o ≡ Some j → fin.get (world_of s seen).blobs name ≡ None
+      name_free free j e =
+          let x = was_told (now old) o text_put j e in
+          ap (λ (m : Blobs). fin.get m name) (sym (blobs_are x.0 x.1)) ∙ free x.0 x.1
 
-  -- ---- a blob that is committed
-
-  module _ (who : ℕ) (nm : BlobName) (contents : Option Bytes) (bytes : Bytes) (h : Holds s contents bytes) (m : MayCommit s seen who nm bytes) (back : ReadsBack name_kind nm) (text : Bytes) (named : text ≡ name_kind.text nm) where
-    abbrev name_text : Bytes
-    name_text = (formats_of s).names.text nm
-
-    text_is : text ≡ name_text
-    text_is = named ∙ names_text s nm
-
-    of_name : (r : Result Commit CallError) → Called old new (Committed text contents) (CommitMay text contents) r → Called old new (Committed name_text contents) (CommitMay name_text contents) r
-    of_name r c = subst (λ t. Called old new (Committed t contents) (CommitMay t contents) r) text_is c
-
-    told_added : now new ≡ put_known (now old) name_text contents → IsFree (now old) name_text → (i : Held) → now new ≡ Some i → IsAdded s seen nm bytes i.blobs
-    told_added is free i e = (name_free name_text contents bytes h is free i e, blobs_put name_text contents bytes h is i e)
-
-    pub commit_done : (found : Commit) → found ≡ commits.Done → Called old new (Committed text contents) (CommitMay text contents) (Ok found) → (mid es' : List Entry) → Pushed es mid es' (record { who = who; step = CommitStep nm; reply = WasDone })
-        → Made new s clock es' k d seen (record { who = who; step = CommitStep nm; reply = WasDone }) × (told_blob (formats_of s) (image_now new) nm ≡ contents)
-    commit_done found what c mid es' p =
-        let e : Entry = record { who = who; step = CommitStep nm; reply = WasDone } in
-        let c' = of_name (Ok commits.Done) (subst (λ x. Called old new (Committed text contents) (CommitMay text contents) (Ok x)) what c) in
-        let is : now new ≡ put_known (now old) name_text contents = c'.done.0 in (
-          call_made e refl mid es' p
-              (call_is e refl (CommitMay name_text contents) (c'.passed refl) refl (text_put name_text contents bytes h is) (m.commits (named_of s nm back) (image_now new) (told_now new (IsAdded s seen nm bytes) (told_added is c'.done.1))))
-              (idles_change (world_of s seen) who (committing nm (told_blob (formats_of s) (image_now new) nm)) (seat_committing nm (told_blob (formats_of s) (image_now new) nm))),
-          blob_put nm contents bytes h is,
-        )
-
-    told_there : now new ≡ now old → IsTaken (now old) name_text → (i : Held) → now new ≡ Some i → IsThere s seen nm i.blobs
-    told_there same taken i e =
-        let was : now old ≡ Some i = sym same ∙ e in
-        let found = some_of (blob i name_text) (taken i was) in (
-          (found.0, (ap (λ (x : Blobs). fin.get x name_text) (sym (blobs_are i was)) ∙ found.1, stored_is (m.commits (named_of s nm back) None tt))),
-          blobs_are i was,
-        )
-
-    pub commit_found : (found : Commit) → found ≡ commits.Exists → Called old new (Committed text contents) (CommitMay text contents) (Ok found) → IsMetadata nm → (mid es' : List Entry) → Pushed es mid es' (record { who = who; step = CommitStep nm; reply = WasThere })
-        → Made new s clock es' k d seen (record { who = who; step = CommitStep nm; reply = WasThere })
-    commit_found found what c metadata mid es' p =
-        let e : Entry = record { who = who; step = CommitStep nm; reply = WasThere } in
-        let c' = of_name (Ok commits.Exists) (subst (λ x. Called old new (Committed text contents) (CommitMay text contents) (Ok x)) what c) in
-        let same : now new ≡ now old = c'.done.0 in
-        call_made e refl mid es' p
-        (call_is e refl (CommitMay name_text contents) (c'.passed refl) refl (text_same_image (now old) (now new) same) (m.finds (named_of s nm back) metadata (image_now new) (told_now new (IsThere s seen nm) (told_there same c'.done.1))))
-        (idles_change (world_of s seen) who (λ t. noting t nm) (λ t. refl))
-
-    pub commit_taken : (found : Commit) → found ≡ commits.Exists → Called old new (Committed text contents) (CommitMay text contents) (Ok found) → (IsMetadata nm → ⊥) → (mid es' : List Entry) → Pushed es mid es' (record { who = who; step = CommitStep nm; reply = Refused (NameTaken nm) })
-        → Made new s clock es' k d seen (record { who = who; step = CommitStep nm; reply = Refused (NameTaken nm) })
-    commit_taken found what c other mid es' p =
-        let e : Entry = record { who = who; step = CommitStep nm; reply = Refused (NameTaken nm) } in
-        let c' = of_name (Ok commits.Exists) (subst (λ x. Called old new (Committed text contents) (CommitMay text contents) (Ok x)) what c) in
-        let same : now new ≡ now old = c'.done.0 in
-        call_made e refl mid es' p
-        (call_is e refl (CommitMay name_text contents) (c'.passed refl) refl (text_same_image (now old) (now new) same) (m.taken (named_of s nm back) other (image_now new) (told_now new (IsThere s seen nm) (told_there same c'.done.1))))
-        (idles_same (world_of s seen))
-
-    abbrev Left : Blobs → Type 0
-    Left blobs = Same s seen blobs ⊎ IsAdded s seen nm bytes blobs
-
-    commit_left : CommitMay name_text contents (now old) (now new) → TextStays (now old) (now new) × Told (image_now new) Left
-    commit_left (inl same) = (text_same_image (now old) (now new) same, told_now new Left (λ i e. inl (blobs_are i (sym same ∙ e))))
-    commit_left (inr put) = (text_put name_text contents bytes h put.0, told_now new Left (λ i e. inr (told_added put.0 put.1 i e)))
-
-    pub commit_fault : (error : CallError) → error ≡ Failed → Called old new (Committed text contents) (CommitMay text contents) (Err error) → (mid es' : List Entry) → Pushed es mid es' (record { who = who; step = CommitStep nm; reply = Refused DepotFault })
-        → Made new s clock es' k d seen (record { who = who; step = CommitStep nm; reply = Refused DepotFault })
-    commit_fault error is c mid es' p =
-        let e : Entry = record { who = who; step = CommitStep nm; reply = Refused DepotFault } in
-        let g = failed_is old new (Committed name_text contents) (CommitMay name_text contents) error is (of_name (Err error) c) in
-        let left = commit_left g.1 in
-        call_made e refl mid es' p (call_is e refl (CommitMay name_text contents) g.0 refl left.0 (m.fails (named_of s nm back) (image_now new) left.1)) (idles_same (world_of s seen))
-
-  -- ---- `index.latest` is replaced
-
-  module _ (who : ℕ) (contents : Option Bytes) (bytes : Bytes) (h : Holds s contents bytes) (m : MayReplace s seen who bytes) (back : ReadsBack name_kind Latest) (text : Bytes) (named : text ≡ name_kind.text Latest) where
-    abbrev latest_text : Bytes
-    latest_text = (formats_of s).names.text Latest
-
-    of_latest : (r : Result (Unit {0}) CallError) → Called old new (λ _. Replaced text contents) (ReplaceMay text contents) r → Called old new (λ _. Replaced latest_text contents) (ReplaceMay latest_text contents) r
-    of_latest r c = subst (λ t. Called old new (λ _. Replaced t contents) (ReplaceMay t contents) r) (named ∙ names_text s Latest) c
-
-    idles_latest : Idles (world_of s seen) (tried (world_of s seen) who)
-    idles_latest = idles_tried (world_of s seen) who
-
-    pub replace_ok : (x : Unit {0}) → Called old new (λ _. Replaced text contents) (ReplaceMay text contents) (Ok x) → (mid es' : List Entry) → Pushed es mid es' (record { who = who; step = LatestStep; reply = WasReplaced })
-        → Made new s clock es' k d seen (record { who = who; step = LatestStep; reply = WasReplaced })
-    replace_ok x c mid es' p =
-        let e : Entry = record { who = who; step = LatestStep; reply = WasReplaced } in
-        let c' = of_latest (Ok x) c in
-        let is : now new ≡ put_known (now old) latest_text contents = c'.done in
-        call_made e refl mid es' p
-        (call_is e refl (ReplaceMay latest_text contents) (c'.passed refl) refl (text_put latest_text contents bytes h is) (m.puts (named_of s Latest back) (image_now new) (told_now new (IsPut s seen Latest bytes) (blobs_put latest_text contents bytes h is))))
-        idles_latest
-
-    abbrev Rest : Blobs → Type 0
-    Rest blobs = Same s seen blobs ⊎ IsPut s seen Latest bytes blobs
-
-    replace_left : ReplaceMay latest_text contents (now old) (now new) → TextStays (now old) (now new) × Told (image_now new) Rest
-    replace_left (inl same) = (text_same_image (now old) (now new) same, told_now new Rest (λ i e. inl (blobs_are i (sym same ∙ e))))
-    replace_left (inr put) = (text_put latest_text contents bytes h put, told_now new Rest (λ i e. inr (blobs_put latest_text contents bytes h put i e)))
-
-    pub replace_fault : (error : CallError) → error ≡ Failed → Called {T = Unit {0}} old new (λ _. Replaced text contents) (ReplaceMay text contents) (Err error) → (mid es' : List Entry) → Pushed es mid es' (record { who = who; step = LatestStep; reply = Refused DepotFault })
-        → Made new s clock es' k d seen (record { who = who; step = LatestStep; reply = Refused DepotFault })
-    replace_fault error is c mid es' p =
-        let e : Entry = record { who = who; step = LatestStep; reply = Refused DepotFault } in
-        let g = failed_is {T = Unit {0}} old new (λ _. Replaced latest_text contents) (ReplaceMay latest_text contents) error is (of_latest (Err error) c) in
-        let left = replace_left g.1 in
-        call_made e refl mid es' p (call_is e refl (ReplaceMay latest_text contents) g.0 refl left.0 (m.fails (named_of s Latest back) (image_now new) left.1)) idles_latest
-
-  -- ---- a blob that is fetched
-
-  module _ (who : ℕ) (nm : BlobName) (m : MayFetch s seen who nm) (back : ReadsBack name_kind nm) (text : Bytes) (named : text ≡ name_kind.text nm) where
-    abbrev fetched_text : Bytes
-    fetched_text = (formats_of s).names.text nm
-
-    told_found : (found : Option Bytes) → now new ≡ now old → ((i : Held) → now old ≡ Some i → blob i fetched_text ≡ found) → (i : Held) → now new ≡ Some i → IsFound s seen nm found i.blobs
-    told_found found same is i e =
-        let was : now old ≡ Some i = sym same ∙ e in
-        (ap (λ (x : Blobs). fin.get x fetched_text) (sym (blobs_are i was)) ∙ is i was, blobs_are i was)
-
-    pub fetch_found : {F : Type 0} (o : Option F) (x : F) → o ≡ Some x → IfSome o (λ _. IsTaken (now old) text) → Called old new (λ _. SameImage) SameImage (Ok o) → (mid es' : List Entry) → Pushed es mid es' (record { who = who; step = FetchStep nm; reply = WasFetched })
-        → Made new s clock es' k d seen (record { who = who; step = FetchStep nm; reply = WasFetched })
-    fetch_found o x is taken c mid es' p =
-        let e : Entry = record { who = who; step = FetchStep nm; reply = WasFetched } in
-        let c' = subst (λ o. Called old new (λ _. SameImage) SameImage (Ok o)) is c in
-        let same : now new ≡ now old = c'.done in
-        let there : IsTaken (now old) fetched_text = subst (λ t. IsTaken (now old) t) (named ∙ names_text s nm) (subst (λ o. IfSome o (λ _. IsTaken (now old) text)) is taken) in
-        call_made e refl mid es' p
-        (call_is e refl SameImage (c'.passed refl) refl (text_same_image (now old) (now new) same)
-        (m.fetches (named_of s nm back) (image_now new)
-        (told_now new (λ blobs. (bytes : Bytes) × IsFound s seen nm (Some bytes) blobs) (λ i q.
-        let was : now old ≡ Some i = sym same ∙ q in
-        let found = some_of (blob i fetched_text) (there i was) in
-        (found.0, (ap (λ (y : Blobs). fin.get y fetched_text) (sym (blobs_are i was)) ∙ found.1, blobs_are i was))))))
-        (idles_change (world_of s seen) who (fetching nm (told_blob (formats_of s) (image_now new) nm)) (seat_fetching nm (told_blob (formats_of s) (image_now new) nm)))
-
-    -- what can be read is what is told
-    pub fetch_told : now new ≡ now old → (left : Option Bytes) → left ≡ blob_known (now old) text → told_blob (formats_of s) (image_now new) nm ≡ left
-    fetch_told same left is =
-        ap (λ (o : Option Held). told_blob (formats_of s) (option_map image_of o) nm) same
-        ∙ told_known (formats_of s) (now old) nm
-        ∙ ap (blob_known (now old)) (sym (named ∙ names_text s nm))
-        ∙ sym is
-
-    pub fetch_left : {F : Type 0} (left : F → Option Bytes) (o : Option F) (x : F) → o ≡ Some x → IfSome o (λ f. left f ≡ blob_known (now old) text) → left x ≡ blob_known (now old) text
-    fetch_left left o x is h = subst (λ o. IfSome o (λ f. left f ≡ blob_known (now old) text)) is h
-
-    pub fetch_bytes : {F : Type 0} (o : Option F) (x : F) → o ≡ Some x → IfSome o (λ _. IsTaken (now old) text) → (left : Option Bytes) → left ≡ blob_known (now old) text → (bytes : Bytes) × (left ≡ (if s.tells then Some bytes else None))
-    fetch_bytes o x what there left is = go (now old) refl
+    blob_put : (nm : BlobName) (contents : Option Bytes) (bytes : Bytes) → Holds s contents bytes → o ≡ put_known (now old) ((formats_of s).names.text nm) contents
+        → told_blob (formats_of s) (option_map image_of o) nm ≡ contents
+    blob_put nm contents bytes h is = go (now old) refl
       where
-        taken : IsTaken (now old) text
-        taken = subst (λ o. IfSome o (λ _. IsTaken (now old) text)) what there
-
-        go : (o : Option Held) → now old ≡ o → (bytes : Bytes) × (left ≡ (if s.tells then Some bytes else None))
-        go None e = ([], is ∙ ap (λ (x : Option Held). blob_known x text) e ∙ sym (ap (λ (t : Bool). if t then Some [] else None) (b.repo.tells.untold e)))
+        go : (was : Option Held) → now old ≡ was → told_blob (formats_of s) (option_map image_of o) nm ≡ contents
+        go None e =
+            ap (λ (x : Option Held). told_blob (formats_of s) (option_map image_of x) nm) (is ∙ ap (λ (x : Option Held). put_known x ((formats_of s).names.text nm) contents) e)
+            ∙ sym (contents_untold contents bytes h e)
         go (Some i) e =
-            let found = some_of (blob i text) (taken i e) in
-            (found.0, is ∙ ap (λ (x : Option Held). blob_known x text) e ∙ found.1 ∙ sym (ap (λ (t : Bool). if t then Some found.0 else None) (b.repo.tells.told i e)))
+            ap (λ (x : Option Held). told_blob (formats_of s) (option_map image_of x) nm) (put_told ((formats_of s).names.text nm) contents bytes h is i e)
+            ∙ put_there i.blobs ((formats_of s).names.text nm) bytes
+            ∙ sym (contents_told contents bytes h i e)
 
-    pub fetch_absent : {F : Type 0} (o : Option F) → o ≡ None → IsFree (now old) text → Called old new (λ _. SameImage) SameImage (Ok o) → (mid es' : List Entry) → Pushed es mid es' (record { who = who; step = FetchStep nm; reply = WasAbsent })
-        → Made new s clock es' k d seen (record { who = who; step = FetchStep nm; reply = WasAbsent })
-    fetch_absent {F} o is free c mid es' p =
-        let e : Entry = record { who = who; step = FetchStep nm; reply = WasAbsent } in
-        let c' = subst (λ (o : Option F). Called old new (λ _. SameImage) SameImage (Ok o)) is c in
-        let same : now new ≡ now old = c'.done in
-        let free' : IsFree (now old) fetched_text = subst (λ t. IsFree (now old) t) (named ∙ names_text s nm) free in
-        call_made e refl mid es' p
-        (call_is e refl SameImage (c'.passed refl) refl (text_same_image (now old) (now new) same) (m.misses (named_of s nm back) (image_now new) (told_now new (IsFound s seen nm None) (told_found None same free'))))
-        (idles_same (world_of s seen))
+    told_same : o ≡ now old → Told (option_map image_of o) (Same s seen)
+    told_same same = told_of o (Same s seen) (λ i e. blobs_are i (sym same ∙ e))
 
-    pub fetch_fault : {T : Type 0} (error : CallError) → error ≡ Failed → Called {T = T} old new (λ _. SameImage) SameImage (Err error) → (mid es' : List Entry) → Pushed es mid es' (record { who = who; step = FetchStep nm; reply = Refused DepotFault })
-        → Made new s clock es' k d seen (record { who = who; step = FetchStep nm; reply = Refused DepotFault })
-    fetch_fault {T} error is c mid es' p =
-        let e : Entry = record { who = who; step = FetchStep nm; reply = Refused DepotFault } in
-        let g = failed_is {T = T} old new (λ _. SameImage) SameImage error is c in
-        let same : now new ≡ now old = g.1 in
-        call_made e refl mid es' p (call_is e refl SameImage g.0 refl (text_same_image (now old) (now new) same) (m.fails (named_of s nm back) (image_now new) (told_same same))) (idles_same (world_of s seen))
+  -- a call that changes nothing leaves the image of the world, also where it is cut off
+  same_cut : (m : Moment) (i : Held) → SameImage (now old) (Some i) → Leaves (formats_of s) s.part_size (world_of s seen) (m ∷ []) (image_of i)
+  same_cut m i same = inl (steady.image i (sym same))
+
+  module _ (new : Look) where
+    module _ (e : Entry) (noswap : swaps_record e.step ≡ false) where
+      abbrev here : Moment
+      here = record { entry = e; image = image_now new }
+
+      call_is : (may : Change) → Passed old new may → calls e.step e.reply ≡ true → TextStays (now old) (now new)
+          → Allows (formats_of s) s.part_size (world_of s seen) e.who e.step e.reply (image_now new)
+          → ((i : Held) → may (now old) (Some i) → Leaves (formats_of s) s.part_size (world_of s seen) (here ∷ []) (image_of i)) → IsCall old new s seen e
+      call_is may passed called text allows cut =
+          record {
+            goes = goes_passed old new may e called passed;
+            tells = tells_stay old new s.tells b.repo.tells text;
+            allowed = allowed_is (now new) e noswap text allows;
+            left = λ t i le h. elim (passed.since t i le h) [ inl was ↦ inl was | inr m ↦ inr (cut i m) ];
+          }
+
+      -- what is kept stays
+      call_made : (mid es' : List Entry) → Pushed es mid es' e → IsCall old new s seen e → Idles (world_of s seen) (answered (formats_of s) (world_of s seen) e.who e.step e.reply (image_now new)) → Made old new s clock es es' k d seen e
+      call_made mid es' p c idles =
+          let more = more_is es mid es' e p in
+          let kept = kept_now old s clock es k d seen b.repo b.view b.live in
+          let w : World = answered (formats_of s) (world_of s seen) e.who e.step e.reply (image_now new) in
+          let rests = rests_answered (formats_of s) (world_of s seen) e.who e.step e.reply (image_now new) noswap in
+          made old new s clock es es' k k d d seen e b more c
+          (added_repo old new s clock es es' k k d d seen e b.laws b.repo b.view c.goes c.tells more c.allowed
+          (λ none. (
+            rests.deposed ∙ b.live,
+            record {
+              cluster = kept.1.cluster ∙ sym (same_record (now new) e noswap);
+              root = kept.1.root ∙ sym rests.root;
+              plan = plan_aside w (blobs_in (image_now new) (world_of s seen).blobs) w.deposed k.plan (idles.plan k.plan kept.1.plan);
+              next = kept.1.next ∙ sym idles.next;
+            },
+          ))
+          (λ place n. absurd (some_none place (sym n ∙ kept.0))))
+
+    -- ---- a new stage
+
+    module _ (who : ℕ) (nm : BlobName) (m : MayBegin s seen who nm) (back : ReadsBack name_kind nm) where
+      pub begin_ok : {T : Type 0} (x : T) → Called old new (λ _. SameImage) SameImage (Ok x) → (mid es' : List Entry) → Pushed es mid es' (record { who = who; step = BeginStep nm; reply = WasBegun })
+          → Made old new s clock es es' k d seen (record { who = who; step = BeginStep nm; reply = WasBegun })
+      begin_ok x c mid es' p =
+          let e : Entry = record { who = who; step = BeginStep nm; reply = WasBegun } in
+          let same : now new ≡ now old = c.done in
+          call_made e refl mid es' p (call_is e refl SameImage (c.passed refl) refl (text_same_image (now old) (now new) same) (m.begins (named_of s nm back) (image_now new) (told_same (now new) same)) (same_cut (here e refl))) (idles_same (world_of s seen))
+
+      pub begin_fault : {T : Type 0} (error : CallError) → error ≡ Failed → Called {T = T} old new (λ _. SameImage) SameImage (Err error) → (mid es' : List Entry) → Pushed es mid es' (record { who = who; step = BeginStep nm; reply = Refused DepotFault })
+          → Made old new s clock es es' k d seen (record { who = who; step = BeginStep nm; reply = Refused DepotFault })
+      begin_fault {T} error is c mid es' p =
+          let e : Entry = record { who = who; step = BeginStep nm; reply = Refused DepotFault } in
+          let g = failed_is {T = T} old new (λ _. SameImage) SameImage error is c in
+          let same : now new ≡ now old = g.1 in
+          call_made e refl mid es' p (call_is e refl SameImage g.0 refl (text_same_image (now old) (now new) same) (m.fails (named_of s nm back) (image_now new) (told_same (now new) same)) (same_cut (here e refl)))
+          (idles_either (world_of s seen) (tried (world_of s seen) who) (is_latest nm) (idles_tried (world_of s seen) who))
+
+    -- ---- a blob that is committed
+
+    module _ (who : ℕ) (nm : BlobName) (contents : Option Bytes) (bytes : Bytes) (h : Holds s contents bytes) (m : MayCommit s seen who nm bytes) (back : ReadsBack name_kind nm) (text : Bytes) (named : text ≡ name_kind.text nm) where
+      abbrev name_text : Bytes
+      name_text = (formats_of s).names.text nm
+
+      text_is : text ≡ name_text
+      text_is = named ∙ names_text s nm
+
+      of_name : (r : Result Commit CallError) → Called old new (Committed text contents) (CommitMay text contents) r → Called old new (Committed name_text contents) (CommitMay name_text contents) r
+      of_name r c = subst (λ t. Called old new (Committed t contents) (CommitMay t contents) r) text_is c
+
+      told_added : (o : Option Held) → o ≡ put_known (now old) name_text contents → IsFree (now old) name_text → (i : Held) → o ≡ Some i → IsAdded s seen nm bytes i.blobs
+      told_added o is free i e = (name_free o name_text contents bytes h is free i e, blobs_put o name_text contents bytes h is i e)
+
+      abbrev Left : Blobs → Type 0
+      Left blobs = Same s seen blobs ⊎ IsAdded s seen nm bytes blobs
+
+      commit_left : (o : Option Held) → CommitMay name_text contents (now old) o → TextStays (now old) o × Told (option_map image_of o) Left
+      commit_left o (inl same) = (text_same_image (now old) o same, told_of o Left (λ i e. inl (blobs_are i (sym same ∙ e))))
+      commit_left o (inr put) = (text_put o name_text contents bytes h put.0, told_of o Left (λ i e. inr (told_added o put.0 put.1 i e)))
+
+      -- a commit that is cut off
+      commit_cut : (reply : Reply) (image : Option Image) (i : Held) → CommitMay name_text contents (now old) (Some i)
+          → Leaves (formats_of s) s.part_size (world_of s seen) (record { entry = record { who = who; step = CommitStep nm; reply = reply }; image = image } ∷ []) (image_of i)
+      commit_cut reply image i may =
+          let left = commit_left (Some i) may in
+          inr (inl (allowed_is (Some i) (record { who = who; step = CommitStep nm; reply = Refused DepotFault }) refl left.0 (m.fails (named_of s nm back) (Some (image_of i)) left.1)))
+
+      pub commit_done : (found : Commit) → found ≡ commits.Done → Called old new (Committed text contents) (CommitMay text contents) (Ok found) → (mid es' : List Entry) → Pushed es mid es' (record { who = who; step = CommitStep nm; reply = WasDone })
+          → Made old new s clock es es' k d seen (record { who = who; step = CommitStep nm; reply = WasDone }) × (told_blob (formats_of s) (image_now new) nm ≡ contents)
+      commit_done found what c mid es' p =
+          let e : Entry = record { who = who; step = CommitStep nm; reply = WasDone } in
+          let c' = of_name (Ok commits.Done) (subst (λ x. Called old new (Committed text contents) (CommitMay text contents) (Ok x)) what c) in
+          let is : now new ≡ put_known (now old) name_text contents = c'.done.0 in (
+            call_made e refl mid es' p
+                (call_is e refl (CommitMay name_text contents) (c'.passed refl) refl (text_put (now new) name_text contents bytes h is) (m.commits (named_of s nm back) (image_now new) (told_of (now new) (IsAdded s seen nm bytes) (told_added (now new) is c'.done.1))) (commit_cut WasDone (image_now new)))
+                (idles_change (world_of s seen) who (committing nm (told_blob (formats_of s) (image_now new) nm)) (seat_committing nm (told_blob (formats_of s) (image_now new) nm))),
+            blob_put (now new) nm contents bytes h is,
+          )
+
+      told_there : now new ≡ now old → IsTaken (now old) name_text → (i : Held) → now new ≡ Some i → IsThere s seen nm i.blobs
+      told_there same taken i e =
+          let was : now old ≡ Some i = sym same ∙ e in
+          let found = some_of (blob i name_text) (taken i was) in (
+            (found.0, (ap (λ (x : Blobs). fin.get x name_text) (sym (blobs_are i was)) ∙ found.1, stored_is (m.commits (named_of s nm back) None tt))),
+            blobs_are i was,
+          )
+
+      pub commit_found : (found : Commit) → found ≡ commits.Exists → Called old new (Committed text contents) (CommitMay text contents) (Ok found) → IsMetadata nm → (mid es' : List Entry) → Pushed es mid es' (record { who = who; step = CommitStep nm; reply = WasThere })
+          → Made old new s clock es es' k d seen (record { who = who; step = CommitStep nm; reply = WasThere })
+      commit_found found what c metadata mid es' p =
+          let e : Entry = record { who = who; step = CommitStep nm; reply = WasThere } in
+          let c' = of_name (Ok commits.Exists) (subst (λ x. Called old new (Committed text contents) (CommitMay text contents) (Ok x)) what c) in
+          let same : now new ≡ now old = c'.done.0 in
+          call_made e refl mid es' p
+          (call_is e refl (CommitMay name_text contents) (c'.passed refl) refl (text_same_image (now old) (now new) same) (m.finds (named_of s nm back) metadata (image_now new) (told_of (now new) (IsThere s seen nm) (told_there same c'.done.1))) (commit_cut WasThere (image_now new)))
+          (idles_change (world_of s seen) who (λ t. noting t nm) (λ t. refl))
+
+      pub commit_taken : (found : Commit) → found ≡ commits.Exists → Called old new (Committed text contents) (CommitMay text contents) (Ok found) → (IsMetadata nm → ⊥) → (mid es' : List Entry) → Pushed es mid es' (record { who = who; step = CommitStep nm; reply = Refused (NameTaken nm) })
+          → Made old new s clock es es' k d seen (record { who = who; step = CommitStep nm; reply = Refused (NameTaken nm) })
+      commit_taken found what c other mid es' p =
+          let e : Entry = record { who = who; step = CommitStep nm; reply = Refused (NameTaken nm) } in
+          let c' = of_name (Ok commits.Exists) (subst (λ x. Called old new (Committed text contents) (CommitMay text contents) (Ok x)) what c) in
+          let same : now new ≡ now old = c'.done.0 in
+          call_made e refl mid es' p
+          (call_is e refl (CommitMay name_text contents) (c'.passed refl) refl (text_same_image (now old) (now new) same) (m.taken (named_of s nm back) other (image_now new) (told_of (now new) (IsThere s seen nm) (told_there same c'.done.1))) (commit_cut (Refused (NameTaken nm)) (image_now new)))
+          (idles_same (world_of s seen))
+
+      pub commit_fault : (error : CallError) → error ≡ Failed → Called old new (Committed text contents) (CommitMay text contents) (Err error) → (mid es' : List Entry) → Pushed es mid es' (record { who = who; step = CommitStep nm; reply = Refused DepotFault })
+          → Made old new s clock es es' k d seen (record { who = who; step = CommitStep nm; reply = Refused DepotFault })
+      commit_fault error is c mid es' p =
+          let e : Entry = record { who = who; step = CommitStep nm; reply = Refused DepotFault } in
+          let g = failed_is old new (Committed name_text contents) (CommitMay name_text contents) error is (of_name (Err error) c) in
+          let left = commit_left (now new) g.1 in
+          call_made e refl mid es' p (call_is e refl (CommitMay name_text contents) g.0 refl left.0 (m.fails (named_of s nm back) (image_now new) left.1) (commit_cut (Refused DepotFault) (image_now new))) (idles_same (world_of s seen))
+
+    -- ---- `index.latest` is replaced
+
+    module _ (who : ℕ) (contents : Option Bytes) (bytes : Bytes) (h : Holds s contents bytes) (m : MayReplace s seen who bytes) (back : ReadsBack name_kind Latest) (text : Bytes) (named : text ≡ name_kind.text Latest) where
+      abbrev latest_text : Bytes
+      latest_text = (formats_of s).names.text Latest
+
+      of_latest : (r : Result (Unit {0}) CallError) → Called old new (λ _. Replaced text contents) (ReplaceMay text contents) r → Called old new (λ _. Replaced latest_text contents) (ReplaceMay latest_text contents) r
+      of_latest r c = subst (λ t. Called old new (λ _. Replaced t contents) (ReplaceMay t contents) r) (named ∙ names_text s Latest) c
+
+      idles_latest : Idles (world_of s seen) (tried (world_of s seen) who)
+      idles_latest = idles_tried (world_of s seen) who
+
+      abbrev Rest : Blobs → Type 0
+      Rest blobs = Same s seen blobs ⊎ IsPut s seen Latest bytes blobs
+
+      replace_left : (o : Option Held) → ReplaceMay latest_text contents (now old) o → TextStays (now old) o × Told (option_map image_of o) Rest
+      replace_left o (inl same) = (text_same_image (now old) o same, told_of o Rest (λ i e. inl (blobs_are i (sym same ∙ e))))
+      replace_left o (inr put) = (text_put o latest_text contents bytes h put, told_of o Rest (λ i e. inr (blobs_put o latest_text contents bytes h put i e)))
+
+      -- a replacement that is cut off
+      replace_cut : (reply : Reply) (image : Option Image) (i : Held) → ReplaceMay latest_text contents (now old) (Some i)
+          → Leaves (formats_of s) s.part_size (world_of s seen) (record { entry = record { who = who; step = LatestStep; reply = reply }; image = image } ∷ []) (image_of i)
+      replace_cut reply image i may =
+          let left = replace_left (Some i) may in
+          inr (inl (allowed_is (Some i) (record { who = who; step = LatestStep; reply = Refused DepotFault }) refl left.0 (m.fails (named_of s Latest back) (Some (image_of i)) left.1)))
+
+      pub replace_ok : (x : Unit {0}) → Called old new (λ _. Replaced text contents) (ReplaceMay text contents) (Ok x) → (mid es' : List Entry) → Pushed es mid es' (record { who = who; step = LatestStep; reply = WasReplaced })
+          → Made old new s clock es es' k d seen (record { who = who; step = LatestStep; reply = WasReplaced })
+      replace_ok x c mid es' p =
+          let e : Entry = record { who = who; step = LatestStep; reply = WasReplaced } in
+          let c' = of_latest (Ok x) c in
+          let is : now new ≡ put_known (now old) latest_text contents = c'.done in
+          call_made e refl mid es' p
+          (call_is e refl (ReplaceMay latest_text contents) (c'.passed refl) refl (text_put (now new) latest_text contents bytes h is) (m.puts (named_of s Latest back) (image_now new) (told_of (now new) (IsPut s seen Latest bytes) (blobs_put (now new) latest_text contents bytes h is))) (replace_cut WasReplaced (image_now new)))
+          idles_latest
+
+      pub replace_fault : (error : CallError) → error ≡ Failed → Called {T = Unit {0}} old new (λ _. Replaced text contents) (ReplaceMay text contents) (Err error) → (mid es' : List Entry) → Pushed es mid es' (record { who = who; step = LatestStep; reply = Refused DepotFault })
+          → Made old new s clock es es' k d seen (record { who = who; step = LatestStep; reply = Refused DepotFault })
+      replace_fault error is c mid es' p =
+          let e : Entry = record { who = who; step = LatestStep; reply = Refused DepotFault } in
+          let g = failed_is {T = Unit {0}} old new (λ _. Replaced latest_text contents) (ReplaceMay latest_text contents) error is (of_latest (Err error) c) in
+          let left = replace_left (now new) g.1 in
+          call_made e refl mid es' p (call_is e refl (ReplaceMay latest_text contents) g.0 refl left.0 (m.fails (named_of s Latest back) (image_now new) left.1) (replace_cut (Refused DepotFault) (image_now new))) idles_latest
+
+    -- ---- a blob that is fetched
+
+    module _ (who : ℕ) (nm : BlobName) (m : MayFetch s seen who nm) (back : ReadsBack name_kind nm) (text : Bytes) (named : text ≡ name_kind.text nm) where
+      abbrev fetched_text : Bytes
+      fetched_text = (formats_of s).names.text nm
+
+      told_found : (found : Option Bytes) → now new ≡ now old → ((i : Held) → now old ≡ Some i → blob i fetched_text ≡ found) → (i : Held) → now new ≡ Some i → IsFound s seen nm found i.blobs
+      told_found found same is i e =
+          let was : now old ≡ Some i = sym same ∙ e in
+          (ap (λ (x : Blobs). fin.get x fetched_text) (sym (blobs_are i was)) ∙ is i was, blobs_are i was)
+
+      pub fetch_found : {F : Type 0} (o : Option F) (x : F) → o ≡ Some x → IfSome o (λ _. IsTaken (now old) text) → Called old new (λ _. SameImage) SameImage (Ok o) → (mid es' : List Entry) → Pushed es mid es' (record { who = who; step = FetchStep nm; reply = WasFetched })
+          → Made old new s clock es es' k d seen (record { who = who; step = FetchStep nm; reply = WasFetched })
+      fetch_found o x is taken c mid es' p =
+          let e : Entry = record { who = who; step = FetchStep nm; reply = WasFetched } in
+          let c' = subst (λ o. Called old new (λ _. SameImage) SameImage (Ok o)) is c in
+          let same : now new ≡ now old = c'.done in
+          let there : IsTaken (now old) fetched_text = subst (λ t. IsTaken (now old) t) (named ∙ names_text s nm) (subst (λ o. IfSome o (λ _. IsTaken (now old) text)) is taken) in
+          call_made e refl mid es' p
+          (call_is e refl SameImage (c'.passed refl) refl (text_same_image (now old) (now new) same)
+          (m.fetches (named_of s nm back) (image_now new)
+          (told_of (now new) (λ blobs. (bytes : Bytes) × IsFound s seen nm (Some bytes) blobs) (λ i q.
+          let was : now old ≡ Some i = sym same ∙ q in
+          let found = some_of (blob i fetched_text) (there i was) in
+          (found.0, (ap (λ (y : Blobs). fin.get y fetched_text) (sym (blobs_are i was)) ∙ found.1, blobs_are i was))))) (same_cut (here e refl)))
+          (idles_change (world_of s seen) who (fetching nm (told_blob (formats_of s) (image_now new) nm)) (seat_fetching nm (told_blob (formats_of s) (image_now new) nm)))
+
+      -- what can be read is what is told
+      pub fetch_told : now new ≡ now old → (left : Option Bytes) → left ≡ blob_known (now old) text → told_blob (formats_of s) (image_now new) nm ≡ left
+      fetch_told same left is =
+          ap (λ (o : Option Held). told_blob (formats_of s) (option_map image_of o) nm) same
+          ∙ told_known (formats_of s) (now old) nm
+          ∙ ap (blob_known (now old)) (sym (named ∙ names_text s nm))
+          ∙ sym is
+
+      pub fetch_left : {F : Type 0} (left : F → Option Bytes) (o : Option F) (x : F) → o ≡ Some x → IfSome o (λ f. left f ≡ blob_known (now old) text) → left x ≡ blob_known (now old) text
+      fetch_left left o x is h = subst (λ o. IfSome o (λ f. left f ≡ blob_known (now old) text)) is h
+
+      pub fetch_bytes : {F : Type 0} (o : Option F) (x : F) → o ≡ Some x → IfSome o (λ _. IsTaken (now old) text) → (left : Option Bytes) → left ≡ blob_known (now old) text → (bytes : Bytes) × (left ≡ (if s.tells then Some bytes else None))
+      fetch_bytes o x what there left is = go (now old) refl
+        where
+          taken : IsTaken (now old) text
+          taken = subst (λ o. IfSome o (λ _. IsTaken (now old) text)) what there
+
+          go : (o : Option Held) → now old ≡ o → (bytes : Bytes) × (left ≡ (if s.tells then Some bytes else None))
+          go None e = ([], is ∙ ap (λ (x : Option Held). blob_known x text) e ∙ sym (ap (λ (t : Bool). if t then Some [] else None) (b.repo.tells.untold e)))
+          go (Some i) e =
+              let found = some_of (blob i text) (taken i e) in
+              (found.0, is ∙ ap (λ (x : Option Held). blob_known x text) e ∙ found.1 ∙ sym (ap (λ (t : Bool). if t then Some found.0 else None) (b.repo.tells.told i e)))
+
+      pub fetch_absent : {F : Type 0} (o : Option F) → o ≡ None → IsFree (now old) text → Called old new (λ _. SameImage) SameImage (Ok o) → (mid es' : List Entry) → Pushed es mid es' (record { who = who; step = FetchStep nm; reply = WasAbsent })
+          → Made old new s clock es es' k d seen (record { who = who; step = FetchStep nm; reply = WasAbsent })
+      fetch_absent {F} o is free c mid es' p =
+          let e : Entry = record { who = who; step = FetchStep nm; reply = WasAbsent } in
+          let c' = subst (λ (o : Option F). Called old new (λ _. SameImage) SameImage (Ok o)) is c in
+          let same : now new ≡ now old = c'.done in
+          let free' : IsFree (now old) fetched_text = subst (λ t. IsFree (now old) t) (named ∙ names_text s nm) free in
+          call_made e refl mid es' p
+          (call_is e refl SameImage (c'.passed refl) refl (text_same_image (now old) (now new) same) (m.misses (named_of s nm back) (image_now new) (told_of (now new) (IsFound s seen nm None) (told_found None same free'))) (same_cut (here e refl)))
+          (idles_same (world_of s seen))
+
+      pub fetch_fault : {T : Type 0} (error : CallError) → error ≡ Failed → Called {T = T} old new (λ _. SameImage) SameImage (Err error) → (mid es' : List Entry) → Pushed es mid es' (record { who = who; step = FetchStep nm; reply = Refused DepotFault })
+          → Made old new s clock es es' k d seen (record { who = who; step = FetchStep nm; reply = Refused DepotFault })
+      fetch_fault {T} error is c mid es' p =
+          let e : Entry = record { who = who; step = FetchStep nm; reply = Refused DepotFault } in
+          let g = failed_is {T = T} old new (λ _. SameImage) SameImage error is c in
+          let same : now new ≡ now old = g.1 in
+          call_made e refl mid es' p (call_is e refl SameImage g.0 refl (text_same_image (now old) (now new) same) (m.fails (named_of s nm back) (image_now new) (told_same (now new) same)) (same_cut (here e refl))) (idles_same (world_of s seen))

@@ -1,11 +1,10 @@
 -- A shard that is done: the entry that says so counts on the image of the container.
-use Rattle.std.proofs.Common.{◌≡◌, ◌⊎◌, ℕ, true, false, List, [], ◌∷◌, ◌++◌, map, Option, Some, None, option_map, refl, sym, ap, ◌∙◌, subst, inl, inr}
+use Rattle.std.proofs.Common.{◌≡◌, ℕ, false, List, [], ◌∷◌, ◌++◌, Option, Some, None, option_map, refl, sym, ap, ◌∙◌, subst, inl}
 use Rattle.std.specs.FinMap as fin
-use Rattle.esr_model.specs.Image.{Image}
 use Rattle.esr_model.specs.Values.{ShardResult, ReadsBack}
 use Rattle.esr_core.specs.World.{World, Op, Ticket, record_of}
 use Rattle.esr_core.specs.Entry.{DoneStep, HasEnded, Entry, Moment}
-use Rattle.esr_core.specs.After.{done_by, done_of, answered, blobs_in, after}
+use Rattle.esr_core.specs.After.{done_by, done_of, blobs_in, after}
 use Rattle.esr_core.specs.Allowed.{Allows, Allowed, Told, DoneBy, Doing}
 use Rattle.esr_core.specs.Tracked.{Tracked}
 use Rattle.esr_depot.specs.Image.{Image as Held}
@@ -16,7 +15,7 @@ use Rattle.esr_desk.specs.Conditions.{CanEnd}
 use Rattle.esr_desk.specs.Start.{Start, formats_of, world_of, or_no_ticket, ticket_of}
 use Rattle.esr_repo.specs.Log.{image_of, log_of}
 use Rattle.esr_repo.specs.Repo.{Kept, TellsSo, IsSteady, IsRepo}
-use Rattle.esr_repo.specs.Next.{Added, IsLive, Did}
+use Rattle.esr_repo.specs.Next.{Added, IsLive}
 use Rattle.esr_repo.specs.Laws.{Laws}
 use Rattle.esr_repo.specs.Grown.{out_is, put_there, added_ticket}
 use Rattle.esr_repo.proofs.Frames.{rests_answered}

@@ -1,5 +1,5 @@
 -- A look, and ids that are drawn.
-use Rattle.std.proofs.Common.{◌≡◌, ℕ, suc, ◌+◌, ◌<◌, ◌≤◌, true, List, map, Option, Some, None, option_map, refl, sym, ap, ◌∙◌, subst}
+use Rattle.std.proofs.Common.{◌≡◌, ℕ, suc, ◌+◌, ◌<◌, ◌≤◌, true, List, Option, Some, None, option_map, refl, sym, ap, ◌∙◌, subst}
 use Rattle.esr_model.specs.Kept.{first_id}
 use Rattle.esr_model.specs.Values.{RootSnap}
 use Rattle.esr_core.specs.World.{World, Ticket}
@@ -7,7 +7,7 @@ use Rattle.esr_core.specs.Entry.{DrawStep, LookStep, DrawnFrom, Looked, Refused,
 use Rattle.esr_core.specs.After.{change, with_given}
 use Rattle.esr_core.specs.Allowed.{MayDraw, Allows, Looking, Drawing, DrawSpent}
 use Rattle.std.specs.FinMap as fin
-use Rattle.esr_progress.specs.Plan.{Plan, Seat, seat_of, IsPlanOf}
+use Rattle.esr_progress.specs.Plan.{Plan, seat_of, IsPlanOf}
 use Rattle.esr_formats.specs.Formats.{formats}
 use Rattle.esr_repo.proofs.Stepping.{same_seats}
 use Rattle.esr_desk.specs.Conditions.{CanDraw}

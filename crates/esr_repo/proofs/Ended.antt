@@ -1,8 +1,7 @@
 -- The steps that end a ticket without a call of the container.
-use Rattle.std.proofs.Common.{◌≡◌, ◌⊎◌, ℕ, Bool, true, false, List, [], map, Option, Some, None, refl, sym, ap, ◌∙◌, subst, inl, inr}
+use Rattle.std.proofs.Common.{◌≡◌, ◌⊎◌, ℕ, Bool, true, false, List, [], Option, Some, None, refl, sym, ap, ◌∙◌, subst, inl, inr}
 use Rattle.std.proofs.lemmas.Bool.{eqb-true, eq-eqb}
 use Rattle.std.specs.FinMap as fin
-use Rattle.esr_model.specs.Image.{Image}
 use Rattle.std.specs.Prelude.{◌==◌, if◌then◌else◌}
 use Rattle.esr_model.specs.Shelf.{Shelved}
 use Rattle.esr_model.specs.Values.{SnapInfo, ShardResult}
@@ -15,7 +14,7 @@ use Rattle.esr_core.specs.Allowed.{Failing, Finishing}
 use Rattle.esr_core.specs.Tracked.{Tracked}
 use Rattle.esr_progress.specs.Plan.{Plan, IsPlanOf}
 use Rattle.esr_desk.specs.Conditions.{CanFail, CanFinish}
-use Rattle.esr_desk.specs.Start.{Start, formats_of, world_of, or_no_ticket, ticket_of}
+use Rattle.esr_desk.specs.Start.{Start, world_of, or_no_ticket, ticket_of}
 use Rattle.esr_repo.specs.Repo.{NoDeleting}
 use Rattle.esr_repo.specs.Next.{Added}
 use Rattle.esr_repo.specs.May.{MayNote}

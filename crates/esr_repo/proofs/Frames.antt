@@ -11,7 +11,7 @@ use Rattle.esr_model.specs.Image.{Image}
 use Rattle.esr_core.specs.World.{World, Op, ShardWork, Deleting, Shard, Drop, Swap, Ticket, swap, record_of}
 use Rattle.esr_core.specs.Steps.{with_ticket, noting}
 use Rattle.esr_core.specs.Entry.{Asked, Snapshot, Given, GivenShard, GivenFinalize, GivenDrop, Step, AskStep, TakeStep, DrawStep, BeginStep, CommitStep, LatestStep, FetchStep, RaiseStep, SettleStep, DoneStep, FailedStep, FinishStep, DroppedStep, ElectStep, DepotFault, Reply, Gave, WasDone, WasThere, WasFetched, HasEnded, Refused, Moment}
-use Rattle.esr_core.specs.After.{asked, taken_shard, taken_by, shard_of, with_given, committing, told_blob, fetching, raised, settled_by, settled_of, done_by, done_of, is_stale, failed_by, failed_of, dropped_of, done_step, swaps_record, has_text, fallen, is_latest, faulted, answered, after}
+use Rattle.esr_core.specs.After.{asked, taken_shard, taken_by, shard_of, with_given, committing, told_blob, fetching, settled_by, settled_of, done_by, done_of, is_stale, failed_by, failed_of, dropped_of, done_step, swaps_record, has_text, fallen, is_latest, faulted, answered, after}
 use Rattle.esr_repo.specs.Log.{asks_container, calls}
 use Rattle.esr_repo.specs.Repo.{NoDeleting}
 

@@ -4,7 +4,8 @@ pub mod Repos
 pub mod Plain
 pub mod BlobCalls
 pub mod Swaps
-pub mod Fresh
+pub mod Pasts
+pub mod Beginning
 pub mod Stepping
 pub mod Drawing
 pub mod Ended

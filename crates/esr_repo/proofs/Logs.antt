@@ -1,10 +1,9 @@
 -- Histories that go on by one moment.
-use Rattle.std.proofs.Common.{◌≡◌, ℕ, suc, ◌+◌, ◌-◌, ◌^◌, ◌≤◌, Bool, true, false, List, [], ◌∷◌, ◌++◌, length, Option, refl, sym, ap, ◌∙◌, subst, arith}
+use Rattle.std.proofs.Common.{◌≡◌, ℕ, suc, ◌-◌, ◌^◌, ◌≤◌, Bool, true, false, List, [], ◌∷◌, ◌++◌, length, Option, refl, sym, ap, ◌∙◌, subst, arith}
 use Rattle.std.specs.Prelude.{option_map, if◌then◌else◌}
 use Rattle.esr_model.specs.Image.{Image}
 use Rattle.esr_core.specs.Entry.{Entry, Moment}
-use Rattle.esr_core.specs.After.{after}
-use Rattle.esr_depot.specs.Look.{Look, now}
+use Rattle.esr_depot.specs.Look.{Look}
 use Rattle.esr_depot.specs.Calls.{up, Change, Passed, Stays}
 use Rattle.esr_repo.specs.Log.{image_of, image_at, calls, tick, ticks, log_from, log_of}
 
@@ -18,12 +17,20 @@ tick_rises t true h = up_rises t h
 tick_rises t false h = (omega arith, h)
 
 -- the clock doesn't go back, and stays at the last value of a u64
-ticks_rise : (t : ℕ) (es : List Entry) → t ≤ 2 ^ 64 - 1 → t ≤ ticks t es
+pub ticks_rise : (t : ℕ) (es : List Entry) → t ≤ 2 ^ 64 - 1 → t ≤ ticks t es
 ticks_rise t [] h = omega arith
 ticks_rise t (e ∷ es) h =
     let one = tick_rises t (calls e.step e.reply) h in
     let rest = ticks_rise (tick t e) es one.1 in
     omega (arith, one.0, rest)
+
+pub ticks_within : (t : ℕ) (es : List Entry) → t ≤ 2 ^ 64 - 1 → ticks t es ≤ 2 ^ 64 - 1
+ticks_within t [] h = h
+ticks_within t (e ∷ es) h = ticks_within (tick t e) es (tick_rises t (calls e.step e.reply) h).1
+
+pub ticks-both : (t : ℕ) (xs ys : List Entry) → ticks t (xs ++ ys) ≡ ticks (ticks t xs) ys
+ticks-both t [] ys = refl
+ticks-both t (x ∷ xs) ys = ticks-both (tick t x) xs ys
 
 pub ticks-append : (t : ℕ) (es : List Entry) (e : Entry) → ticks t (es ++ e ∷ []) ≡ tick (ticks t es) e
 ticks-append t [] e = refl
@@ -36,7 +43,11 @@ log-append : (at : ℕ → Option Image) (t : ℕ) (es : List Entry) (e : Entry)
 log-append at t [] e = refl
 log-append at t (x ∷ es) e = ap (λ (l : List Moment). record { entry = x; image = at (tick t x) } ∷ l) (log-append at (tick t x) es e)
 
-log_same : (at at' : ℕ → Option Image) (t : ℕ) (es : List Entry) → t ≤ 2 ^ 64 - 1 → ((k : ℕ) → k ≤ ticks t es → at' k ≡ at k) → log_from at' t es ≡ log_from at t es
+pub log-both : (at : ℕ → Option Image) (t : ℕ) (xs ys : List Entry) → log_from at t (xs ++ ys) ≡ log_from at t xs ++ log_from at (ticks t xs) ys
+log-both at t [] ys = refl
+log-both at t (x ∷ xs) ys = ap (λ (l : List Moment). record { entry = x; image = at (tick t x) } ∷ l) (log-both at (tick t x) xs ys)
+
+pub log_same : (at at' : ℕ → Option Image) (t : ℕ) (es : List Entry) → t ≤ 2 ^ 64 - 1 → ((k : ℕ) → k ≤ ticks t es → at' k ≡ at k) → log_from at' t es ≡ log_from at t es
 log_same at at' t [] h same = refl
 log_same at at' t (x ∷ es) h same =
     let one = tick_rises t (calls x.step x.reply) h in

@@ -1,5 +1,5 @@
 -- Entries of steps that swap the cluster record.
-use Rattle.std.proofs.Common.{◌≡◌, ◌⊎◌, ℕ, Bool, true, false, List, Option, Some, None, Ok, Err, refl, sym, ap, ◌∙◌, subst, inl, inr, nat_cmp, Ordering, Less, Equal, Greater, is_eq, true≢false}
+use Rattle.std.proofs.Common.{◌≡◌, ◌⊎◌, ℕ, ◌≤◌, Bool, true, false, List, [], ◌∷◌, Option, Some, None, Ok, Err, refl, sym, ap, ◌∙◌, subst, inl, inr, nat_cmp, Ordering, Less, Equal, Greater, is_eq, true≢false}
 use Rattle.std.specs.Prelude.{option_map, if◌then◌else◌}
 use Rattle.std.specs.Option.{unwrap_or}
 use Rattle.std.specs.Cmp.{eq_by_cmp_equiv}
@@ -14,13 +14,14 @@ use Rattle.esr_core.specs.Entry.{Snapshot, Step, AskStep, RaiseStep, SettleStep,
 use Rattle.esr_core.specs.After.{with_given, done_step, swaps_record, text_is, has_text, settled_by, settled_of, dropped_of, fallen, faulted, answered, blobs_in, after}
 use Rattle.esr_core.specs.Allowed.{Accepts, Raises, Allows, SameBlobs, Told, Allowed}
 use Rattle.esr_core.specs.Allowed as allowed
+use Rattle.esr_core.specs.Left.{Leaves}
 use Rattle.esr_root.specs.Root.{Root}
 use Rattle.esr_record.specs.Record.{Record}
 use Rattle.esr_depot.specs.declared.error.CallError.{CallError}
 use Rattle.esr_depot.specs.declared.error.CallError.TheVariants.{Failed}
 use Rattle.esr_depot.specs.Image.{Image as Held, with_text, swap_known}
 use Rattle.esr_depot.specs.Look.{Look, now}
-use Rattle.esr_depot.specs.Calls.{Called}
+use Rattle.esr_depot.specs.Calls.{Passed, Called}
 use Rattle.esr_depot.specs.Changes.{Swapped, SwapMay}
 use Rattle.esr_formats.specs.Roots.{root_of}
 use Rattle.esr_formats.specs.Clusters.{cluster_of, cluster_kind}
@@ -31,7 +32,7 @@ use Rattle.esr_repo.specs.Repo.{Kept, TellsSo, IsSteady}
 use Rattle.esr_repo.specs.May.{Same, is_refused, swapped_world, MaySwap}
 use Rattle.esr_repo.proofs.Logs.{goes_passed, image_now}
 use Rattle.esr_repo.proofs.Repos.{cluster_is, plan_aside, kept_now, steady_now, text_same, added_repo}
-use Rattle.esr_repo.proofs.BlobCalls.{Before, Pushed, IsCall, Made, more_is, made, failed_is, held_now, told_now}
+use Rattle.esr_repo.proofs.BlobCalls.{Before, Pushed, IsCall, Made, more_is, made, failed_is, held_of, told_of}
 
 some_none : {A : Type 0} (x : A) → Some x ≡ None → ⊥
 some_none x e = cc
@@ -210,8 +211,56 @@ module _ {old : Look} {s : Start} {clock : ℕ} {es : List Entry} {k : Kept} {d 
   back_up : ReadsBack cluster_kind (record_of up)
   back_up = subst (λ r. ReadsBack cluster_kind r) m.cluster_is back
 
-  told_blobs : Swapping (now old) (now new) text → Told (image_now new) (Same s seen)
-  told_blobs h = told_now new (Same s seen) (λ j e. let x = was_held (now old) (now new) text h j e in x.2 ∙ blobs_are x.0 x.1)
+  told_blobs : (o : Option Held) → Swapping (now old) o text → Told (option_map image_of o) (Same s seen)
+  told_blobs o h = told_of o (Same s seen) (λ j e. let x = was_held (now old) o text h j e in x.2 ∙ blobs_are x.0 x.1)
+
+  -- ---- the image that it leaves where it fails, or is cut off
+
+  abbrev bad_entry : Entry
+  bad_entry = record { who = who; step = step; reply = Refused DepotFault }
+
+  module _ (o : Option Held) where
+    abbrev bad_moment : Moment
+    bad_moment = record { entry = bad_entry; image = option_map image_of o }
+
+    bad_world : answered (formats_of s) was who step (Refused DepotFault) (option_map image_of o) ≡ fallen (formats_of s) was up (option_map image_of o)
+    bad_world = faulted_is (formats_of s) was who step (option_map image_of o) m.swaps
+
+    bad_record : record_of (after (formats_of s) was bad_moment) ≡ record_of (fallen (formats_of s) was up (option_map image_of o))
+    bad_record = ap record_of bad_world
+
+    bad_text : Swapping (now old) o text → (image : Image) → option_map image_of o ≡ Some image → image.text ≡ Some ((formats_of s).cluster.text (record_of (after (formats_of s) was bad_moment)))
+    bad_text h image e =
+        let x = held_of o image e in
+        let y = was_held (now old) o text h x.0 x.1 in
+        let old_text : y.0.text ≡ Some ((formats_of s).cluster.text (record_of was)) = text_same s seen old steady (image_of y.0) (ap (option_map image_of) y.1) in
+        let here : image.text ≡ x.0.text = ap (λ (z : Image). z.text) (sym x.2) in
+        by here y.3 old_text
+        ∙ ap (λ (i : Option Image). Some ((formats_of s).cluster.text (record_of (fallen (formats_of s) was up i)))) (sym e)
+        ∙ ap (λ r. Some ((formats_of s).cluster.text r)) (sym bad_record)
+      where
+        by : {now_text was_text : Option Bytes} → image.text ≡ now_text → (now_text ≡ Some text) ⊎ (now_text ≡ was_text) → was_text ≡ Some ((formats_of s).cluster.text (record_of was))
+            → image.text ≡ Some ((formats_of s).cluster.text (record_of (fallen (formats_of s) was up (Some image))))
+        by here (inl new_one) old_text = text_fallen (formats_of s) up was image text (here ∙ new_one) (inl text_up)
+        by here (inr old_one) old_text = text_fallen (formats_of s) up was image ((formats_of s).cluster.text (record_of was)) (here ∙ old_one ∙ old_text) (inr refl)
+
+    bad_allowed : Swapping (now old) o text → Allowed (formats_of s) s.part_size was bad_moment
+    bad_allowed h =
+        record {
+          answered = inl (b.live, may_fail (m.allows (option_map image_of o) (told_blobs o h)) m.swaps m.answers (option_map image_of o) (told_blobs o h));
+          record_back =
+              subst (λ kind. ReadsBack kind (record_of (after (formats_of s) was bad_moment))) (sym (cluster_is s))
+              (subst (λ r. ReadsBack cluster_kind r) (sym bad_record) (back_either up was (has_text (option_map image_of o) ((formats_of s).cluster.text (record_of up))) back_up steady.record_back));
+          text = bad_text h;
+        }
+
+  swap_cut : (given : Reply) (image : Option Image) (i : Held) → SwapMay text (now old) (Some i)
+      → Leaves (formats_of s) s.part_size was (record { entry = record { who = who; step = step; reply = given }; image = image } ∷ []) (image_of i)
+  swap_cut given image i may = inr (inl (bad_allowed (Some i) (swapping_by (now old) (Some i) text may)))
+
+  swap_since : (given : Reply) → Passed old new (SwapMay text) → (t : ℕ) (i : Held) → t ≤ old.clock → new.since t i
+      → old.since t i ⊎ Leaves (formats_of s) s.part_size was (record { entry = record { who = who; step = step; reply = given }; image = image_now new } ∷ []) (image_of i)
+  swap_since given passed t i le h = elim (passed.since t i le h) [ inl before ↦ inl before | inr may ↦ inr (swap_cut given (image_now new) i may) ]
 
   -- ---- it was answered
 
@@ -229,7 +278,7 @@ module _ {old : Look} {s : Start} {clock : ℕ} {es : List Entry} {k : Kept} {d 
 
   ok_text : now new ≡ swap_known (now old) text → (image : Image) → image_now new ≡ Some image → image.text ≡ Some ((formats_of s).cluster.text (record_of (after (formats_of s) was ok_moment)))
   ok_text is image e =
-      let x = held_now new image e in
+      let x = held_of (now new) image e in
       let y = was_held (now old) (now new) text (swapping_new (now old) (now new) text is) x.0 x.1 in
       let holds : x.0 ≡ with_text y.0 text = some_same x.0 (with_text y.0 text) (sym x.1 ∙ is ∙ ap (λ (o : Option Held). swap_known o text) y.1) in
       ap (λ (z : Image). z.text) (sym x.2) ∙ ap (λ (z : Held). z.text) holds ∙ ap Some (text_up ∙ ap (λ r. (formats_of s).cluster.text r) (sym ok_record))
@@ -243,13 +292,14 @@ module _ {old : Look} {s : Start} {clock : ℕ} {es : List Entry} {k : Kept} {d 
         tells = swapping_tells old new s.tells text b.repo.tells h;
         allowed =
             record {
-              answered = inl (b.live, m.allows (image_now new) (told_blobs h));
+              answered = inl (b.live, m.allows (image_now new) (told_blobs (now new) h));
               record_back = subst (λ kind. ReadsBack kind (record_of (after (formats_of s) was ok_moment))) (sym (cluster_is s)) (subst (λ r. ReadsBack cluster_kind r) (sym ok_record) back_up);
               text = ok_text is;
             };
+        left = swap_since reply (c.passed refl);
       }
 
-  pub swap_ok : (x : Unit {0}) → Called old new (λ _. Swapped text) (SwapMay text) (Ok x) → (mid es' : List Entry) → Pushed es mid es' ok_entry → (k' : Kept) → Renews k cluster root plan next k' → Made new s clock es' k' d seen ok_entry
+  pub swap_ok : (x : Unit {0}) → Called old new (λ _. Swapped text) (SwapMay text) (Ok x) → (mid es' : List Entry) → Pushed es mid es' ok_entry → (k' : Kept) → Renews k cluster root plan next k' → Made old new s clock es es' k' d seen ok_entry
   swap_ok x c mid es' p k' new_one =
       let more = more_is es mid es' ok_entry p in
       let kept = kept_now old s clock es k d seen b.repo b.view b.live in
@@ -271,33 +321,6 @@ module _ {old : Look} {s : Start} {clock : ℕ} {es : List Entry} {k : Kept} {d 
 
   -- ---- it failed
 
-  abbrev bad_entry : Entry
-  bad_entry = record { who = who; step = step; reply = Refused DepotFault }
-
-  abbrev bad_moment : Moment
-  bad_moment = record { entry = bad_entry; image = image_now new }
-
-  bad_world : answered (formats_of s) was who step (Refused DepotFault) (image_now new) ≡ fallen (formats_of s) was up (image_now new)
-  bad_world = faulted_is (formats_of s) was who step (image_now new) m.swaps
-
-  bad_record : record_of (after (formats_of s) was bad_moment) ≡ record_of (fallen (formats_of s) was up (image_now new))
-  bad_record = ap record_of bad_world
-
-  bad_text : Swapping (now old) (now new) text → (image : Image) → image_now new ≡ Some image → image.text ≡ Some ((formats_of s).cluster.text (record_of (after (formats_of s) was bad_moment)))
-  bad_text h image e =
-      let x = held_now new image e in
-      let y = was_held (now old) (now new) text h x.0 x.1 in
-      let old_text : y.0.text ≡ Some ((formats_of s).cluster.text (record_of was)) = text_same s seen old steady (image_of y.0) (ap (option_map image_of) y.1) in
-      let here : image.text ≡ x.0.text = ap (λ (z : Image). z.text) (sym x.2) in
-      by here y.3 old_text
-      ∙ ap (λ (o : Option Image). Some ((formats_of s).cluster.text (record_of (fallen (formats_of s) was up o)))) (sym e)
-      ∙ ap (λ r. Some ((formats_of s).cluster.text r)) (sym bad_record)
-    where
-      by : {now_text was_text : Option Bytes} → image.text ≡ now_text → (now_text ≡ Some text) ⊎ (now_text ≡ was_text) → was_text ≡ Some ((formats_of s).cluster.text (record_of was))
-          → image.text ≡ Some ((formats_of s).cluster.text (record_of (fallen (formats_of s) was up (Some image))))
-      by here (inl new_one) old_text = text_fallen (formats_of s) up was image text (here ∙ new_one) (inl text_up)
-      by here (inr old_one) old_text = text_fallen (formats_of s) up was image ((formats_of s).cluster.text (record_of was)) (here ∙ old_one ∙ old_text) (inr refl)
-
   bad_call : (error : CallError) → error ≡ Failed → Called {T = Unit {0}} old new (λ _. Swapped text) (SwapMay text) (Err error) → IsCall old new s seen bad_entry
   bad_call error is c =
       let g = failed_is {T = Unit {0}} old new (λ _. Swapped text) (SwapMay text) error is c in
@@ -305,21 +328,15 @@ module _ {old : Look} {s : Start} {clock : ℕ} {es : List Entry} {k : Kept} {d 
       record {
         goes = goes_passed old new (SwapMay text) bad_entry refl g.0;
         tells = swapping_tells old new s.tells text b.repo.tells h;
-        allowed =
-            record {
-              answered = inl (b.live, may_fail (m.allows (image_now new) (told_blobs h)) m.swaps m.answers (image_now new) (told_blobs h));
-              record_back =
-                  subst (λ kind. ReadsBack kind (record_of (after (formats_of s) was bad_moment))) (sym (cluster_is s))
-                  (subst (λ r. ReadsBack cluster_kind r) (sym bad_record) (back_either up was (has_text (image_now new) ((formats_of s).cluster.text (record_of up))) back_up steady.record_back));
-              text = bad_text h;
-            };
+        allowed = bad_allowed (now new) h;
+        left = swap_since (Refused DepotFault) g.0;
       }
 
-  pub swap_fault : (error : CallError) → error ≡ Failed → Called {T = Unit {0}} old new (λ _. Swapped text) (SwapMay text) (Err error) → (mid es' : List Entry) → Pushed es mid es' bad_entry → (place : ℕ) → Made new s clock es' k (Some place) seen bad_entry
+  pub swap_fault : (error : CallError) → error ≡ Failed → Called {T = Unit {0}} old new (λ _. Swapped text) (SwapMay text) (Err error) → (mid es' : List Entry) → Pushed es mid es' bad_entry → (place : ℕ) → Made old new s clock es es' k (Some place) seen bad_entry
   swap_fault error is c mid es' p place =
       let more = more_is es mid es' bad_entry p in
       let call = bad_call error is c in
       made old new s clock es es' k k d (Some place) seen bad_entry b more call
       (added_repo old new s clock es es' k k d (Some place) seen bad_entry b.laws b.repo b.view call.goes call.tells more call.allowed
       (λ none. absurd (some_none place none))
-      (λ other n. ap (λ (y : World). y.deposed) bad_world))
+      (λ other n. ap (λ (y : World). y.deposed) (bad_world (now new))))

@@ -1,30 +1,23 @@
 -- A unit that is given.
-use Rattle.std.proofs.Common.{◌≡◌, ◌≢◌, ℕ, suc, ◌<◌, Bool, true, false, ◌&&◌, List, [], ◌∷◌, map, Option, Some, None, option_map, refl, sym, ap, ◌∙◌, subst, inl, inr}
+use Rattle.std.proofs.Common.{◌≡◌, ℕ, Bool, true, false, ◌&&◌, List, [], ◌∷◌, map, Option, Some, None, option_map, refl, sym, ap, ◌∙◌, subst, inl, inr}
 use Rattle.std.specs.Prelude.{if◌then◌else◌, ◌==◌}
 use Rattle.std.proofs.lemmas.Bool.{eqb-true}
 use Rattle.std.specs.FinMap as fin
-use Rattle.esr_names.specs.declared.ids.Id.{Id}
-use Rattle.esr_model.specs.Image.{Image, AllPairs}
-use Rattle.esr_model.specs.Shelf.{Shelved}
-use Rattle.esr_model.specs.Places.{places}
 use Rattle.esr_model.specs.Finalize.{finalized_root}
-use Rattle.esr_model.specs.Values.{Bytes, Has, IndexRef, RootSnap, RootIndex, RootData, SnapInfo, ShardResult, ReadsBack, Formats}
+use Rattle.esr_model.specs.Values.{Bytes, Has, IndexRef, RootData, SnapInfo, ShardResult, ReadsBack, Formats}
 use Rattle.esr_core.specs.World.{World, Op, ShardWork, Done, AllDone, Shard, Finalize, Drop, Ticket, info_of, shelved_of}
 use Rattle.esr_core.specs.Entry.{Given, GivenShard, GivenFinalize, GivenDrop, TakeStep, Gave, NothingReady, Moment}
 use Rattle.esr_core.specs.Ready.{ReadyFinalize, AnyReady}
 use Rattle.esr_core.specs.Steps.{shard_ticket, final_ticket}
 use Rattle.esr_core.specs.After.{shard_of, taken_shard, taken_by}
 use Rattle.esr_core.specs.Allowed.{Gives, Giving, GivingNothing}
-use Rattle.esr_core.specs.Tracked.{Tracked, IsOneIndex, Named}
+use Rattle.esr_core.specs.Tracked.{Tracked}
 use Rattle.esr_core.specs.Turns.{plain_ticket}
 use Rattle.esr_root.specs.Root.{Root}
-use Rattle.esr_meta.specs.Info.{Info}
 use Rattle.esr_formats.specs.Formats.{formats}
 use Rattle.esr_formats.specs.Ids.{number_of}
 use Rattle.esr_formats.specs.Roots.{root_of, root_kind}
 use Rattle.esr_formats.specs.Infos.{info_of_code}
-use Rattle.esr_formats.specs.Clusters.{count_of}
-use Rattle.esr_results.specs.declared.result.ShardResult.{ShardResult as CodeResult}
 use Rattle.esr_results.specs.Results.{result_of}
 use Rattle.esr_results.specs.NewRoot.{MayFinalize}
 use Rattle.esr_progress.specs.declared.unit.Work.{Work}
@@ -32,10 +25,10 @@ use Rattle.esr_progress.specs.declared.unit.Work.TheVariants as works
 use Rattle.esr_progress.specs.declared.unit.ReadyUnit.{ReadyUnit}
 use Rattle.esr_progress.specs.declared.unit.Copied.{Copied}
 use Rattle.esr_progress.specs.Plan.{Plan, IsPlanOf, IsGivenIn}
-use Rattle.esr_progress.specs.Units.{given_by, given_of, IsCopyOf, GivesWork, GivesUnit, NextUnit}
+use Rattle.esr_progress.specs.Units.{given_by, given_of, GivesWork, GivesUnit}
 use Rattle.esr_desk.specs.Start.{Start, formats_of, world_of, or_no_ticket, ticket_of}
 use Rattle.esr_desk.specs.Taken.{fresh, NewRoot, TookWork}
-use Rattle.esr_repo.specs.Given.{base_for, based, IsBased, IsRootable, IsRootFor, HasRoot}
+use Rattle.esr_repo.specs.Given.{base_for, based, IsBased, IsRootable, HasRoot}
 use Rattle.esr_repo.specs.Next.{Added}
 use Rattle.esr_repo.specs.May.{MayNote}
 use Rattle.esr_repo.specs.Grown.{put_there, added_ticket}

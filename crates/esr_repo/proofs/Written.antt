@@ -1,33 +1,33 @@
 -- The steps that call the container for a blob.
-use Rattle.std.proofs.Common.{◌≡◌, ◌≢◌, ◌⊎◌, ℕ, Bool, true, false, List, [], Option, Some, None, Result, Ok, Err, IfOk, IfErr, IfSome, OnErr, refl, sym, ap, ◌∙◌, subst, inl, inr}
+use Rattle.std.proofs.Common.{◌≡◌, ℕ, Bool, true, false, List, Option, Some, None, Result, Ok, Err, IfOk, IfSome, OnErr, refl, sym, ap, ◌∙◌, subst, inl, inr}
 use Rattle.std.specs.Prelude.{if◌then◌else◌}
 use Rattle.std.specs.FinMap as fin
 use Rattle.esr_model.specs.Image.{Image}
-use Rattle.esr_model.specs.Names.{BlobName, Root, Latest, Snap, Meta, IndexMeta, ShardSnap, ShardIndex, File, Part, TestMaster, TestNode}
+use Rattle.esr_model.specs.Names.{BlobName, Root, Latest, IndexMeta, ShardIndex}
 use Rattle.esr_model.specs.Values.{Bytes, Has, Formats}
 use Rattle.esr_core.specs.World.{World, Ticket, Work, Shard, Finalize, Deleting, Drop, Swap, swap, swap_of, metadata}
-use Rattle.esr_core.specs.Entry.{Step, BeginStep, CommitStep, LatestStep, FetchStep, WasBegun, WasDone, WasThere, WasReplaced, WasFetched, WasAbsent, Refused, DepotFault, NameTaken, Moment}
+use Rattle.esr_core.specs.Entry.{BeginStep, CommitStep, LatestStep, FetchStep, WasBegun, WasDone, WasThere, WasReplaced, WasFetched, WasAbsent, Refused, DepotFault, Moment}
 use Rattle.esr_core.specs.Steps.{noting, IsOut, SwapCommits, ShardCommits, MayCommit}
 use Rattle.esr_core.specs.Texts.{IsMetaOf}
-use Rattle.esr_core.specs.After.{change, committing, fetching, told_blob, is_latest, tried as tried_in, faulted}
+use Rattle.esr_core.specs.After.{change, committing, fetching, told_blob, is_latest, tried as tried_in}
 use Rattle.esr_core.specs.Allowed.{Commits, Refinds, Fetches, Puts, IsMetadata, Told, latest_text, Beginning, BeginningLatest, Committing, Finding, Replacing, Fetching, Missing, Taken, BeginFails, BeginLatestFails, CommitFails, ReplaceFails, FetchFails}
 use Rattle.esr_depot.specs.declared.depot.Commit.{Commit}
 use Rattle.esr_depot.specs.declared.depot.Commit.TheVariants as commits
 use Rattle.esr_desk.specs.Conditions.{CanCommit, CanPut, CanBegin, CanFetch, Holds}
 use Rattle.esr_desk.specs.Outcome.{commit_reply, fetch_reply}
-use Rattle.esr_desk.specs.Refusals.{refusal_of, told_refusal}
+use Rattle.esr_desk.specs.Refusals.{refusal_of}
 use Rattle.esr_desk.specs.Taken.{committed_by, begun_by, tried, tried_by, fetched_by}
 use Rattle.esr_desk.specs.declared.refusal.StepRefusal.{StepRefusal}
 use Rattle.esr_desk.specs.declared.refusal.StepRefusal.TheVariants as steps
 use Rattle.esr_desk.specs.declared.refusal.EntryRefusal.TheVariants as code
 use Rattle.esr_desk.specs.Start.{Start, formats_of, world_of, or_no_ticket, ticket_of}
-use Rattle.esr_repo.specs.Next.{Added, AddedOr, Did}
+use Rattle.esr_repo.specs.Next.{Did}
 use Rattle.esr_repo.specs.May.{MayBegin, MayReplace, MayFetch, IsNamed}
 use Rattle.esr_repo.specs.May.{MayCommit as StepMayCommit}
 use Rattle.esr_repo.specs.Repo.{NoDeleting}
 use Rattle.esr_repo.specs.Calls.{CommitDid, FetchDid}
 use Rattle.esr_repo.specs.Grown.{out_is, added_ticket, changed_ticket}
-use Rattle.esr_repo.proofs.Stepping.{kept_by, added_from}
+use Rattle.esr_repo.proofs.Stepping.{kept_by}
 
 -- a blob of this name and these bytes may be committed
 abbrev committable : (s : Start) (log : List Moment) (k : ℕ) (name : BlobName) (bytes : Bytes) → CanCommit s (ticket_of s log k) name bytes → IsNamed s name → Commits (formats_of s) (world_of s log) k name

@@ -15,7 +15,7 @@ use Rattle.esr_core.specs.History.{world_from, IsLegal}
 use Rattle.esr_desk.specs.Start.{Start, formats_of, world_of, Legal, no_ticket, or_no_ticket, ticket_of}
 use Rattle.esr_repo.specs.Next.{Added}
 
-world_from-append : (f : Formats) (w : World) (xs ys : List Moment) → world_from f w (xs ++ ys) ≡ world_from f (world_from f w xs) ys
+pub world_from-append : (f : Formats) (w : World) (xs ys : List Moment) → world_from f w (xs ++ ys) ≡ world_from f (world_from f w xs) ys
 world_from-append f w [] ys = refl
 world_from-append f w (x ∷ xs) ys = world_from-append f (after f w x) xs ys
 

@@ -5,5 +5,7 @@ pub mod May
 pub mod Laws
 pub mod Grown
 pub mod Calls
-pub mod Open
+pub mod Begun
+pub mod Past
+pub mod Whole
 pub mod Given

@@ -2,13 +2,9 @@
 use Rattle.std.specs.Prelude.{ℕ, Bool, true, false, List, [], ◌∷◌, Option, option_map, if◌then◌else◌}
 use Rattle.esr_model.specs.Image.{Image}
 use Rattle.esr_core.specs.Entry.{Step, AskStep, TakeStep, DrawStep, BeginStep, CommitStep, LatestStep, FetchStep, ListStep, RaiseStep, SettleStep, DoneStep, FailedStep, FinishStep, DroppedStep, ElectStep, LookStep, Reply, Refused, NameTaken, DepotFault, Entry, Moment}
-use Rattle.esr_depot.specs.Image.{Image as Held}
+pub use Rattle.esr_opening.specs.Opening.{image_of}
 use Rattle.esr_depot.specs.Look.{Look}
 use Rattle.esr_depot.specs.Calls.{up}
-
--- an image of the container, as the definitions see it
-abbrev pub image_of : Held → Image
-image_of i = record { blobs = i.blobs; text = i.text }
 
 -- the image at a moment, where it is told
 abbrev pub image_at : Look → ℕ → Option Image

@@ -7,29 +7,12 @@ use Rattle.esr_core.specs.World as core
 use Rattle.esr_core.specs.Entry.{Entry, Moment}
 use Rattle.esr_core.specs.Tracked.{Tracked}
 use Rattle.esr_core.specs.Ranked.{Ranked}
-use Rattle.esr_root.specs.Root.{Root}
-use Rattle.esr_record.specs.Record.{Record}
 use Rattle.esr_depot.specs.Image.{Image as Held}
 use Rattle.esr_depot.specs.Look.{Look, now}
-use Rattle.esr_formats.specs.Roots.{root_of}
-use Rattle.esr_formats.specs.Clusters.{cluster_of, cluster_kind}
-use Rattle.esr_progress.specs.Plan.{Plan, IsPlanOf}
+use Rattle.esr_formats.specs.Clusters.{cluster_kind}
 use Rattle.esr_desk.specs.Start.{Start, formats_of, world_of, Legal}
+pub use Rattle.esr_opening.specs.Opening.{Kept, IsKeptOf}
 use Rattle.esr_repo.specs.Log.{image_of, ticks, log_of}
-
--- what a repository keeps of the world, apart from the container
-pub record Kept : Type 0 where
-  pub cluster : Record
-  pub root : Root
-  pub plan : Plan
-  pub next : ℕ
-
--- it is that of the world
-pub record IsKeptOf (w : World) (k : Kept) : Type 0 where
-  pub cluster : cluster_of k.cluster ≡ record_of w
-  pub root : root_of k.root ≡ w.root
-  pub plan : IsPlanOf w k.plan
-  pub next : k.next ≡ w.next_id
 
 -- it was told that the container tells its image exactly where it does
 pub record TellsSo (l : Look) (tells : Bool) : Type 0 where

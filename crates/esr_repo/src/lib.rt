@@ -3,10 +3,10 @@
 
 mod accepting;
 mod asking;
+mod begun;
 mod calls;
 mod ending;
 mod kept;
-mod open;
 mod renewing;
 mod repo;
 mod steps;
@@ -15,6 +15,5 @@ mod taking;
 mod told;
 mod writing;
 
-pub use open::{OpenRefusal, Opening, open_container};
 pub use repo::Repo;
 pub use told::Told;

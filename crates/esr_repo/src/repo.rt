@@ -3,7 +3,9 @@ ghost use Rattle.std.specs.Prelude.{◌≡◌, ℕ, [], List, Option, None};
 ghost use Rattle.esr_desk.specs.Start.{Legal};
 ghost use Rattle.esr_repo.specs.Laws.{Laws};
 ghost use Rattle.esr_repo.specs.Log.{log_of};
+ghost use Rattle.esr_repo.specs.Past.{IsPast};
 ghost use Rattle.esr_repo.specs.Repo.{Kept, IsRepo};
+ghost use Rattle.esr_repo.specs.Whole.{IsWhole};
 
 use crate::Told;
 use esr_depot::Depot;
@@ -40,17 +42,17 @@ impl<D: Depot, K: Told> Model for Repo<D, K> {
     ghost coded = { Prim.hlevel (codes, blobs_code) };
 
     ghost use Rattle.esr_repo.specs.Log.{log_of};
-    ghost use Rattle.esr_repo.specs.Repo.{IsRepo};
+    ghost use Rattle.esr_repo.specs.Whole.{IsWhole};
 
     ghost view = { λ r. log_of (D.look r.depot) K.clock r.history.items };
 
-    ghost invariant = { λ r. IsRepo (D.look r.depot) K.start K.clock r.history.items
+    ghost invariant = { λ r. IsWhole (D.look r.depot) K.start K.clock K.past r.history.items
         (record { cluster = r.cluster; root = r.root; plan = r.progress; next = r.next.number }) r.deposed };
 }
 
 impl<D: Depot, K: Told> Repo<D, K> {
     /// A container to which nothing was done yet.
-    pub fn new(
+    pub(crate) fn new(
         alloc: Global,
         depot: D,
         cluster: ClusterRecord,
@@ -58,7 +60,7 @@ impl<D: Depot, K: Told> Repo<D, K> {
         next: Id,
         progress: Progress,
     ) -> Repo<D, K>
-        requires { IsRepo (D.look depot) K.start K.clock []
+        requires { IsWhole (D.look depot) K.start K.clock K.past []
             (record { cluster = cluster; root = root; plan = progress; next = next.number }) None }
         ensures { result ≡ [] }
     {
@@ -77,6 +79,7 @@ impl<D: Depot, K: Told> Repo<D, K> {
     /// The container and the history of its steps.
     pub fn into_parts(self) -> (D, History)
         ensures repo { (k : Kept) × (deposed : Option ℕ) × IsRepo (D.look result.0) K.start K.clock result.1 k deposed }
+        ensures past { IsPast K.start K.clock K.past (D.look result.0) result.1 }
         ensures log { log_of (D.look result.0) K.clock result.1 ≡ self }
     {
         let Repo {
@@ -106,5 +109,6 @@ impl<D: Depot, K: Told> Repo<D, K> {
         esr_core::each_step_is_tracked();
         esr_core::each_step_is_ranked();
         esr_core::the_record_stays();
+        esr_core::leaves_go_on();
     }
 }

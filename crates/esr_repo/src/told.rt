@@ -2,6 +2,7 @@
 ghost use Rattle.std.specs.Prelude.{ℕ, List, [], false};
 ghost use Rattle.std.specs.FinMap as fin;
 ghost use Rattle.esr_core.specs.World.{opened, no_record, no_root};
+ghost use Rattle.esr_depot.specs.Image.{Image};
 ghost use Rattle.esr_desk.specs.Start.{Start};
 
 use std::marker::Brand;
@@ -12,10 +13,15 @@ pub trait Told {
 
     /// The clock of the container at the start.
     ghost clock: { ℕ };
+
+    /// What a crash before the start might have left, since a moment.
+    ghost past: { ℕ → Image → Type 0 };
 }
 
 impl Told for Brand {
     ghost start = { record { known = λ _ _ _. false; told = λ _ _ _. []; part_size = 1; tells = false; world = opened fin.empty no_record no_root } };
 
     ghost clock = { 0 };
+
+    ghost past = { λ _ _. ⊥ };
 }

@@ -117,9 +117,11 @@ fn the_first_reason_at_the_top_decides(rt: HostRuntime) -> Result<(), Fail> {
 fn the_first_reason_in_a_snapshot_decides(rt: HostRuntime) -> Result<(), Fail> {
     for (snaps, why) in [
         ("3", missing(Key::Name)),
+        ("{}", missing(Key::Name)),
         ("{\"uuid\":3}", missing(Key::Name)),
         ("{\"name\":3,\"uuid\":3}", wrong_kind(Key::Name)),
         ("{\"name\":\"_s\",\"uuid\":3}", Reason::BadName),
+        ("{\"name\":\"\"}", Reason::BadName),
         ("{\"name\":\"s1\",\"state\":1}", missing(Key::Uuid)),
         ("{\"name\":\"s1\",\"state\":300}", missing(Key::Uuid)),
         (
@@ -132,6 +134,10 @@ fn the_first_reason_in_a_snapshot_decides(rt: HostRuntime) -> Result<(), Fail> {
         ),
         (
             "{\"name\":\"s1\",\"uuid\":\"AAAAAAAAAAEAAAAAAAAAAQ\",\"state\":1.0}",
+            wrong_kind(Key::State),
+        ),
+        (
+            "{\"name\":\"s1\",\"uuid\":\"AAAAAAAAAAEAAAAAAAAAAQ\",\"state\":null}",
             wrong_kind(Key::State),
         ),
         (
@@ -154,6 +160,10 @@ fn the_first_reason_in_a_snapshot_decides(rt: HostRuntime) -> Result<(), Fail> {
             "{\"name\":\"s1\",\"uuid\":\"AAAAAAAAAAEAAAAAAAAAAQ\"},{\"name\":\"s1\"}",
             missing(Key::Uuid),
         ),
+        (
+            "{\"name\":\"s1\",\"uuid\":\"AAAAAAAAAAEAAAAAAAAAAQ\"},{\"name\":\"s1\",\"uuid\":\"AAAAAAAAAAEAAAAAAAAAAQ\",\"state\":256}",
+            out_of_range(Key::State, 255),
+        ),
     ] {
         let text = format!(in rt.alloc();
             "{{\"snapshots\":[{snaps}],\"indices\":{{\"a\":{{}}}}}}"
@@ -168,10 +178,22 @@ fn the_first_reason_in_an_index_decides(rt: HostRuntime) -> Result<(), Fail> {
     let good = "\"id\":\"AAAAAAAAAAEAAAAAAAAAAQ\"";
     for (indices, why) in [
         ("\"_a\":{}", Reason::BadName),
+        ("\"\":{ID}", Reason::BadName),
+        ("\"..\":{ID}", Reason::BadName),
         ("\"a\":{}", missing(Key::Id)),
+        ("\"a\":3", missing(Key::Id)),
+        ("\"a\":{\"snapshots\":3}", missing(Key::Id)),
         ("\"a\":{\"id\":3}", wrong_kind(Key::Id)),
         ("\"a\":{\"id\":\"3\"}", Reason::BadId),
+        (
+            "\"a\":{\"id\":\"AAAAAAAAAAEAAAAAAAAAAR\",\"snapshots\":3}",
+            Reason::BadId,
+        ),
         ("\"a\":{ID}", missing(Key::Snapshots)),
+        (
+            "\"a\":{ID,\"shard_generations\":3}",
+            missing(Key::Snapshots),
+        ),
         (
             "\"a\":{ID,\"snapshots\":{},\"shard_generations\":3}",
             wrong_kind(Key::Snapshots),
@@ -189,15 +211,31 @@ fn the_first_reason_in_an_index_decides(rt: HostRuntime) -> Result<(), Fail> {
             wrong_kind(Key::ShardGenerations),
         ),
         (
+            "\"a\":{ID,\"snapshots\":[],\"shard_generations\":null}",
+            wrong_kind(Key::ShardGenerations),
+        ),
+        (
             "\"a\":{ID,\"snapshots\":[],\"shard_generations\":[3]}",
             wrong_kind(Key::ShardGenerations),
         ),
         (
-            "\"a\":{ID,\"snapshots\":[],\"shard_generations\":[\"3\"]}",
+            "\"a\":{ID,\"snapshots\":[],\"shard_generations\":[null,\"_deleted\",{},\"3\"]}",
+            wrong_kind(Key::ShardGenerations),
+        ),
+        (
+            "\"a\":{ID,\"snapshots\":[],\"shard_generations\":[\"3\",3]}",
+            Reason::BadId,
+        ),
+        (
+            "\"a\":{ID,\"snapshots\":[\"AAAAAAAAAAEAAAAAAAAAAQ\",\"AAAAAAAAAAEAAAAAAAAAAQ\"],\"shard_generations\":[\"_old\"]}",
             Reason::BadId,
         ),
         (
             "\"b\":{ID,\"snapshots\":[]},\"a\":{ID,\"snapshots\":[]}",
+            Reason::Duplicate,
+        ),
+        (
+            "\"a\":{ID,\"snapshots\":[]},\"b\":{ID,\"snapshots\":[\"AAAAAAAAAAEAAAAAAAAAAg\"]}",
             Reason::Duplicate,
         ),
         (
@@ -217,6 +255,44 @@ fn the_first_reason_in_an_index_decides(rt: HostRuntime) -> Result<(), Fail> {
         let text = format!(in rt.alloc(); "{{\"snapshots\":[],\"indices\":{{{indices}}}}}")?;
         assert_eq!(rt; reason(rt.alloc(), text.as_str())?, why, "{indices}");
     }
+    Ok(())
+}
+
+#[test]
+fn a_root_of_elasticsearch_is_refused_for_what_it_lacks(rt: HostRuntime) -> Result<(), Fail> {
+    let uuid = "\"uuid\":\"AAAAAAAAAAEAAAAAAAAAAA\",";
+    let numbered =
+        "\"indices\":{\"logs\":{\"id\":\"AAAAAAAAAAEAAAAAAAAAAQ\",\"snapshots\":[\"AAAAAAAAAAEAAAAAAAAAAA\"],\"shard_generations\":[\"3\"]}}";
+    for (uuid, indices, why) in [
+        ("", "\"indices\":{}", missing(Key::Uuid)),
+        ("", numbered, missing(Key::Uuid)),
+        (uuid, numbered, Reason::BadId),
+        (uuid, "\"index_ids\":{}", missing(Key::Indices)),
+        ("", "\"index_ids\":{}", missing(Key::Indices)),
+    ] {
+        let text = format!(in rt.alloc();
+            "{{\"min_version\":\"7.12.0\",\"snapshots\":[{{\"name\":\"s1\",{uuid}\"state\":1,\"index_metadata_lookup\":{{}}}}],{indices}}}"
+        )?;
+        assert_eq!(rt; reason(rt.alloc(), text.as_str())?, why, "{text}");
+    }
+    Ok(())
+}
+
+/// An empty root, with a member that is no root's: an empty list in so many lists.
+fn with_lists(alloc: Global, depth: usize) -> Result<String, Fail> {
+    let open = "[".repeat(alloc, depth)?;
+    let close = "]".repeat(alloc, depth)?;
+    let text = format!(in alloc; "{{\"indices\":{{}},\"more\":{open}{close},\"snapshots\":[]}}")?;
+    Ok(text)
+}
+
+#[test]
+fn a_root_of_more_than_127_levels_is_no_json(rt: HostRuntime) -> Result<(), Fail> {
+    let most = with_lists(rt.alloc(), 126)?;
+    let empty = "{\"indices\":{},\"snapshots\":[]}";
+    assert_eq!(rt; answer(rt.alloc(), most.as_str())?.as_str(), empty);
+    let more = with_lists(rt.alloc(), 127)?;
+    assert_eq!(rt; reason(rt.alloc(), more.as_str())?, Reason::Json);
     Ok(())
 }
 

@@ -1,74 +1,86 @@
 -- How a run ends.
-use Rattle.std.proofs.Common.{◌≡◌, ◌⊎◌, ℕ, Bool, true, List, [], Option, Some, None, IfSome, is_some, inl, inr, refl, sym, ap, ◌∙◌, subst}
+use Rattle.std.proofs.Common.{◌≡◌, ◌⊎◌, ℕ, ◌<◌, Bool, true, List, [], ◌∷◌, Option, Some, None, is_some, inl, inr, refl, sym, ap, ◌∙◌, subst}
 use Rattle.std.specs.Prelude.{unwrap_or}
-use Rattle.std.specs.FinMap as fin
 use Rattle.std.specs.Io.KnownBytes.{Appends}
 use Rattle.esr_model.specs.Values.{Bytes}
 use Rattle.esr_core.specs.Entry.{Entry}
-use Rattle.esr_core.specs.World.{record_of}
+use Rattle.esr_core.specs.World.{World}
 use Rattle.esr_depot.specs.Image.{Image as Held}
 use Rattle.esr_depot.specs.Look.{Look, now}
-use Rattle.esr_depot.specs.Calls.{Stays}
-use Rattle.esr_formats.specs.Clusters.{cluster_kind}
+use Rattle.esr_depot.specs.Calls.{HasCause, Stays}
+use Rattle.esr_formats.specs.Clusters.{cluster_of}
+use Rattle.esr_formats.specs.Roots.{root_of}
 use Rattle.esr_desk.specs.Start.{Start}
 use Rattle.esr_desk.specs.Sources.{TellsFiles}
-use Rattle.esr_repo.specs.Repo.{Kept, TellsSo}
-use Rattle.esr_repo.specs.Open.{IsOpening, IsFresh, IsOpenRefused, first_world}
-use Rattle.esr_repo.specs.declared.open.OpenRefusal.{OpenRefusal}
-use Rattle.esr_repo.specs.declared.open.OpenRefusal.TheVariants as refusals
+use Rattle.esr_opening.specs.Opening.{Kept, IsFault, IsOpening, IsOpenRefused}
+use Rattle.esr_opening.specs.declared.refusal.OpenRefusal.{OpenRefusal}
+use Rattle.esr_opening.specs.declared.refusal.OpenRefusal.TheVariants as refusals
+use Rattle.esr_repo.specs.Past.{IsPast}
 use Rattle.esr_script.specs.Jobs.{job_of}
 use Rattle.esr_script.specs.declared.item.ScriptLine.{ScriptLine}
+use Rattle.esr_run.specs.declared.fault.Fault.{Fault}
 use Rattle.esr_run.specs.Asked.{run_size}
-use Rattle.esr_run.specs.Ends.{RunEnd, BadWords, Unreadable, BadScript, BadLine, OpenFault, HasRecord, NoRecord, Carried}
-use Rattle.esr_run.specs.Start.{Telling, start_of, LegalRun}
+use Rattle.esr_run.specs.Ends.{RunEnd, BadWords, Unreadable, BadScript, BadLine, OpenFault, Damaged, NoTerm, Carried}
+use Rattle.esr_run.specs.Faults.{of_opening, listed, fetch_of, HasFetch}
+use Rattle.esr_run.specs.Start.{Telling, formats_by, start_of, LegalRun}
+use Rattle.esr_run.specs.Laws.{Laws}
 use Rattle.esr_run.specs.Stops.{StoppedBy}
 use Rattle.esr_run.specs.Causes.{Given, IsScript, IsOpenedRun, IsUntouched, IsUnopened, IsRunOf, IsCauseOf, IsOpenCause, IsVerdict, IsTold, IsPrinted, IsEndOf, end_of_refusal}
-
-some_none : {A : Type 0} (x : A) → None ≡ Some x → ⊥
-some_none x e = cc
-
-some_same : {A : Type 0} (x y : A) → Some x ≡ Some y → x ≡ y
-some_same x y e = cc
+use Rattle.esr_run.proofs.Worlds.{begun_world, begun_is, start_is}
+use Rattle.esr_run.proofs.Keeping.{untouched_kept, refused_kept, every_image_kept, answers_stay}
 
 -- ---- what is told at the start
 
-pub tells_files : (files : Telling) (size : ℕ) (l : Look) (is_there : Bytes → Bytes → ℕ → Option Bool) → TellsFiles (start_of files size l) files is_there
-tells_files files size l is_there place name number known = inl (by (files place name number) known)
+pub tells_files : (files : Telling) (size : ℕ) (l : Look) (w : World) (is_there : Bytes → Bytes → ℕ → Option Bool) → TellsFiles (start_of files size l w) files is_there
+tells_files files size l w is_there place name number known = inl (by (files place name number) known)
   where
     by : (o : Option (List (Bytes × Bytes))) → is_some o ≡ true → o ≡ Some (unwrap_or o [])
     by None e = absurd cc
     by (Some x) e = refl
 
-pub tells_so : (l : Look) → TellsSo l (is_some (now l))
-tells_so l = record { untold = λ e. ap is_some e; told = λ i e. ap is_some e }
+-- ---- what became of the container
 
-abbrev IsFirst : Held → Type 0
-IsFirst i = (i.blobs ≡ fin.empty) × (i.text ≡ Some (cluster_kind.text (record_of first_world)))
+stays : (l : Look) → Stays l l
+stays l = record { clock = refl; at = λ k. refl; since = λ t i left. left; sure = refl }
 
--- the container has the first record, where it tells
-pub told_now : (before after : Look) (k : Kept) → IsOpening before after k → IfSome (now after) IsFirst
-told_now before after k o = go (now before) refl
-  where
-    go : (x : Option Held) → now before ≡ x → IfSome (now after) IsFirst
-    go None e = subst (λ (y : Option Held). IfSome y IsFirst) (sym (o.untold e)) tt
-    go (Some i) e = let told = (o.told i e).1 in subst (λ (y : Option Held). IfSome y IsFirst) (sym told.1) (told.2, told.3)
+pub untouched : {S F H T : Type 0} (files : Telling) (before after : Look) (history : List Entry) (faults : List (Fault S F H T))
+    → after ≡ before → ((i : Held) → before.since before.clock i → now before ≡ Some i) → history ≡ [] → faults ≡ [] → IsUntouched files before after history faults
+untouched files before after history faults same only empty none =
+    subst (λ (l : Look). IsUntouched files before l history faults) (sym same)
+    (record { stays = stays before; every_image = untouched_kept (formats_by files) before only; empty = empty; none = none })
 
-pub fresh_before : (before after : Look) (k : Kept) → IsOpening before after k → (i : Held) → now before ≡ Some i → IsFresh i
-fresh_before before after k o i e = (o.told i e).0
+-- the container is handed on
+pub refused_at : {F : Type 0} (count : F → ℕ) (before mid after : Look) (old_faults mid_faults new_faults : ℕ) (refusal : OpenRefusal F) → after ≡ mid → new_faults ≡ mid_faults
+    → IsOpenRefused count before mid old_faults mid_faults refusal → IsOpenRefused count before after old_faults new_faults refusal
+refused_at count before mid after old_faults mid_faults new_faults refusal same faults refused =
+    subst (λ (l : Look). IsOpenRefused count before l old_faults new_faults refusal) (sym same) (subst (λ (n : ℕ). IsOpenRefused count before mid old_faults n refusal) (sym faults) refused)
 
--- it tells as it told before
-pub same_start : (files : Telling) (size : ℕ) (before after : Look) (k : Kept) → IsOpening before after k → start_of files size after ≡ start_of files size before
-same_start files size before after k o = ap (λ (b : Bool). let s : Start = record (start_of files size before) { tells = b } in s) (tells (now before) refl)
-  where
-    tells : (x : Option Held) → now before ≡ x → is_some (now after) ≡ is_some (now before)
-    tells None e = ap is_some (o.untold e) ∙ sym (ap is_some e)
-    tells (Some i) e = ap is_some (o.told i e).1.1 ∙ sym (ap is_some e)
+pub unopened : {S F H T : Type 0} (laws : Laws) (count : F → ℕ) (files : Telling) (before after : Look) (old_faults new_faults : ℕ) (history : List Entry) (faults : List (Fault S F H T)) (refusal : OpenRefusal F)
+    → IsOpenRefused count before after old_faults new_faults refusal → history ≡ [] → faults ≡ listed (fetch_of refusal) → IsUnopened count files before after old_faults new_faults history faults
+unopened laws count files before after old_faults new_faults history faults refusal refused empty are =
+    record { refusal = refusal; refused = refused; every_image = refused_kept laws files count before after old_faults new_faults refusal refused; empty = empty; faults_are = are }
 
-pub opened_run : (files : Telling) (size : ℕ) (before mid after : Look) (k : Kept) (history : List Entry) → IsOpening before mid k → LegalRun (start_of files size mid) after history → IsOpenedRun files size before after history
-opened_run files size before mid after k history o legal = record {
-  fresh = fresh_before before mid k o;
-  legal = subst (λ (s : Start). LegalRun s after history) (same_start files size before mid k o) legal;
-}
+-- what is told of the history by the container alone, as the run tells it
+abbrev Begun : Telling → ℕ → Look → Kept → Start
+Begun files size mid k = start_of files size mid (begun_world (now mid) (cluster_of k.cluster) (root_of k.root))
+
+pub opened_run : {S F H T : Type 0} (laws : Laws) (files : Telling) (size : ℕ) (before mid after : Look) (k : Kept) (history : List Entry) (faults : List (Fault S F H T)) → IsOpening before mid k
+    → LegalRun (Begun files size mid k) mid.clock after history → IsPast (Begun files size mid k) mid.clock mid.since after history → faults ≡ [] → IsOpenedRun files size before after history faults
+opened_run laws files size before mid after k history faults o legal past none =
+    let is = start_is files size before mid k o in
+    let run = subst (λ (s : Start). LegalRun s mid.clock after history) is legal in
+    let was = subst (λ (s : Start). IsPast s mid.clock mid.since after history) is past in
+    record {
+      world = _;
+      clock = mid.clock;
+      later = o.left.later;
+      opened = λ i e. o.opens i _ _ e;
+      order = o.order;
+      legal = run;
+      every_image = every_image_kept laws files size before mid after k history o run was;
+      answered = answers_stay laws files size before mid after k history o run was;
+      none = none;
+    }
 
 -- ---- verdicts
 
@@ -76,10 +88,10 @@ pub verdict_carried : (status : ℕ) (text : Bytes) (lines : List ScriptLine) (h
 verdict_carried status text lines history Cause (inl wanting) cause = inl wanting
 verdict_carried status text lines history Cause (inr told) cause = inr (record { end = Carried lines history; status_is = told.0; text_is = told.1; cause = cause })
 
-pub verdict_opening : (status : ℕ) (text : Bytes) (files : Telling) (size : ℕ) (before after : Look) (old_faults new_faults : ℕ) (lines : List ScriptLine) (history : List Entry)
-    → IsTold status text (Some (Carried lines history)) → IsOpenedRun files size before after history → IsVerdict status text (IsOpenCause files size before after old_faults new_faults lines history)
-verdict_opening status text files size before after old_faults new_faults lines history told run =
-    verdict_carried status text lines history (IsOpenCause files size before after old_faults new_faults lines history) told (refl, refl, run)
+pub verdict_opening : {S F H T : Type 0} (status : ℕ) (text : Bytes) (count : F → ℕ) (files : Telling) (size : ℕ) (before after : Look) (old_faults new_faults : ℕ) (lines : List ScriptLine) (history : List Entry) (faults : List (Fault S F H T))
+    → IsTold status text (Some (Carried lines history)) → IsOpenedRun files size before after history faults → IsVerdict status text (IsOpenCause count files size before after old_faults new_faults lines history faults)
+verdict_opening status text count files size before after old_faults new_faults lines history faults told run =
+    verdict_carried status text lines history (IsOpenCause count files size before after old_faults new_faults lines history faults) told (refl, refl, run)
 
 told_end : (status : ℕ) (text : Bytes) (Cause : RunEnd → Type 0) (end : RunEnd) → IsTold status text (Some end) → Cause end → IsVerdict status text Cause
 told_end status text Cause end (inl wanting) cause = inl wanting
@@ -89,54 +101,57 @@ told_none : (status : ℕ) (text : Bytes) (Cause : RunEnd → Type 0) → IsTold
 told_none status text Cause (inl wanting) = inl wanting
 told_none status text Cause (inr told) = inl told.0
 
-pub verdict_refused : (status : ℕ) (text : Bytes) (files : Telling) (size : ℕ) (before after : Look) (old_faults new_faults : ℕ) (lines : List ScriptLine) (history : List Entry) (refusal : OpenRefusal)
-    → IsTold status text (end_of_refusal refusal) → IsOpenRefused before after old_faults new_faults refusal → history ≡ [] → IsVerdict status text (IsOpenCause files size before after old_faults new_faults lines history)
-verdict_refused status text files size before after old_faults new_faults lines history refusals.Memory told refused none = told_none status text (IsOpenCause files size before after old_faults new_faults lines history) told
-verdict_refused status text files size before after old_faults new_faults lines history refusals.DepotFault told refused none = told_end status text (IsOpenCause files size before after old_faults new_faults lines history) OpenFault told (none, refused)
-verdict_refused status text files size before after old_faults new_faults lines history refusals.HasRecord told refused none = told_end status text (IsOpenCause files size before after old_faults new_faults lines history) HasRecord told (none, refused)
-verdict_refused status text files size before after old_faults new_faults lines history (refusals.NoRecord name) told refused none = told_end status text (IsOpenCause files size before after old_faults new_faults lines history) (NoRecord name) told (none, refused)
+-- the fetch of the opening is listed
+has_fetch : {S F H T : Type 0} (count : F → ℕ) (faults : List (Fault S F H T)) (old_faults new_faults : ℕ) (fetch : Option F) → faults ≡ listed fetch → IsFault count old_faults new_faults fetch
+    → HasCause old_faults new_faults true ⊎ HasFetch count faults
+has_fetch count faults old_faults new_faults fetch are (inl cause) = inl cause
+has_fetch count faults old_faults new_faults None are (inr failed) = absurd failed
+has_fetch count faults old_faults new_faults (Some fetch) are (inr failed) = inr (subst (λ fs. HasFetch count fs) (sym are) (record { fetch = fetch; listed_so = inl refl; failed = failed }))
 
-stays : (l : Look) → Stays l l
-stays l = record { clock = refl; at = λ k. refl; since = λ t i left. left; sure = refl }
+pub verdict_refused : {S F H T : Type 0} (status : ℕ) (text : Bytes) (count : F → ℕ) (files : Telling) (size : ℕ) (before after : Look) (old_faults new_faults : ℕ) (lines : List ScriptLine) (history : List Entry) (faults : List (Fault S F H T))
+    (refusal : OpenRefusal F) → IsTold status text (end_of_refusal refusal) → IsOpenRefused count before after old_faults new_faults refusal → history ≡ [] → faults ≡ listed (fetch_of refusal) → IsVerdict status text (IsOpenCause count files size before after old_faults new_faults lines history faults)
+verdict_refused status text count files size before after old_faults new_faults lines history faults refusals.Memory told refused empty are = told_none status text (IsOpenCause count files size before after old_faults new_faults lines history faults) told
+verdict_refused status text count files size before after old_faults new_faults lines history faults (refusals.DepotFault fetch) told refused empty are =
+    told_end status text (IsOpenCause count files size before after old_faults new_faults lines history faults) OpenFault told (empty, record { fetch = fetch; refused = refused; shown = has_fetch count faults old_faults new_faults fetch are refused.0 })
+verdict_refused status text count files size before after old_faults new_faults lines history faults (refusals.Damaged name why) told refused empty are = told_end status text (IsOpenCause count files size before after old_faults new_faults lines history faults) (Damaged name) told (empty, (why, refused))
+verdict_refused status text count files size before after old_faults new_faults lines history faults (refusals.TermsSpent term) told refused empty are = told_end status text (IsOpenCause count files size before after old_faults new_faults lines history faults) NoTerm told (empty, (term, refused))
 
-pub untouched : (l : Look) (history : List Entry) → history ≡ [] → IsUntouched l l history
-untouched l history none = record { stays = stays l; empty = none }
-
-pub verdict_stopped : (status : ℕ) (text : Bytes) (given : Given) (files : Telling) (faults : ℕ) (l : Look) (old_faults new_faults : ℕ) (history : List Entry) (end : Option RunEnd)
-    → IsTold status text end → StoppedBy given faults end → history ≡ [] → IsVerdict status text (IsCauseOf given files faults l l old_faults new_faults history)
-verdict_stopped status text given files faults l old_faults new_faults history None told stop none = told_none status text (IsCauseOf given files faults l l old_faults new_faults history) told
-verdict_stopped status text given files faults l old_faults new_faults history (Some BadWords) told stop none = told_end status text (IsCauseOf given files faults l l old_faults new_faults history) BadWords told (untouched l history none, stop)
-verdict_stopped status text given files faults l old_faults new_faults history (Some Unreadable) told stop none = told_end status text (IsCauseOf given files faults l l old_faults new_faults history) Unreadable told (untouched l history none, stop)
-verdict_stopped status text given files faults l old_faults new_faults history (Some BadScript) told stop none = told_end status text (IsCauseOf given files faults l l old_faults new_faults history) BadScript told (untouched l history none, stop)
-verdict_stopped status text given files faults l old_faults new_faults history (Some (BadLine number)) told stop none = told_end status text (IsCauseOf given files faults l l old_faults new_faults history) (BadLine number) told (untouched l history none, stop)
-verdict_stopped status text given files faults l old_faults new_faults history (Some OpenFault) told stop none = absurd stop
-verdict_stopped status text given files faults l old_faults new_faults history (Some HasRecord) told stop none = absurd stop
-verdict_stopped status text given files faults l old_faults new_faults history (Some (NoRecord name)) told stop none = absurd stop
-verdict_stopped status text given files faults l old_faults new_faults history (Some (Carried script entries)) told stop none = absurd stop
+pub verdict_stopped : {S F H T : Type 0} (status : ℕ) (text : Bytes) (count : F → ℕ) (given : Given) (files : Telling) (reader : ℕ) (before after : Look) (old_faults new_faults : ℕ) (history : List Entry) (faults : List (Fault S F H T)) (end : Option RunEnd)
+    → IsTold status text end → StoppedBy given reader end → IsUntouched files before after history faults → IsVerdict status text (IsCauseOf count given files reader before after old_faults new_faults history faults)
+verdict_stopped status text count given files reader before after old_faults new_faults history faults None told stop un = told_none status text (IsCauseOf count given files reader before after old_faults new_faults history faults) told
+verdict_stopped status text count given files reader before after old_faults new_faults history faults (Some BadWords) told stop un = told_end status text (IsCauseOf count given files reader before after old_faults new_faults history faults) BadWords told (un, stop)
+verdict_stopped status text count given files reader before after old_faults new_faults history faults (Some Unreadable) told stop un = told_end status text (IsCauseOf count given files reader before after old_faults new_faults history faults) Unreadable told (un, stop)
+verdict_stopped status text count given files reader before after old_faults new_faults history faults (Some BadScript) told stop un = told_end status text (IsCauseOf count given files reader before after old_faults new_faults history faults) BadScript told (un, stop)
+verdict_stopped status text count given files reader before after old_faults new_faults history faults (Some (BadLine number)) told stop un = told_end status text (IsCauseOf count given files reader before after old_faults new_faults history faults) (BadLine number) told (un, stop)
+verdict_stopped status text count given files reader before after old_faults new_faults history faults (Some OpenFault) told stop un = absurd stop
+verdict_stopped status text count given files reader before after old_faults new_faults history faults (Some (Damaged name)) told stop un = absurd stop
+verdict_stopped status text count given files reader before after old_faults new_faults history faults (Some NoTerm) told stop un = absurd stop
+verdict_stopped status text count given files reader before after old_faults new_faults history faults (Some (Carried script entries)) told stop un = absurd stop
 
 -- from the opening on, with the words and the script
-with_script : (given : Given) (files : Telling) (faults size : ℕ) (before after : Look) (old_faults new_faults : ℕ) (lines : List ScriptLine) (history : List Entry) (end : RunEnd)
-    → run_size (job_of given.words) ≡ Some size → IsScript given lines → IsOpenCause files size before after old_faults new_faults lines history end → IsCauseOf given files faults before after old_faults new_faults history end
-with_script given files faults size before after old_faults new_faults lines history (Carried script entries) size_is is cause =
+with_script : {S F H T : Type 0} (count : F → ℕ) (given : Given) (files : Telling) (reader size : ℕ) (before after : Look) (old_faults new_faults : ℕ) (lines : List ScriptLine) (history : List Entry) (faults : List (Fault S F H T)) (end : RunEnd)
+    → run_size (job_of given.words) ≡ Some size → IsScript given lines → IsOpenCause count files size before after old_faults new_faults lines history faults end → IsCauseOf count given files reader before after old_faults new_faults history faults end
+with_script count given files reader size before after old_faults new_faults lines history faults (Carried script entries) size_is is cause =
     (cause.1, subst (IsScript given) (sym cause.0) is, record { size = size; size_is = size_is; run = cause.2 })
-with_script given files faults size before after old_faults new_faults lines history OpenFault size_is is cause = cause
-with_script given files faults size before after old_faults new_faults lines history HasRecord size_is is cause = cause
-with_script given files faults size before after old_faults new_faults lines history (NoRecord name) size_is is cause = cause
-with_script given files faults size before after old_faults new_faults lines history BadWords size_is is cause = absurd cause
-with_script given files faults size before after old_faults new_faults lines history Unreadable size_is is cause = absurd cause
-with_script given files faults size before after old_faults new_faults lines history BadScript size_is is cause = absurd cause
-with_script given files faults size before after old_faults new_faults lines history (BadLine number) size_is is cause = absurd cause
+with_script count given files reader size before after old_faults new_faults lines history faults OpenFault size_is is cause = cause
+with_script count given files reader size before after old_faults new_faults lines history faults (Damaged name) size_is is cause = cause
+with_script count given files reader size before after old_faults new_faults lines history faults NoTerm size_is is cause = cause
+with_script count given files reader size before after old_faults new_faults lines history faults BadWords size_is is cause = absurd cause
+with_script count given files reader size before after old_faults new_faults lines history faults Unreadable size_is is cause = absurd cause
+with_script count given files reader size before after old_faults new_faults lines history faults BadScript size_is is cause = absurd cause
+with_script count given files reader size before after old_faults new_faults lines history faults (BadLine number) size_is is cause = absurd cause
 
-pub verdict_opened : (status : ℕ) (text : Bytes) (given : Given) (files : Telling) (faults size : ℕ) (before after : Look) (old_faults new_faults : ℕ) (lines : List ScriptLine) (history : List Entry)
-    → run_size (job_of given.words) ≡ Some size → IsScript given lines → IsVerdict status text (IsOpenCause files size before after old_faults new_faults lines history) → IsVerdict status text (IsCauseOf given files faults before after old_faults new_faults history)
-verdict_opened status text given files faults size before after old_faults new_faults lines history size_is is (inl wanting) = inl wanting
-verdict_opened status text given files faults size before after old_faults new_faults lines history size_is is (inr v) =
-    inr (record { end = v.end; status_is = v.status_is; text_is = v.text_is; cause = with_script given files faults size before after old_faults new_faults lines history v.end size_is is v.cause })
+pub verdict_opened : {S F H T : Type 0} (status : ℕ) (text : Bytes) (count : F → ℕ) (given : Given) (files : Telling) (reader size : ℕ) (before after : Look) (old_faults new_faults : ℕ) (lines : List ScriptLine) (history : List Entry) (faults : List (Fault S F H T))
+    → run_size (job_of given.words) ≡ Some size → IsScript given lines → IsVerdict status text (IsOpenCause count files size before after old_faults new_faults lines history faults)
+    → IsVerdict status text (IsCauseOf count given files reader before after old_faults new_faults history faults)
+verdict_opened status text count given files reader size before after old_faults new_faults lines history faults size_is is (inl wanting) = inl wanting
+verdict_opened status text count given files reader size before after old_faults new_faults lines history faults size_is is (inr v) =
+    inr (record { end = v.end; status_is = v.status_is; text_is = v.text_is; cause = with_script count given files reader size before after old_faults new_faults lines history faults v.end size_is is v.cause })
 
-pub run_opened : (given : Given) (files : Telling) (size : ℕ) (before after : Look) (old_faults new_faults : ℕ) (history : List Entry)
-    → run_size (job_of given.words) ≡ Some size → IsUnopened before after old_faults new_faults history ⊎ IsOpenedRun files size before after history → IsRunOf given files before after old_faults new_faults history
-run_opened given files size before after old_faults new_faults history size_is (inl unopened) = inr (inl unopened)
-run_opened given files size before after old_faults new_faults history size_is (inr run) = inr (inr (record { size = size; size_is = size_is; run = run }))
+pub run_opened : {S F H T : Type 0} (count : F → ℕ) (given : Given) (files : Telling) (size : ℕ) (before after : Look) (old_faults new_faults : ℕ) (history : List Entry) (faults : List (Fault S F H T))
+    → run_size (job_of given.words) ≡ Some size → IsUnopened count files before after old_faults new_faults history faults ⊎ IsOpenedRun files size before after history faults → IsRunOf count given files before after old_faults new_faults history faults
+run_opened count given files size before after old_faults new_faults history faults size_is (inl unopened) = inr (inl unopened)
+run_opened count given files size before after old_faults new_faults history faults size_is (inr run) = inr (inr (record { size = size; size_is = size_is; run = run }))
 
 -- ---- printed
 

@@ -2,4 +2,6 @@ pub mod Going
 pub mod Reading
 pub mod Asking
 pub mod Scripts
+pub mod Worlds
+pub mod Keeping
 pub mod Ending

@@ -56,5 +56,5 @@ bad_script given faults kept stops.Unreadable k bad = absurd bad
 bad_script given faults kept stops.BadScript k bad = (k.bytes, k.bytes_are, sym (kept_reads given.script kept k) ∙ bad)
 bad_script given faults kept (stops.BadLine number) k bad = (k.bytes, k.bytes_are, ap bad_line (sym (kept_reads given.script kept k)) ∙ bad)
 bad_script given faults kept stops.OpenFault k bad = absurd bad
-bad_script given faults kept stops.HasRecord k bad = absurd bad
-bad_script given faults kept (stops.NoRecord name) k bad = absurd bad
+bad_script given faults kept (stops.Damaged name) k bad = absurd bad
+bad_script given faults kept stops.NoTerm k bad = absurd bad

@@ -1,7 +1,8 @@
 -- Why a run ended as it did.
-use Rattle.std.specs.Prelude.{◌≡◌, ◌⊎◌, ℕ, true, List, [], Option, Some, None, Ok, Err}
+use Rattle.std.specs.Prelude.{◌≡◌, ◌⊎◌, ℕ, ◌≤◌, true, List, [], Option, Some, None, Ok, Err}
 use Rattle.std.specs.Io.KnownBytes.{Appends}
 use Rattle.esr_model.specs.Values.{Bytes}
+use Rattle.esr_core.specs.World.{World, Opened}
 use Rattle.esr_core.specs.Entry.{Entry}
 use Rattle.esr_depot.specs.Image.{Image as Held}
 use Rattle.esr_depot.specs.Look.{Look, now}
@@ -10,13 +11,18 @@ use Rattle.esr_script.specs.Jobs.{job_of}
 use Rattle.esr_script.specs.Script.{script_of}
 use Rattle.esr_script.specs.declared.item.ScriptLine.{ScriptLine}
 use Rattle.esr_script.specs.declared.refusal.ScriptRefusal.TheVariants.{TooLong}
-use Rattle.esr_repo.specs.declared.open.OpenRefusal.{OpenRefusal}
-use Rattle.esr_repo.specs.declared.open.OpenRefusal.TheVariants as refusals
-use Rattle.esr_repo.specs.Open.{IsFresh, IsOpenRefused}
+use Rattle.esr_opening.specs.declared.refusal.OpenRefusal.{OpenRefusal}
+use Rattle.esr_opening.specs.declared.refusal.OpenRefusal.TheVariants as refusals
+use Rattle.esr_opening.specs.declared.refusal.Why.{Why}
+use Rattle.esr_opening.specs.Opening.{image_of, IsInOrder, IsOpenRefused}
+use Rattle.esr_repo.specs.Log.{log_of}
+use Rattle.esr_run.specs.declared.fault.Fault.{Fault}
 use Rattle.esr_run.specs.Asked.{run_size}
 use Rattle.esr_run.specs.Script.{AreBytes, first_bad, bad_line}
-use Rattle.esr_run.specs.Ends.{RunEnd, BadWords, Unreadable, BadScript, BadLine, OpenFault, HasRecord, NoRecord, Carried, text_of, exit_of, exit_at, text_at}
-use Rattle.esr_run.specs.Start.{Telling, start_of, LegalRun}
+use Rattle.esr_run.specs.Ends.{RunEnd, BadWords, Unreadable, BadScript, BadLine, OpenFault, Damaged, NoTerm, Carried, text_of, exit_of, exit_at, text_at}
+use Rattle.esr_run.specs.Faults.{listed, fetch_of, HasFetch}
+use Rattle.esr_run.specs.Start.{Telling, formats_by, start_of, LegalRun}
+use Rattle.esr_run.specs.Images.{StaysKept, EveryImageKept, AnsweredStay}
 
 -- what a run is given
 pub record Given : Type 0 where
@@ -39,59 +45,85 @@ IsStopped given faults Unreadable = HasCause given.faults faults true
 IsStopped given faults BadScript = (bytes : Bytes) × AreBytes given.script bytes × (script_of bytes ≡ Err TooLong)
 IsStopped given faults (BadLine number) = (bytes : Bytes) × AreBytes given.script bytes × (bad_line (script_of bytes) ≡ Some number)
 IsStopped given faults OpenFault = ⊥
-IsStopped given faults HasRecord = ⊥
-IsStopped given faults (NoRecord name) = ⊥
+IsStopped given faults (Damaged name) = ⊥
+IsStopped given faults NoTerm = ⊥
 IsStopped given faults (Carried script history) = ⊥
 
--- Why the container wasn't opened; it counts faults.
-abbrev pub IsRefused : Look → Look → ℕ → ℕ → RunEnd → Type 0
-IsRefused before after old_faults new_faults OpenFault = IsOpenRefused before after old_faults new_faults refusals.DepotFault
-IsRefused before after old_faults new_faults HasRecord = IsOpenRefused before after old_faults new_faults refusals.HasRecord
-IsRefused before after old_faults new_faults (NoRecord name) = IsOpenRefused before after old_faults new_faults (refusals.NoRecord name)
-IsRefused before after old_faults new_faults BadWords = ⊥
-IsRefused before after old_faults new_faults Unreadable = ⊥
-IsRefused before after old_faults new_faults BadScript = ⊥
-IsRefused before after old_faults new_faults (BadLine number) = ⊥
-IsRefused before after old_faults new_faults (Carried script history) = ⊥
+-- ---- what became of the container
 
--- The container was opened, which had nothing where it tells, and the history is legal from there to what it has now.
-pub record IsOpenedRun (files : Telling) (size : ℕ) (before after : Look) (history : List Entry) : Type 0 where
-  pub fresh : (i : Held) → now before ≡ Some i → IsFresh i
-  pub legal : LegalRun (start_of files size before) after history
+-- it wasn't touched
+pub record IsUntouched {S F H T : Type 0} (files : Telling) (before after : Look) (history : List Entry) (faults : List (Fault S F H T)) : Type 0 where
+  pub stays : Stays before after
+  pub every_image : StaysKept (formats_by files) before after
+  pub empty : history ≡ []
+  pub none : faults ≡ []
+
+-- It wasn't opened; it counts faults, and so does each of its fetches.
+pub record IsUnopened {S F H T : Type 0} (count : F → ℕ) (files : Telling) (before after : Look) (old_faults new_faults : ℕ) (history : List Entry) (faults : List (Fault S F H T)) : Type 0 where
+  pub refusal : OpenRefusal F
+  pub refused : IsOpenRefused count before after old_faults new_faults refusal
+  pub every_image : StaysKept (formats_by files) before after
+  pub empty : history ≡ []
+  -- the fetch of the opening whose reading failed, if one did
+  pub faults_are : faults ≡ listed (fetch_of refusal)
+
+-- It was opened, as this world, and the history is legal from there to what it has now, over its moments from this clock on.
+pub record IsOpenedRun {S F H T : Type 0} (files : Telling) (size : ℕ) (before after : Look) (history : List Entry) (faults : List (Fault S F H T)) : Type 0 where
+  pub world : World
+  pub clock : ℕ
+  pub later : before.clock ≤ clock
+  pub opened : (i : Held) → now before ≡ Some i → Opened (formats_by files) (image_of i) world
+  pub order : IsInOrder world
+  pub legal : LegalRun (start_of files size before world) clock after history
+  pub every_image : EveryImageKept (formats_by files) world (log_of after clock history) before after
+  pub answered : AnsweredStay (start_of files size before world) clock history before after
+  pub none : faults ≡ []
 
 -- with parts of the size for which the words ask
-pub record IsCarried (given : Given) (files : Telling) (before after : Look) (history : List Entry) : Type 0 where
+pub record IsCarried {S F H T : Type 0} (given : Given) (files : Telling) (before after : Look) (history : List Entry) (faults : List (Fault S F H T)) : Type 0 where
   pub size : ℕ
   pub size_is : run_size (job_of given.words) ≡ Some size
-  pub run : IsOpenedRun files size before after history
+  pub run : IsOpenedRun files size before after history faults
 
--- the container wasn't touched
-pub record IsUntouched (before after : Look) (history : List Entry) : Type 0 where
-  pub stays : Stays before after
-  pub empty : history ≡ []
+-- The container wasn't touched, or it wasn't opened, and there is no history; or it was opened, and the history is legal from
+-- there on.
+abbrev pub IsRunOf : {S F H T : Type 0} → (F → ℕ) → Given → Telling → Look → Look → ℕ → ℕ → List Entry → List (Fault S F H T) → Type 0
+IsRunOf count given files before after old_faults new_faults history faults =
+    IsUntouched files before after history faults
+    ⊎ (IsUnopened count files before after old_faults new_faults history faults ⊎ IsCarried given files before after history faults)
 
--- it wasn't opened
-pub record IsUnopened (before after : Look) (old_faults new_faults : ℕ) (history : List Entry) : Type 0 where
-  pub refusal : OpenRefusal
-  pub refused : IsOpenRefused before after old_faults new_faults refusal
-  pub empty : history ≡ []
+-- ---- why a run ended so
 
--- The history of a run is legal from what was told at its start to the image that is left; or the container wasn't
--- opened, and there is no history.
-abbrev pub IsRunOf : Given → Telling → Look → Look → ℕ → ℕ → List Entry → Type 0
-IsRunOf given files before after old_faults new_faults history =
-    IsUntouched before after history ⊎ (IsUnopened before after old_faults new_faults history ⊎ IsCarried given files before after history)
+-- The container failed as it was opened: its count of faults shows it, or that of a fetch of the opening which is listed.
+pub record FailedToOpen {S F H T : Type 0} (count : F → ℕ) (before after : Look) (old_faults new_faults : ℕ) (faults : List (Fault S F H T)) : Type 0 where
+  pub fetch : Option F
+  pub refused : IsOpenRefused count before after old_faults new_faults (refusals.DepotFault fetch)
+  pub shown : HasCause old_faults new_faults true ⊎ HasFetch count faults
 
--- why a run ended so
-abbrev pub IsCauseOf : Given → Telling → ℕ → Look → Look → ℕ → ℕ → List Entry → RunEnd → Type 0
-IsCauseOf given files faults before after old_faults new_faults history (Carried script entries) = (entries ≡ history) × IsScript given script × IsCarried given files before after history
-IsCauseOf given files faults before after old_faults new_faults history OpenFault = (history ≡ []) × IsRefused before after old_faults new_faults OpenFault
-IsCauseOf given files faults before after old_faults new_faults history HasRecord = (history ≡ []) × IsRefused before after old_faults new_faults HasRecord
-IsCauseOf given files faults before after old_faults new_faults history (NoRecord name) = (history ≡ []) × IsRefused before after old_faults new_faults (NoRecord name)
-IsCauseOf given files faults before after old_faults new_faults history BadWords = IsUntouched before after history × IsStopped given faults BadWords
-IsCauseOf given files faults before after old_faults new_faults history Unreadable = IsUntouched before after history × IsStopped given faults Unreadable
-IsCauseOf given files faults before after old_faults new_faults history BadScript = IsUntouched before after history × IsStopped given faults BadScript
-IsCauseOf given files faults before after old_faults new_faults history (BadLine number) = IsUntouched before after history × IsStopped given faults (BadLine number)
+-- Why the container wasn't opened: it failed, or something in it is damaged, or its last term has come.
+abbrev pub IsRefused : {S F H T : Type 0} → (F → ℕ) → Look → Look → ℕ → ℕ → List (Fault S F H T) → RunEnd → Type 0
+IsRefused count before after old_faults new_faults faults OpenFault = FailedToOpen count before after old_faults new_faults faults
+IsRefused count before after old_faults new_faults faults (Damaged name) = (why : Why) × IsOpenRefused count before after old_faults new_faults (refusals.Damaged name why)
+IsRefused count before after old_faults new_faults faults NoTerm = (term : ℕ) × IsOpenRefused count before after old_faults new_faults (refusals.TermsSpent term)
+IsRefused count before after old_faults new_faults faults BadWords = ⊥
+IsRefused count before after old_faults new_faults faults Unreadable = ⊥
+IsRefused count before after old_faults new_faults faults BadScript = ⊥
+IsRefused count before after old_faults new_faults faults (BadLine number) = ⊥
+IsRefused count before after old_faults new_faults faults (Carried script history) = ⊥
+
+-- there is no history, since the container wasn't opened
+abbrev pub EndedUnopened : {S F H T : Type 0} → (F → ℕ) → Look → Look → ℕ → ℕ → List Entry → List (Fault S F H T) → RunEnd → Type 0
+EndedUnopened count before after old_faults new_faults history faults end = (history ≡ []) × IsRefused count before after old_faults new_faults faults end
+
+abbrev pub IsCauseOf : {S F H T : Type 0} → (F → ℕ) → Given → Telling → ℕ → Look → Look → ℕ → ℕ → List Entry → List (Fault S F H T) → RunEnd → Type 0
+IsCauseOf count given files reader before after old_faults new_faults history faults (Carried script entries) = (entries ≡ history) × IsScript given script × IsCarried given files before after history faults
+IsCauseOf count given files reader before after old_faults new_faults history faults OpenFault = EndedUnopened count before after old_faults new_faults history faults OpenFault
+IsCauseOf count given files reader before after old_faults new_faults history faults (Damaged name) = EndedUnopened count before after old_faults new_faults history faults (Damaged name)
+IsCauseOf count given files reader before after old_faults new_faults history faults NoTerm = EndedUnopened count before after old_faults new_faults history faults NoTerm
+IsCauseOf count given files reader before after old_faults new_faults history faults BadWords = IsUntouched files before after history faults × IsStopped given reader BadWords
+IsCauseOf count given files reader before after old_faults new_faults history faults Unreadable = IsUntouched files before after history faults × IsStopped given reader Unreadable
+IsCauseOf count given files reader before after old_faults new_faults history faults BadScript = IsUntouched files before after history faults × IsStopped given reader BadScript
+IsCauseOf count given files reader before after old_faults new_faults history faults (BadLine number) = IsUntouched files before after history faults × IsStopped given reader (BadLine number)
 
 -- the run ended so, and printed that, for its cause
 pub record EndedAs (status : ℕ) (old new : Option Bytes) (Cause : RunEnd → Type 0) : Type 0 where
@@ -124,19 +156,19 @@ abbrev pub IsPrinted : ℕ → ℕ → Bytes → Option Bytes → Option Bytes �
 IsPrinted status wanted text old new old_faults new_faults = ((status ≡ 5) × HasCause old_faults new_faults true) ⊎ ((status ≡ wanted) × Appends old new text)
 
 -- the same as why a run ended so, from the opening of the container on
-abbrev pub IsOpenCause : Telling → ℕ → Look → Look → ℕ → ℕ → List ScriptLine → List Entry → RunEnd → Type 0
-IsOpenCause files size before after old_faults new_faults lines history (Carried script entries) = (script ≡ lines) × (entries ≡ history) × IsOpenedRun files size before after history
-IsOpenCause files size before after old_faults new_faults lines history OpenFault = (history ≡ []) × IsRefused before after old_faults new_faults OpenFault
-IsOpenCause files size before after old_faults new_faults lines history HasRecord = (history ≡ []) × IsRefused before after old_faults new_faults HasRecord
-IsOpenCause files size before after old_faults new_faults lines history (NoRecord name) = (history ≡ []) × IsRefused before after old_faults new_faults (NoRecord name)
-IsOpenCause files size before after old_faults new_faults lines history BadWords = ⊥
-IsOpenCause files size before after old_faults new_faults lines history Unreadable = ⊥
-IsOpenCause files size before after old_faults new_faults lines history BadScript = ⊥
-IsOpenCause files size before after old_faults new_faults lines history (BadLine number) = ⊥
+abbrev pub IsOpenCause : {S F H T : Type 0} → (F → ℕ) → Telling → ℕ → Look → Look → ℕ → ℕ → List ScriptLine → List Entry → List (Fault S F H T) → RunEnd → Type 0
+IsOpenCause count files size before after old_faults new_faults lines history faults (Carried script entries) = (script ≡ lines) × (entries ≡ history) × IsOpenedRun files size before after history faults
+IsOpenCause count files size before after old_faults new_faults lines history faults OpenFault = EndedUnopened count before after old_faults new_faults history faults OpenFault
+IsOpenCause count files size before after old_faults new_faults lines history faults (Damaged name) = EndedUnopened count before after old_faults new_faults history faults (Damaged name)
+IsOpenCause count files size before after old_faults new_faults lines history faults NoTerm = EndedUnopened count before after old_faults new_faults history faults NoTerm
+IsOpenCause count files size before after old_faults new_faults lines history faults BadWords = ⊥
+IsOpenCause count files size before after old_faults new_faults lines history faults Unreadable = ⊥
+IsOpenCause count files size before after old_faults new_faults lines history faults BadScript = ⊥
+IsOpenCause count files size before after old_faults new_faults lines history faults (BadLine number) = ⊥
 
 -- how a run ends whose container wasn't opened; None: memory was wanting
-abbrev pub end_of_refusal : OpenRefusal → Option RunEnd
+abbrev pub end_of_refusal : {F : Type 0} → OpenRefusal F → Option RunEnd
 end_of_refusal refusals.Memory = None
-end_of_refusal refusals.DepotFault = Some OpenFault
-end_of_refusal refusals.HasRecord = Some HasRecord
-end_of_refusal (refusals.NoRecord name) = Some (NoRecord name)
+end_of_refusal (refusals.DepotFault fetch) = Some OpenFault
+end_of_refusal (refusals.Damaged name why) = Some (Damaged name)
+end_of_refusal (refusals.TermsSpent term) = Some NoTerm

@@ -13,11 +13,12 @@ pub data RunEnd : Type 0 where
   -- the script is too long
   BadScript : RunEnd
   BadLine : (number : ℕ) → RunEnd
-  -- a call of the container failed as it was opened
+  -- a call of the container failed as it was opened, or a read of what it gave
   OpenFault : RunEnd
-  HasRecord : RunEnd
-  -- there is no record, but a blob of this name
-  NoRecord : (name : Bytes) → RunEnd
+  -- what stands in the container can't be opened: a blob of this name, or `record`
+  Damaged : (name : Bytes) → RunEnd
+  -- the last term has come
+  NoTerm : RunEnd
   -- the container was opened, and the lines of the script were carried out
   Carried : (script : List ScriptLine) (history : List Entry) → RunEnd
 
@@ -28,8 +29,8 @@ text_of Unreadable = codes "script unreadable\n"
 text_of BadScript = codes "bad script\n"
 text_of (BadLine number) = codes "bad line " ++ decimal number ++ codes "\n"
 text_of OpenFault = codes "depot fault at opening\n"
-text_of HasRecord = codes "damaged record\n"
-text_of (NoRecord name) = codes "damaged " ++ name ++ codes "\n"
+text_of (Damaged name) = codes "damaged " ++ name ++ codes "\n"
+text_of NoTerm = codes "numbers spent\n"
 text_of (Carried script history) = report_text script history
 
 -- the exit status
@@ -39,8 +40,8 @@ exit_of Unreadable = 6
 exit_of BadScript = 2
 exit_of (BadLine number) = 2
 exit_of OpenFault = 3
-exit_of HasRecord = 4
-exit_of (NoRecord name) = 4
+exit_of (Damaged name) = 4
+exit_of NoTerm = 7
 exit_of (Carried script history) = status_of (ending script history)
 
 -- the same where memory may be wanting: None, with status 8 and no text

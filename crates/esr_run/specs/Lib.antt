@@ -1,7 +1,10 @@
 pub mod Asked
 pub mod Script
 pub mod Ends
+pub mod Faults
 pub mod Start
+pub mod Images
+pub mod Laws
 pub mod Causes
 pub mod Stops
 pub mod Commands

@@ -10,7 +10,7 @@ use Rattle.esr_run.specs.declared.stop.Stop.{Stop}
 use Rattle.esr_run.specs.declared.stop.Stop.TheVariants as stops
 use Rattle.esr_run.specs.Asked.{run_size}
 use Rattle.esr_run.specs.Script.{AreBytes, kept_of, first_bad, bad_line}
-use Rattle.esr_run.specs.Ends.{RunEnd, BadWords, Unreadable, BadScript, BadLine, OpenFault, HasRecord, NoRecord}
+use Rattle.esr_run.specs.Ends.{RunEnd, BadWords, Unreadable, BadScript, BadLine, OpenFault, Damaged, NoTerm}
 use Rattle.esr_run.specs.Causes.{Given, IsStopped}
 
 abbrev pub end_of : Stop → Option RunEnd
@@ -20,8 +20,8 @@ end_of stops.Unreadable = Some Unreadable
 end_of stops.BadScript = Some BadScript
 end_of (stops.BadLine number) = Some (BadLine number)
 end_of stops.OpenFault = Some OpenFault
-end_of stops.HasRecord = Some HasRecord
-end_of (stops.NoRecord name) = Some (NoRecord name)
+end_of (stops.Damaged name) = Some (Damaged name)
+end_of stops.NoTerm = Some NoTerm
 
 -- the words ask for no run
 abbrev pub IsNoRun : List Bytes → Stop → Type 0
@@ -31,8 +31,8 @@ IsNoRun words stops.Unreadable = ⊥
 IsNoRun words stops.BadScript = ⊥
 IsNoRun words (stops.BadLine number) = ⊥
 IsNoRun words stops.OpenFault = ⊥
-IsNoRun words stops.HasRecord = ⊥
-IsNoRun words (stops.NoRecord name) = ⊥
+IsNoRun words (stops.Damaged name) = ⊥
+IsNoRun words stops.NoTerm = ⊥
 
 -- the script can't be read
 abbrev pub IsNoRead : ℕ → ℕ → Stop → Type 0
@@ -42,8 +42,8 @@ IsNoRead old new stops.Unreadable = HasCause old new true
 IsNoRead old new stops.BadScript = ⊥
 IsNoRead old new (stops.BadLine number) = ⊥
 IsNoRead old new stops.OpenFault = ⊥
-IsNoRead old new stops.HasRecord = ⊥
-IsNoRead old new (stops.NoRecord name) = ⊥
+IsNoRead old new (stops.Damaged name) = ⊥
+IsNoRead old new stops.NoTerm = ⊥
 
 -- what was read of the script is bad
 abbrev pub IsBadIn : Result (List ScriptLine) ScriptRefusal → Stop → Type 0
@@ -53,8 +53,8 @@ IsBadIn read stops.Unreadable = ⊥
 IsBadIn read stops.BadScript = read ≡ Err TooLong
 IsBadIn read (stops.BadLine number) = bad_line read ≡ Some number
 IsBadIn read stops.OpenFault = ⊥
-IsBadIn read stops.HasRecord = ⊥
-IsBadIn read (stops.NoRecord name) = ⊥
+IsBadIn read (stops.Damaged name) = ⊥
+IsBadIn read stops.NoTerm = ⊥
 
 -- these lines can be carried out
 pub record AreGood (read : Result (List ScriptLine) ScriptRefusal) (lines : List ScriptLine) : Type 0 where

@@ -4,13 +4,21 @@
 mod asked;
 mod carry;
 mod command;
+mod ended;
+mod fault;
+mod law;
 mod line;
 mod read;
 mod stop;
+mod unopened;
 mod verdict;
 mod whole;
 
-pub use whole::{Ended, run};
+pub use ended::{Ended, Restored, TargetList};
+pub use fault::{FailedObject, Fault, Faults};
+pub use whole::run;
 
+#[cfg(test)]
+mod reopened;
 #[cfg(test)]
 mod tests;

@@ -19,12 +19,12 @@ pub(crate) enum Stop {
     BadScript,
     /// The first bad line, counted from 1.
     BadLine { number: u32 },
-    /// A call of the container failed as it was opened.
+    /// A call of the container failed as it was opened, or a read of what it gave.
     OpenFault,
-    /// The container has a record already.
-    HasRecord,
-    /// It has no record, but a blob of this name.
-    NoRecord { name: Text },
+    /// What stands in the container can't be opened: a blob of this name, or `record`.
+    Damaged { name: Text },
+    /// The last term has come.
+    NoTerm,
 }
 
 impl From<AllocError> for Stop {
@@ -49,8 +49,8 @@ pub(crate) fn stop_status(stop: &Stop) -> u8
         Stop::BadScript => 2,
         Stop::BadLine { number: _ } => 2,
         Stop::OpenFault => 3,
-        Stop::HasRecord => 4,
-        Stop::NoRecord { name: _ } => 4,
+        Stop::Damaged { name: _ } => 4,
+        Stop::NoTerm => 7,
     }
 }
 
@@ -87,8 +87,8 @@ fn push_stop(text: &mut Bytes, stop: &Stop) -> Result<(), AllocError>
         Stop::BadScript => push(text, b"bad script\n"),
         Stop::BadLine { number } => push_line(text, *number),
         Stop::OpenFault => push(text, b"depot fault at opening\n"),
-        Stop::HasRecord => push(text, b"damaged record\n"),
-        Stop::NoRecord { name } => push_damaged(text, name),
+        Stop::Damaged { name } => push_damaged(text, name),
+        Stop::NoTerm => push(text, b"numbers spent\n"),
     }
 }
 

@@ -5,22 +5,25 @@ use esr_memdepot::MemDepot;
 use esr_script::Words;
 use esr_seq::{Bytes, Seq, Text};
 use esr_source::{
-    Address, Call, Failing, MemFile, MemLines, MemOut, MemSource, MemSources, MemTargets, NoGate,
-    Plan,
+    Address, Call, Failing, MemFile, MemLines, MemOut, MemShard, MemSource, MemSources, MemTarget,
+    MemTargets, NoGate, Plan,
 };
 use std::alloc::{AllocError, Global};
 use std::test::Fail;
 
-const SCRIPT: &[u8] = b"snapshot s1 logs/1/src\nwait\nlist\n";
+/// What a run over a container in memory leaves.
+pub(crate) type Left = Ended<MemDepot, MemShard, MemTarget>;
+
+pub(crate) const SCRIPT: &[u8] = b"snapshot s1 logs/1/src\nwait\nlist\n";
 
 const REPORT: &[u8] =
     b"1 snapshot s1 ok AAAAAAAAAAEAAAAAAAAAAA\n2 wait\n3 list 1\n- s1 AAAAAAAAAAEAAAAAAAAAAA success\n";
 
 /// The record after the script.
-const RECORD: &[u8] = br#"{"ops":[],"pending":0,"safe":0,"term":1}"#;
+pub(crate) const RECORD: &[u8] = br#"{"ops":[],"pending":0,"safe":0,"term":1}"#;
 
 /// The names and the bytes of the blobs after the script.
-const BLOBS: [(&str, &[u8]); 8] = [
+pub(crate) const BLOBS: [(&str, &[u8]); 8] = [
     (
         "index-0",
         br#"{"indices":{"logs":{"id":"AAAAAAAAAAEAAAAAAAAAAQ","shard_generations":["AAAAAAAAAAEAAAAAAAAAAw"],"snapshots":["AAAAAAAAAAEAAAAAAAAAAA"]}},"snapshots":[{"name":"s1","state":1,"uuid":"AAAAAAAAAAEAAAAAAAAAAA"}]}"#,
@@ -77,21 +80,34 @@ fn first_fails(alloc: Global, call: Call) -> Result<Plan, AllocError> {
     Ok(plan)
 }
 
+/// A run over that container.
+pub(crate) fn run_over(
+    alloc: Global,
+    depot: MemDepot,
+    words: &[&str],
+    script: &[u8],
+    reads: Plan,
+    out: &mut MemOut,
+) -> Result<Left, AllocError> {
+    let words = words_of(alloc, words)?;
+    let sources = sources_of(alloc)?;
+    let mut lines = MemLines::new(Bytes::from_slice(alloc, script)?, reads);
+    let targets = MemTargets::new(Seq::new(alloc));
+    Ok(run(
+        alloc, &words, &mut lines, depot, &sources, &targets, &NoGate, 0, out,
+    ))
+}
+
+/// A run over an empty container.
 fn run_in_memory(
     alloc: Global,
     words: &[&str],
     script: &[u8],
     reads: Plan,
     out: &mut MemOut,
-) -> Result<Ended<MemDepot>, AllocError> {
-    let words = words_of(alloc, words)?;
-    let sources = sources_of(alloc)?;
-    let mut lines = MemLines::new(Bytes::from_slice(alloc, script)?, reads);
+) -> Result<Left, AllocError> {
     let depot = MemDepot::new(alloc, Seq::new(alloc));
-    let targets = MemTargets::new(Seq::new(alloc));
-    Ok(run(
-        alloc, &words, &mut lines, depot, &sources, &targets, &NoGate, 0, out,
-    ))
+    run_over(alloc, depot, words, script, reads, out)
 }
 
 /// The status of a run, with what it printed compared.
@@ -107,7 +123,12 @@ fn status_of(
 }
 
 /// Whether the blob of that name has these bytes.
-fn holds(alloc: Global, depot: &mut MemDepot, name: &str, bytes: &[u8]) -> Result<bool, CallError> {
+pub(crate) fn holds(
+    alloc: Global,
+    depot: &mut MemDepot,
+    name: &str,
+    bytes: &[u8],
+) -> Result<bool, CallError> {
     let Some(mut fetch) = depot.fetch(alloc, name)? else {
         return Ok(false);
     };

@@ -1,5 +1,6 @@
 use crate::*;
 use esr_hash::{Print, print_read};
+use esr_json::Reason::{BadId, BadName, Duplicate, Json, Unlisted};
 use esr_json::{Key, ReadRefusal, Reason};
 use esr_names::{BlobName, Id, ShardId};
 use esr_seq::Seq;
@@ -232,9 +233,12 @@ fn names_of_files(rt: HostRuntime) -> Result<(), Fail> {
     Ok(())
 }
 
-/// An object with one file alone.
-fn files_text(alloc: Global, entry: &str) -> Result<String, AllocError> {
-    format!(in alloc; "{{\"files\":[{entry}]}}")
+fn missing(key: Key) -> Reason {
+    Reason::Missing { key }
+}
+
+fn wrong_kind(key: Key) -> Reason {
+    Reason::WrongKind { key }
 }
 
 fn out_of_range(key: Key, limit: i128) -> Reason {
@@ -242,147 +246,173 @@ fn out_of_range(key: Key, limit: i128) -> Reason {
 }
 
 #[test]
-fn the_first_refusal_of_a_length_or_a_name(rt: HostRuntime) -> Result<(), Fail> {
+fn the_first_refusal_of_an_entry(rt: HostRuntime) -> Result<(), Fail> {
+    let front = r#""length":3,"name":"__AAAAAAAAAAEAAAAAAAAAAg""#;
     let cases = [
-        (r#"7"#, Reason::Missing { key: Key::Length }),
-        (r#"{"name":"x"}"#, Reason::Missing { key: Key::Length }),
-        (r#"{"length":1.0}"#, Reason::WrongKind { key: Key::Length }),
+        (r#"7"#, missing(Key::Length)),
+        (r#"{"name":"x"}"#, missing(Key::Length)),
+        (r#"{"length":1.0}"#, wrong_kind(Key::Length)),
         (r#"{"length":-1,"name":"x"}"#, out_of_range(Key::Length, 0)),
         (
             r#"{"length":1152921504606846976}"#,
             out_of_range(Key::Length, (1 << 60) - 1),
         ),
-        (r#"{"length":3}"#, Reason::Missing { key: Key::Name }),
         (
-            r#"{"length":3,"name":[]}"#,
-            Reason::WrongKind { key: Key::Name },
+            r#"{"length":1152921504606846975,"part_size":0}"#,
+            missing(Key::Name),
+        ),
+        (
+            r#"{"length":3,"name":[],"part_size":0}"#,
+            wrong_kind(Key::Name),
         ),
         (
             r#"{"length":3,"name":"AAAAAAAAAAEAAAAAAAAAAg","part_size":0}"#,
-            Reason::BadId,
+            BadId,
         ),
-    ];
-    for (entry, why) in cases {
-        let text = files_text(rt.alloc(), entry)?;
-        assert_eq!(rt; snap_reason(rt.alloc(), text.as_str()), Some(why));
-        assert_eq!(rt; index_reason(rt.alloc(), text.as_str()), Some(why));
-    }
-    Ok(())
-}
-
-#[test]
-fn the_first_refusal_of_the_other_members(rt: HostRuntime) -> Result<(), Fail> {
-    let cases = [
+        (r#"{"length":3,"name":"__AAAAAAAAAAEAAAAAAAAAAR"}"#, BadId),
+        (r#"{"length":3,"name":"_"}"#, BadId),
+        (r#"{FRONT,"physical_name":"_0"}"#, missing(Key::PartSize)),
         (
-            r#""physical_name":"_0""#,
-            Reason::Missing { key: Key::PartSize },
+            r#"{FRONT,"part_size":null,"physical_name":""}"#,
+            wrong_kind(Key::PartSize),
         ),
         (
-            r#""part_size":0,"physical_name":"""#,
+            r#"{FRONT,"part_size":0,"physical_name":""}"#,
             out_of_range(Key::PartSize, 1),
         ),
         (
-            r#""part_size":1073741825"#,
+            r#"{FRONT,"part_size":1073741825}"#,
             out_of_range(Key::PartSize, 1 << 30),
         ),
         (
-            r#""part_size":4,"sha256":"""#,
-            Reason::Missing {
-                key: Key::PhysicalName,
-            },
+            r#"{FRONT,"part_size":1073741824,"sha256":""}"#,
+            missing(Key::PhysicalName),
         ),
         (
-            r#""part_size":4,"physical_name":"a/b","sha256":"""#,
-            Reason::BadName,
+            r#"{FRONT,"part_size":4,"physical_name":7,"sha256":""}"#,
+            wrong_kind(Key::PhysicalName),
         ),
         (
-            r#""part_size":4,"physical_name":"_0""#,
-            Reason::Missing { key: Key::Sha256 },
+            r#"{FRONT,"part_size":4,"physical_name":"a/b","sha256":""}"#,
+            BadName,
         ),
         (
-            r#""part_size":4,"physical_name":"_0","sha256":"BA7816BF8F01CFEA414140DE5DAE2223B00361A396177A9CB410FF61F20015AD""#,
-            Reason::BadId,
+            r#"{FRONT,"part_size":4,"physical_name":"_0"}"#,
+            missing(Key::Sha256),
+        ),
+        (
+            r#"{FRONT,"part_size":4,"physical_name":"_0","sha256":7}"#,
+            wrong_kind(Key::Sha256),
+        ),
+        (
+            r#"{FRONT,"part_size":4,"physical_name":"_0","sha256":"BA7816BF8F01CFEA414140DE5DAE2223B00361A396177A9CB410FF61F20015AD"}"#,
+            BadId,
         ),
     ];
-    for (rest, why) in cases {
-        let text = format!(in rt.alloc();
-            "{{\"files\":[{{\"length\":3,\"name\":\"__AAAAAAAAAAEAAAAAAAAAAg\",{rest}}}]}}"
-        )?;
-        assert_eq!(rt; snap_reason(rt.alloc(), text.as_str()), Some(why));
-        assert_eq!(rt; index_reason(rt.alloc(), text.as_str()), Some(why));
+    for (entry, why) in cases {
+        let entry = entry.replace(rt.alloc(), "FRONT", front)?;
+        let text = format!(in rt.alloc(); "{{\"files\":[{entry}],\"snapshots\":7,\"uuid\":7}}")?;
+        assert_eq!(rt;
+            snap_reason(rt.alloc(), text.as_str()),
+            Some(why),
+            "{entry}"
+        );
+        assert_eq!(rt;
+            index_reason(rt.alloc(), text.as_str()),
+            Some(why),
+            "{entry}"
+        );
     }
     Ok(())
 }
 
 #[test]
-fn the_first_refusal_of_a_snapshot(rt: HostRuntime) -> Result<(), Fail> {
+fn the_first_refusal_at_the_top(rt: HostRuntime) -> Result<(), Fail> {
+    let no_snapshots = missing(Key::Snapshots);
+    // text, as a snapshot's, as an index's
     let cases = [
-        (r#""#, Reason::Json),
-        (r#"[]"#, Reason::Missing { key: Key::Files }),
+        (r#""#, Json, Json),
+        (r#"{"files":[],"uuid":1"#, Json, Json),
+        (r#"[]"#, missing(Key::Files), missing(Key::Files)),
+        (
+            r#"{"uuid":1,"snapshots":1}"#,
+            missing(Key::Files),
+            missing(Key::Files),
+        ),
         (
             r#"{"files":{},"uuid":1}"#,
-            Reason::WrongKind { key: Key::Files },
+            wrong_kind(Key::Files),
+            wrong_kind(Key::Files),
         ),
-        (r#"{"files":[]}"#, Reason::Missing { key: Key::Uuid }),
+        (r#"{"files":[]}"#, missing(Key::Uuid), no_snapshots),
         (
             r#"{"files":[],"uuid":1}"#,
-            Reason::WrongKind { key: Key::Uuid },
+            wrong_kind(Key::Uuid),
+            no_snapshots,
         ),
-        (r#"{"files":[],"uuid":"1"}"#, Reason::BadId),
+        (r#"{"files":[],"uuid":"1"}"#, BadId, no_snapshots),
+        (
+            r#"{"files":[],"snapshots":{}}"#,
+            missing(Key::Uuid),
+            wrong_kind(Key::Snapshots),
+        ),
     ];
-    for (text, why) in cases {
-        assert_eq!(rt; snap_reason(rt.alloc(), text), Some(why));
+    for (text, of_snap, of_index) in cases {
+        assert_eq!(rt; snap_reason(rt.alloc(), text), Some(of_snap), "{text}");
+        assert_eq!(rt; index_reason(rt.alloc(), text), Some(of_index), "{text}");
     }
     Ok(())
 }
 
-/// The entry of a file, by its id's last character, its physical name and its digits.
-fn entry_text(alloc: Global, id: &str, physical: &str, digits: &str) -> Result<String, AllocError> {
+/// A file, by the last character of its id, its physical name and its digits.
+type File = (&'static str, &'static str, &'static str);
+
+fn entry_text(alloc: Global, file: File) -> Result<String, AllocError> {
+    let (id, physical, digits) = file;
     format!(in alloc;
         "{{\"length\":3,\"name\":\"__AAAAAAAAAAEAAAAAAAAAA{id}\",\"part_size\":4,\"physical_name\":\"{physical}\",\"sha256\":\"{digits}\"}}"
     )
 }
 
-/// Two entries: the id of the first and its name, and the second's with its digits.
-#[derive(Drop)]
-struct Pair {
-    first: (&'static str, &'static str),
-    second: (&'static str, &'static str, &'static str),
-    why: Reason,
-}
-
-fn pair_text(alloc: Global, pair: &Pair) -> Result<String, AllocError> {
-    let first = entry_text(alloc, pair.first.0, pair.first.1, ABC)?;
-    let second = entry_text(alloc, pair.second.0, pair.second.1, pair.second.2)?;
-    format!(in alloc; "{{\"files\":[{first},{second}]}}")
-}
-
-fn of(
-    first: (&'static str, &'static str),
-    second: (&'static str, &'static str, &'static str),
-    why: Reason,
-) -> Pair {
-    Pair { first, second, why }
+fn files_text(alloc: Global, files: [File; 3]) -> Result<String, AllocError> {
+    let first = entry_text(alloc, files[0])?;
+    let second = entry_text(alloc, files[1])?;
+    let third = entry_text(alloc, files[2])?;
+    format!(in alloc; "{{\"files\":[{first},{second},{third}]}}")
 }
 
 #[test]
 fn the_files_of_a_snapshot_rise_by_name(rt: HostRuntime) -> Result<(), Fail> {
     let falls = out_of_range(Key::PhysicalName, 0);
-    let pairs = [
-        of(("g", "_1"), ("w", "_0", ABC), falls),
-        of(("g", "_0"), ("w", "_0", ""), falls),
-        of(("g", "_0"), ("g", "_0", ABC), falls),
-        of(("g", "_0"), ("g", "_1", ""), Reason::BadId),
-        of(("g", "_0"), ("g", "_1", ABC), Reason::Duplicate),
-        of(
-            ("w", "_0"),
-            ("g", "_1", ABC),
-            Reason::Missing { key: Key::Uuid },
+    let falls_later = out_of_range(Key::PhysicalName, 1);
+    let cases = [
+        ([("g", "_1", ABC), ("w", "_0", ABC), ("w", "_2", "")], falls),
+        ([("g", "_0", ABC), ("w", "_0", ""), ("A", "_1", ABC)], falls),
+        (
+            [("g", "_0", ABC), ("g", "_0", ABC), ("A", "_1", ABC)],
+            falls,
+        ),
+        (
+            [("g", "_0", ABC), ("w", "_2", ABC), ("g", "_1", ABC)],
+            falls_later,
+        ),
+        ([("g", "_0", ABC), ("g", "_1", ""), ("A", "_0", ABC)], BadId),
+        (
+            [("g", "_0", ABC), ("g", "_1", ABC), ("A", "_0", ABC)],
+            Duplicate,
+        ),
+        (
+            [("g", "_0", ABC), ("w", "_1", ABC), ("g", "_2", ABC)],
+            Duplicate,
+        ),
+        (
+            [("w", "_0", ABC), ("g", "_1", ABC), ("A", "_2", ABC)],
+            missing(Key::Uuid),
         ),
     ];
-    for pair in &pairs {
-        let text = pair_text(rt.alloc(), pair)?;
-        assert_eq!(rt; snap_reason(rt.alloc(), text.as_str()), Some(pair.why));
+    for (files, why) in cases {
+        let text = files_text(rt.alloc(), files)?;
+        assert_eq!(rt; snap_reason(rt.alloc(), text.as_str()), Some(why), "{text}");
     }
     Ok(())
 }
@@ -390,64 +420,68 @@ fn the_files_of_a_snapshot_rise_by_name(rt: HostRuntime) -> Result<(), Fail> {
 #[test]
 fn the_files_of_an_index_rise_by_id(rt: HostRuntime) -> Result<(), Fail> {
     let falls = out_of_range(Key::Name, 0);
-    let pairs = [
-        of(("w", "_0"), ("g", "_1", ""), falls),
-        of(("g", "_0"), ("g", "_1", ""), Reason::BadId),
-        of(("g", "_0"), ("g", "_1", ABC), Reason::Duplicate),
-        of(
-            ("g", "_1"),
-            ("w", "_0", ABC),
-            Reason::Missing {
-                key: Key::Snapshots,
-            },
+    let falls_later = out_of_range(Key::Name, 1);
+    let cases = [
+        ([("w", "_0", ABC), ("g", "_1", ""), ("w", "_2", ABC)], falls),
+        (
+            [("A", "_0", ABC), ("w", "_1", ABC), ("g", "_2", "")],
+            falls_later,
+        ),
+        ([("g", "_0", ABC), ("g", "_1", ""), ("A", "_2", ABC)], BadId),
+        (
+            [("g", "_0", ABC), ("g", "_1", ABC), ("A", "_2", ABC)],
+            Duplicate,
+        ),
+        (
+            [("A", "_1", ABC), ("g", "_1", ABC), ("w", "_0", ABC)],
+            missing(Key::Snapshots),
         ),
     ];
-    for pair in &pairs {
-        let text = pair_text(rt.alloc(), pair)?;
-        assert_eq!(rt; index_reason(rt.alloc(), text.as_str()), Some(pair.why));
+    for (files, why) in cases {
+        let text = files_text(rt.alloc(), files)?;
+        assert_eq!(rt;
+            index_reason(rt.alloc(), text.as_str()),
+            Some(why),
+            "{text}"
+        );
     }
     Ok(())
 }
 
 #[test]
 fn the_first_refusal_of_the_lists_of_an_index(rt: HostRuntime) -> Result<(), Fail> {
-    let twice =
-        r#"[{"files":[],"uuid":"AAAAAAAAAAEAAAAAAAAAAA"},{"files":["__AAAAAAAAAAEAAAAAAAAAAw"],"uuid":"AAAAAAAAAAEAAAAAAAAAAA"}]"#;
     let cases = [
+        (r#"7"#, missing(Key::Files)),
+        (r#"{"uuid":1}"#, missing(Key::Files)),
+        (r#"{"files":1}"#, wrong_kind(Key::Files)),
+        (r#"{"files":[1],"uuid":1}"#, wrong_kind(Key::Files)),
+        (r#"{"files":["__",1],"uuid":1}"#, BadId),
+        (r#"{"files":["FILE"]}"#, missing(Key::Uuid)),
+        (r#"{"files":["FILE"],"uuid":1}"#, wrong_kind(Key::Uuid)),
         (
-            r#"{}"#,
-            Reason::WrongKind {
-                key: Key::Snapshots,
-            },
+            r#"{"files":["FILE"],"uuid":"AAAAAAAAAAEAAAAAAAAAAR"}"#,
+            BadId,
         ),
-        (r#"[{}]"#, Reason::Missing { key: Key::Files }),
-        (r#"[{"files":1}]"#, Reason::WrongKind { key: Key::Files }),
-        (
-            r#"[{"files":[1],"uuid":1}]"#,
-            Reason::WrongKind { key: Key::Files },
-        ),
-        (r#"[{"files":["__"],"uuid":1}]"#, Reason::BadId),
-        (r#"[{"files":[]}]"#, Reason::Missing { key: Key::Uuid }),
-        (twice, Reason::Duplicate),
-        (
-            r#"[{"files":["__AAAAAAAAAAEAAAAAAAAAAw","__AAAAAAAAAAEAAAAAAAAAAw"],"uuid":"AAAAAAAAAAEAAAAAAAAAAA"}]"#,
-            Reason::Duplicate,
-        ),
-        (
-            r#"[{"files":["__AAAAAAAAAAEAAAAAAAAAAw"],"uuid":"AAAAAAAAAAEAAAAAAAAAAA"}]"#,
-            Reason::Unlisted,
-        ),
+        (r#"{"files":[],SNAP},{"files":["FILE"],SNAP}"#, Duplicate),
+        (r#"{"files":["FILE","FILE"],SNAP}"#, Duplicate),
+        (r#"{"files":["FILE"],SNAP},7"#, Unlisted),
     ];
-    for (snapshots, why) in cases {
-        let text = format!(in rt.alloc(); "{{\"files\":[],\"snapshots\":{snapshots}}}")?;
-        assert_eq!(rt; index_reason(rt.alloc(), text.as_str()), Some(why));
+    for (lists, why) in cases {
+        let lists = lists.replace(rt.alloc(), "FILE", "__AAAAAAAAAAEAAAAAAAAAAw")?;
+        let lists = lists.replace(rt.alloc(), "SNAP", r#""uuid":"AAAAAAAAAAEAAAAAAAAAAA""#)?;
+        let text = format!(in rt.alloc(); "{{\"files\":[],\"snapshots\":[{lists}]}}")?;
+        assert_eq!(rt;
+            index_reason(rt.alloc(), text.as_str()),
+            Some(why),
+            "{lists}"
+        );
     }
     Ok(())
 }
 
 #[test]
 fn a_file_that_no_snapshot_has_is_left_out(rt: HostRuntime) -> Result<(), Fail> {
-    let file = entry_text(rt.alloc(), "w", "_1", ABC)?;
+    let file = entry_text(rt.alloc(), ("w", "_1", ABC))?;
     let text = format!(in rt.alloc();
         "{{\"files\":[{file}],\"more\":0,\"snapshots\":[{{\"files\":[],\"uuid\":\"AAAAAAAAAAEAAAAAAAAAAA\"}}]}}"
     )?;

@@ -1,27 +1,25 @@
-use Rattle.std.proofs.Common.{inl}
+use Rattle.std.proofs.Common.{inl, ap}
 use Rattle.esr_run.specs.Causes.{Given}
 use Rattle.esr_run.specs.Stops.{end_of}
 use Rattle.esr_run.proofs.Ending.{untouched, verdict_stopped, verdict_opened, run_opened}
 use Rattle.esr_run.proofs.whole.carry_out.Goals as goal
 
-pub returns-in-Ok-clause-run : goal.returns-in-Ok-clause-run
-returns-in-Ok-clause-run g c =
-    let given : Given = record { words = c.args.words.now; script = g.I.Lines.left c.args.script.now; faults = g.I.Counted.faults c.args.script.now } in
-    run_opened given (g.S.Sources.files c.args.sources.now) c.in-Ok.asked.part_size (g.D.Depot.look c.args.depot) (g.D.Depot.look c.open_and_carry.result.depot) (g.D.Counted.faults c.args.depot) (g.D.Counted.faults c.open_and_carry.result.depot)
-    c.open_and_carry.result.history c.in-Ok.ensures.size c.open_and_carry.ensures.run
-
-pub returns-in-Ok-clause-told : goal.returns-in-Ok-clause-told
-returns-in-Ok-clause-told g c =
-    let given : Given = record { words = c.args.words.now; script = g.I.Lines.left c.args.script.now; faults = g.I.Counted.faults c.args.script.now } in
-    verdict_opened c.open_and_carry.result.verdict.status c.open_and_carry.result.verdict.text given (g.S.Sources.files c.args.sources.now) (g.I.Counted.faults c.asked_for.new.script) c.in-Ok.asked.part_size
-    (g.D.Depot.look c.args.depot) (g.D.Depot.look c.open_and_carry.result.depot) (g.D.Counted.faults c.args.depot) (g.D.Counted.faults c.open_and_carry.result.depot) c.in-Ok.asked.script
-    c.open_and_carry.result.history c.in-Ok.ensures.size c.in-Ok.ensures.script c.open_and_carry.ensures.told
-
 pub returns-in-Err-clause-run : goal.returns-in-Err-clause-run
-returns-in-Err-clause-run g c = inl (untouched (g.D.Depot.look c.args.depot) c.new.result c.new.ensures)
+returns-in-Err-clause-run g c = inl (untouched (g.S.Sources.files c.args.sources.now) (g.D.Depot.look c.args.depot) (g.D.Depot.look c.ended_at.result.depot) c.ended_at.result.history c.new.result (ap g.D.Depot.look c.ended_at.ensures.depot) c.only_now.ensures c.ended_at.ensures.history c.new.ensures)
 
 pub returns-in-Err-clause-told : goal.returns-in-Err-clause-told
 returns-in-Err-clause-told g c =
     let given : Given = record { words = c.args.words.now; script = g.I.Lines.left c.args.script.now; faults = g.I.Counted.faults c.args.script.now } in
-    verdict_stopped c.stopped.result.status c.stopped.result.text given (g.S.Sources.files c.args.sources.now) (g.I.Counted.faults c.asked_for.new.script) (g.D.Depot.look c.args.depot) (g.D.Counted.faults c.args.depot) (g.D.Counted.faults c.args.depot)
-    c.new.result (end_of c.in-Err.stop) c.stopped.ensures c.in-Err.ensures.err c.new.ensures
+    verdict_stopped c.ended_at.result.verdict.status c.ended_at.result.verdict.text g.D.Fetch.Counted.faults given (g.S.Sources.files c.args.sources.now) (g.I.Counted.faults c.asked_for.new.script) (g.D.Depot.look c.args.depot) (g.D.Depot.look c.ended_at.result.depot)
+    (g.D.Counted.faults c.args.depot) (g.D.Counted.faults c.ended_at.result.depot) c.ended_at.result.history c.new.result (end_of c.in-Err.stop) c.ended_at.ensures.told c.in-Err.ensures.err
+    (untouched (g.S.Sources.files c.args.sources.now) (g.D.Depot.look c.args.depot) (g.D.Depot.look c.ended_at.result.depot) c.ended_at.result.history c.new.result (ap g.D.Depot.look c.ended_at.ensures.depot) c.only_now.ensures c.ended_at.ensures.history c.new.ensures)
+
+pub returns-clause-run : goal.returns-clause-run
+returns-clause-run g c = inl (untouched (g.S.Sources.files c.args.sources.now) (g.D.Depot.look c.args.depot) (g.D.Depot.look c.ended_at-in-Err-room_for_one.result.depot) c.ended_at-in-Err-room_for_one.result.history c.new-in-Err-room_for_one.result (ap g.D.Depot.look c.ended_at-in-Err-room_for_one.ensures.depot) c.only_now.ensures c.ended_at-in-Err-room_for_one.ensures.history c.new-in-Err-room_for_one.ensures)
+
+pub returns-in-Ok-room_for_one-clause-told : goal.returns-in-Ok-room_for_one-clause-told
+returns-in-Ok-room_for_one-clause-told g c =
+    let given : Given = record { words = c.args.words.now; script = g.I.Lines.left c.args.script.now; faults = g.I.Counted.faults c.args.script.now } in
+    verdict_opened c.open_and_carry.result.0.verdict.status c.open_and_carry.result.0.verdict.text g.D.Fetch.Counted.faults given (g.S.Sources.files c.args.sources.now) (g.I.Counted.faults c.asked_for.new.script) c.in-Ok.asked.part_size
+    (g.D.Depot.look c.args.depot) (g.D.Depot.look c.open_and_carry.result.0.depot) (g.D.Counted.faults c.args.depot) (g.D.Counted.faults c.open_and_carry.result.0.depot) c.in-Ok.asked.script
+    c.open_and_carry.result.0.history c.open_and_carry.result.1 c.in-Ok.ensures.size c.in-Ok.ensures.script c.open_and_carry.ensures.told

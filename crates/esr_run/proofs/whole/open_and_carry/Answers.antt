@@ -1,24 +1,49 @@
-use Rattle.std.proofs.Common.{inr}
-use Rattle.esr_repo.specs.Repo.{Kept}
-use Rattle.esr_run.proofs.Ending.{tells_files, opened_run, verdict_opening, verdict_refused}
+use Rattle.std.proofs.Common.{inl, inr, ap, ◌∙◌, subst}
+use Rattle.esr_depot.specs.Look.{now}
+use Rattle.esr_formats.specs.Clusters.{cluster_of}
+use Rattle.esr_formats.specs.Roots.{root_of}
+use Rattle.esr_opening.specs.Opening.{Kept}
+use Rattle.esr_run.specs.Causes.{IsTold}
+use Rattle.esr_run.specs.Faults.{listed}
+use Rattle.esr_run.proofs.Worlds.{begun_world, begins}
+use Rattle.esr_run.proofs.Ending.{tells_files, refused_at, unopened, opened_run, verdict_opening, verdict_refused}
 use Rattle.esr_run.proofs.whole.open_and_carry.Goals as goal
 
-pub run_told-requires-clause-sources : goal.run_told-requires-clause-sources
-run_told-requires-clause-sources g c κs within = tells_files (g.S.Sources.files c.args.sources.now) c.args.asked.now.part_size (g.D.Depot.look c.in-Ok.opening.depot) (g.S.Sources.is_there c.args.sources.now)
+pub run_told-done-requires-clause-begun : goal.run_told-done-requires-clause-begun
+run_told-done-requires-clause-begun g c κs within =
+    let k : Kept = record { cluster = c.in-Ok.opening.cluster; root = c.in-Ok.opening.root; plan = c.in-Ok.opening.progress; next = c.in-Ok.opening.next.number } in
+    begins (g.S.Sources.files c.args.sources.now) c.args.asked.now.part_size (g.D.Depot.look c.args.depot) (g.D.Depot.look c.in-Ok.opening.depot) k c.in-Ok.ensures.opened c.only_now.ensures
+
+pub run_told-done-requires-clause-sources : goal.run_told-done-requires-clause-sources
+run_told-done-requires-clause-sources g c κs within =
+    tells_files (g.S.Sources.files c.args.sources.now) c.args.asked.now.part_size (g.D.Depot.look c.in-Ok.opening.depot) (begun_world (now (g.D.Depot.look c.in-Ok.opening.depot)) (cluster_of c.in-Ok.opening.cluster) (root_of c.in-Ok.opening.root)) (g.S.Sources.is_there c.args.sources.now)
 
 pub returns-in-Ok-clause-run : goal.returns-in-Ok-clause-run
 returns-in-Ok-clause-run g c =
     let k : Kept = record { cluster = c.in-Ok.opening.cluster; root = c.in-Ok.opening.root; plan = c.in-Ok.opening.progress; next = c.in-Ok.opening.next.number } in
-    inr (opened_run (g.S.Sources.files c.args.sources.now) c.args.asked.now.part_size (g.D.Depot.look c.args.depot) (g.D.Depot.look c.in-Ok.opening.depot) (g.D.Depot.look c.run_told.result.depot) k c.run_told.result.history c.in-Ok.ensures.opened c.run_told.ensures.legal)
+    inr (opened_run c.laws.ensures (g.S.Sources.files c.args.sources.now) c.args.asked.now.part_size (g.D.Depot.look c.args.depot) (g.D.Depot.look c.in-Ok.opening.depot) (g.D.Depot.look c.run_told-done.result.depot) k c.run_told-done.result.history c.faults_of.result
+    c.in-Ok.ensures.opened c.run_told-done.ensures.legal c.run_told-done.ensures.past c.faults_of.ensures)
 
 pub returns-in-Ok-clause-told : goal.returns-in-Ok-clause-told
 returns-in-Ok-clause-told g c =
     let k : Kept = record { cluster = c.in-Ok.opening.cluster; root = c.in-Ok.opening.root; plan = c.in-Ok.opening.progress; next = c.in-Ok.opening.next.number } in
-    verdict_opening c.run_told.result.verdict.status c.run_told.result.verdict.text (g.S.Sources.files c.args.sources.now) c.args.asked.now.part_size (g.D.Depot.look c.args.depot) (g.D.Depot.look c.run_told.result.depot)
-    (g.D.Counted.faults c.args.depot) (g.D.Counted.faults c.run_told.result.depot) c.args.asked.now.script c.run_told.result.history c.run_told.ensures.told
-    (opened_run (g.S.Sources.files c.args.sources.now) c.args.asked.now.part_size (g.D.Depot.look c.args.depot) (g.D.Depot.look c.in-Ok.opening.depot) (g.D.Depot.look c.run_told.result.depot) k c.run_told.result.history c.in-Ok.ensures.opened c.run_told.ensures.legal)
+    verdict_opening c.run_told-done.result.verdict.status c.run_told-done.result.verdict.text g.D.Fetch.Counted.faults (g.S.Sources.files c.args.sources.now) c.args.asked.now.part_size (g.D.Depot.look c.args.depot) (g.D.Depot.look c.run_told-done.result.depot) (g.D.Counted.faults c.args.depot) (g.D.Counted.faults c.run_told-done.result.depot)
+    c.args.asked.now.script c.run_told-done.result.history c.faults_of.result c.run_told-done.ensures.told
+    (opened_run c.laws.ensures (g.S.Sources.files c.args.sources.now) c.args.asked.now.part_size (g.D.Depot.look c.args.depot) (g.D.Depot.look c.in-Ok.opening.depot) (g.D.Depot.look c.run_told-done.result.depot) k c.run_told-done.result.history c.faults_of.result
+    c.in-Ok.ensures.opened c.run_told-done.ensures.legal c.run_told-done.ensures.past c.faults_of.ensures)
+
+pub returns-in-Err-clause-run : goal.returns-in-Err-clause-run
+returns-in-Err-clause-run g c =
+    inl (unopened c.laws.ensures g.D.Fetch.Counted.faults (g.S.Sources.files c.args.sources.now) (g.D.Depot.look c.args.depot) (g.D.Depot.look c.ended_at.result.depot) (g.D.Counted.faults c.args.depot) (g.D.Counted.faults c.ended_at.result.depot) c.ended_at.result.history c.faults_of-in-Err.result c.in-Err.refusal
+    (refused_at g.D.Fetch.Counted.faults (g.D.Depot.look c.args.depot) (g.D.Depot.look c.in-Err.depot) (g.D.Depot.look c.ended_at.result.depot) (g.D.Counted.faults c.args.depot) (g.D.Counted.faults c.in-Err.depot) (g.D.Counted.faults c.ended_at.result.depot) c.in-Err.refusal
+    (ap g.D.Depot.look c.ended_at.ensures.depot) (ap g.D.Counted.faults c.ended_at.ensures.depot) c.in-Err.ensures.refused)
+    c.ended_at.ensures.history (c.faults_of-in-Err.ensures ∙ ap listed c.stop_of-stop.ensures.fetch))
 
 pub returns-in-Err-clause-told : goal.returns-in-Err-clause-told
 returns-in-Err-clause-told g c =
-    verdict_refused c.refused.result.status c.refused.result.text (g.S.Sources.files c.args.sources.now) c.args.asked.now.part_size (g.D.Depot.look c.args.depot) (g.D.Depot.look c.in-Err.depot)
-    (g.D.Counted.faults c.args.depot) (g.D.Counted.faults c.in-Err.depot) c.args.asked.now.script c.new.result c.in-Err.refusal c.refused.ensures c.in-Err.ensures.refused c.new.ensures
+    verdict_refused c.ended_at.result.verdict.status c.ended_at.result.verdict.text g.D.Fetch.Counted.faults (g.S.Sources.files c.args.sources.now) c.args.asked.now.part_size (g.D.Depot.look c.args.depot) (g.D.Depot.look c.ended_at.result.depot) (g.D.Counted.faults c.args.depot) (g.D.Counted.faults c.ended_at.result.depot)
+    c.args.asked.now.script c.ended_at.result.history c.faults_of-in-Err.result c.in-Err.refusal
+    (subst (IsTold c.ended_at.result.verdict.status c.ended_at.result.verdict.text) c.stop_of-stop.ensures.stop c.ended_at.ensures.told)
+    (refused_at g.D.Fetch.Counted.faults (g.D.Depot.look c.args.depot) (g.D.Depot.look c.in-Err.depot) (g.D.Depot.look c.ended_at.result.depot) (g.D.Counted.faults c.args.depot) (g.D.Counted.faults c.in-Err.depot) (g.D.Counted.faults c.ended_at.result.depot) c.in-Err.refusal
+    (ap g.D.Depot.look c.ended_at.ensures.depot) (ap g.D.Counted.faults c.ended_at.ensures.depot) c.in-Err.ensures.refused)
+    c.ended_at.ensures.history (c.faults_of-in-Err.ensures ∙ ap listed c.stop_of-stop.ensures.fetch)

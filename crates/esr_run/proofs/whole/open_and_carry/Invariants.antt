@@ -1,8 +1,14 @@
+use Rattle.esr_depot.specs.Look.{now}
+use Rattle.esr_formats.specs.Clusters.{cluster_of}
+use Rattle.esr_formats.specs.Roots.{root_of}
 use Rattle.esr_run.specs.Start.{start_of}
+use Rattle.esr_run.proofs.Worlds.{begun_world}
 use Rattle.esr_run.proofs.whole.open_and_carry.Given as goal
 
 abbrev pub ghosts-run_told : goal.ghosts-run_told
 ghosts-run_told g a = record {
-  start = start_of (g.S.Sources.files a.sources.now) a.asked.now.part_size (g.D.Depot.look a.opening.depot);
+  start = start_of (g.S.Sources.files a.sources.now) a.asked.now.part_size (g.D.Depot.look a.opening.depot)
+      (begun_world (now (g.D.Depot.look a.opening.depot)) (cluster_of a.opening.cluster) (root_of a.opening.root));
   clock = (g.D.Depot.look a.opening.depot).clock;
+  past = (g.D.Depot.look a.opening.depot).since;
 }

@@ -5,7 +5,7 @@ use Rattle.esr_run.proofs.whole.run.Goals as goal
 pub returns-clause-end : goal.returns-clause-end
 returns-clause-end g c =
     let given : Given = record { words = c.args.words.now; script = g.I.Lines.left c.args.script.now; faults = g.I.Counted.faults c.args.script.now } in
-    let r = c.carry_out-verdict.result in
+    let r = c.carry_out-done.result.0 in
     printed c.print_verdict-status.result r.verdict.status r.verdict.text (g.O.Out.contents c.args.out.now) (g.O.Out.contents c.print_verdict-status.new.out) (g.O.Counted.faults c.args.out.now) (g.O.Counted.faults c.print_verdict-status.new.out)
-    (IsCauseOf given (g.S.Sources.files c.args.sources.now) (g.I.Counted.faults c.carry_out-verdict.new.script) (g.D.Depot.look c.args.depot) (g.D.Depot.look r.depot) (g.D.Counted.faults c.args.depot) (g.D.Counted.faults r.depot) r.history)
-    c.carry_out-verdict.ensures.told c.print_verdict-status.ensures
+    (IsCauseOf g.D.Fetch.Counted.faults given (g.S.Sources.files c.args.sources.now) (g.I.Counted.faults c.carry_out-done.new.script) (g.D.Depot.look c.args.depot) (g.D.Depot.look r.depot) (g.D.Counted.faults c.args.depot) (g.D.Counted.faults r.depot) r.history c.carry_out-done.result.1)
+    c.carry_out-done.ensures.told c.print_verdict-status.ensures

@@ -1,6 +1,4 @@
 use Rattle.esr_formats.specs.Names.{name_of}
-use Rattle.esr_core.specs.Entry.{BeginStep, WasBegun}
-use Rattle.esr_repo.specs.Next.{Did}
 use Rattle.std.proofs.Common.{refl, rules}
 use Rattle.esr_repo.proofs.Written.{may_begin, begun_ticket}
 use Rattle.esr_repo.proofs.repo.Repo.begin.Goals as goal

@@ -1,4 +1,3 @@
-use Rattle.std.proofs.Common.{ap}
 use Rattle.esr_desk.specs.Start.{world_of}
 use Rattle.esr_desk.specs.Entries.{unit_of}
 use Rattle.esr_repo.proofs.Taken.{rootable, may_give, took}

@@ -1,6 +1,7 @@
 use Rattle.std.proofs.Common.{List, sym, subst}
 use Rattle.esr_core.specs.Entry.{Entry}
 use Rattle.esr_repo.specs.Repo.{Kept, IsRepo}
+use Rattle.esr_repo.specs.Past.{IsPast}
 use Rattle.esr_repo.proofs.repo.Repo.into_parts.Goals as goal
 
 pub returns-clause-repo : goal.returns-clause-repo
@@ -8,5 +9,9 @@ returns-clause-repo g c =
     let k : Kept = record { cluster = c.self.inside.cluster; root = c.self.inside.root; plan = c.self.inside.progress; next = c.self.inside.next.number } in (
       k,
       c.self.inside.deposed,
-      subst (λ (es : List Entry). IsRepo (g.D.Depot.look c.self.inside.depot) g.K.Told.start g.K.Told.clock es k c.self.inside.deposed) (sym c.from_vec.ensures) c.self.invariant,
+      subst (λ (es : List Entry). IsRepo (g.D.Depot.look c.self.inside.depot) g.K.Told.start g.K.Told.clock es k c.self.inside.deposed) (sym c.from_vec.ensures) c.self.invariant.repo,
     )
+
+pub returns-clause-past : goal.returns-clause-past
+returns-clause-past g c =
+    subst (λ (es : List Entry). IsPast g.K.Told.start g.K.Told.clock g.K.Told.past (g.D.Depot.look c.self.inside.depot) es) (sym c.from_vec.ensures) c.self.invariant.past

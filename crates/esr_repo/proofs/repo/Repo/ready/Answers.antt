@@ -1,4 +1,4 @@
-use Rattle.std.proofs.Common.{sym, ap, ◌∙◌, subst, w64, rules}
+use Rattle.std.proofs.Common.{ap, ◌∙◌, subst, w64, rules}
 use Rattle.std.proofs.lemmas.Int.{to_z-of_z}
 use Rattle.esr_formats.specs.Clusters.{count_of}
 use Rattle.esr_progress.specs.Units.{NextUnit}

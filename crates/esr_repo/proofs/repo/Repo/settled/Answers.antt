@@ -1,8 +1,7 @@
-use Rattle.std.proofs.Common.{ℕ, ap, ◌∙◌, sym}
+use Rattle.std.proofs.Common.{ap, ◌∙◌, sym}
 use Rattle.esr_record.specs.Record.{Record}
 use Rattle.esr_formats.specs.Roots.{root_of}
 use Rattle.esr_formats.specs.Clusters.{cluster_of}
-use Rattle.esr_model.specs.Values.{RootData}
 use Rattle.std.proofs.Common.{subst}
 use Rattle.esr_root.specs.Root.{Root}
 use Rattle.esr_desk.specs.Conditions.{CanSettle}

@@ -1,0 +1,5 @@
+use Rattle.esr_core.proofs.Left.{left_lasts}
+use Rattle.esr_core.proofs.left_images_are_no_older.Goals as goal
+
+pub returns : goal.returns
+returns c = λ f size shelf w log i known l back legal told honest left. (left_lasts f size log w shelf i known l back legal told honest left).rises

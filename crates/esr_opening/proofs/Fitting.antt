@@ -1,0 +1,194 @@
+-- A record and a root that can be opened: their ids, names and numbers.
+use Rattle.std.proofs.Common.{◌≡◌, ◌⊎◌, inl, inr, ℕ, suc, ◌+◌, ◌<◌, ◌≤◌, Bool, true, false, ◌==◌, ℤ, pos, negsuc, ◌≤ℤ◌, List, [], ◌∷◌, ◌++◌, length, map, codes, Option, Some, None, Result, Ok, Err, refl, sym, ap, ◌∙◌, subst, ⊎_elim, arith, eq-eqb, nat_cmp, Ordering}
+use Rattle.std.specs.Prelude.{if◌then◌else◌}
+use Rattle.std.specs.Ordering.{is_eq}
+use Rattle.std.specs.FinMap.{FinMap}
+use Rattle.std.specs.FinMap as fin
+use Rattle.std.specs.Str.{bytes_eq}
+use Rattle.std.specs.declared.cmp.Ordering.TheVariants.{Less}
+use Rattle.std.proofs.lemmas.Bool.{eqb-true, true≢false}
+use Rattle.std.proofs.lemmas.Int.{ints}
+use Rattle.esr_names.specs.declared.ids.Id.{Id}
+use Rattle.esr_model.specs.Values.{Bytes, Has, RootSnap, RootIndex, RootData, RecordWork, ClusterRecord, ReadsBack}
+use Rattle.esr_model.specs.Image.{Generation}
+use Rattle.esr_model.specs.Kept.{first_id, RootIds}
+use Rattle.esr_core.specs.World.{World, Op, Deletion, opened, record_of, record_ops, work_of, deletion_work, kept_deletes, numbered_deletes}
+use Rattle.esr_core.specs.Tracked.{Tracked, IsOneIndex}
+use Rattle.esr_core.specs.Ranked.{Ranked}
+use Rattle.esr_depot.specs.Image.{Image as Held, Blobs}
+use Rattle.esr_record.specs.Record.{Record, AreNumbers}
+use Rattle.esr_record.specs.declared.op.RecordOp.{RecordOp}
+use Rattle.esr_record.specs.declared.op.OpWork.{OpWork}
+use Rattle.esr_record.specs.declared.op.OpWork.TheVariants as works
+use Rattle.esr_root.specs.Ids.{same_id}
+use Rattle.esr_root.specs.Snaps.{lists}
+use Rattle.esr_root.specs.Indices.{same_index, by_name, IsListed}
+use Rattle.esr_root.specs.Root.{Root, IsRoot}
+use Rattle.esr_root.specs.declared.snaps.RootSnap.{RootSnap as CodeSnap}
+use Rattle.esr_root.specs.declared.indices.RootIndex.{RootIndex as CodeIndex}
+use Rattle.esr_formats.specs.Ids.{number_of}
+use Rattle.esr_formats.specs.Roots.{root_of, root_snap_of, root_index_of}
+use Rattle.esr_formats.specs.Clusters.{count_of, work_of_code, op_of, cluster_of, cluster_kind}
+use Rattle.esr_results.proofs.Choices.{named_so, below}
+use Rattle.esr_opening.specs.Foreign.{snapshot_ids, index_ids, root_ids, first_from}
+use Rattle.esr_opening.specs.Found.{Obstacle, Damage, ◌>>=◌, known_by, known_ids, is_delete, no_delete, has_term, safe_number}
+use Rattle.esr_opening.specs.declared.refusal.Why.TheVariants.{OpenDelete}
+use Rattle.esr_opening.specs.Opening.{known_blobs, world_in, IsInOrder}
+use Rattle.esr_opening.specs.Terms.{own_checks, IsFit, next_term}
+use Rattle.esr_opening.proofs.Members.{mapped, has_map, in_left, in_right, all_has, pass_has, any_has, apart_has, rising_has}
+use Rattle.esr_opening.proofs.Below.{all_below, uuid_in, index_in, generation_in_indices}
+
+-- ---- steps that were Ok
+
+pub bind_ok : {A B : Type 0} (r : Result A Obstacle) (f : A → Result B Obstacle) (y : B) → (r >>= f) ≡ Ok y → (x : A) × (r ≡ Ok x) × (f x ≡ Ok y)
+bind_ok (Ok x) f y h = (x, refl, h)
+bind_ok (Err e) f y h = absurd cc
+
+known_none : (n : ℕ) (o : Option ℕ) (x : Unit {0}) → known_by n o ≡ Ok x → o ≡ None
+known_none n None x h = refl
+known_none n (Some id) x h = absurd cc
+
+abbrev bound_of : Record → ℕ
+bound_of cluster = first_id (suc cluster.term)
+
+fit_first : (cluster : Record) (root : Root) → IsFit cluster root → first_from (bound_of cluster) (root_ids (root_of root)) ≡ None
+fit_first cluster root fit =
+    let first = bind_ok (known_ids root (safe_number cluster.safe) cluster.term) _ tt fit.checked in
+    known_none (safe_number cluster.safe) _ first.0 first.1
+
+fit_deletes : (cluster : Record) (root : Root) → IsFit cluster root → (x : Unit {0}) × (no_delete cluster.ops ≡ Ok x) × (has_term cluster.term ≡ Ok tt)
+fit_deletes cluster root fit =
+    let first = bind_ok (known_ids root (safe_number cluster.safe) cluster.term) _ tt fit.checked in
+    bind_ok (no_delete cluster.ops) _ tt first.2
+
+-- ---- ids
+
+id_below : (cluster : Record) (root : Root) → IsFit cluster root → (id : ℕ) → Has (root_ids (root_of root)) id → id < bound_of cluster
+id_below cluster root fit id h = all_below (bound_of cluster) (root_ids (root_of root)) (fit_first cluster root fit) id h
+
+uuid_below : (cluster : Record) (root : Root) → IsFit cluster root → (s : RootSnap) → Has (root_of root).snapshots s → s.uuid < bound_of cluster
+uuid_below cluster root fit s h =
+    id_below cluster root fit s.uuid (in_left (snapshot_ids (root_of root).snapshots) (index_ids (root_of root).indices) s.uuid (uuid_in (root_of root).snapshots s h))
+
+index_below : (cluster : Record) (root : Root) → IsFit cluster root → (id : ℕ) → Has (index_ids (root_of root).indices) id → id < bound_of cluster
+index_below cluster root fit id h = id_below cluster root fit id (in_right (snapshot_ids (root_of root).snapshots) (index_ids (root_of root).indices) id h)
+
+-- a snapshot of an index is listed
+listed : (root : Root) → IsRoot root → (x : RootIndex) (u : ℕ) → Has (root_of root).indices x → Has x.snapshots u → (s : RootSnap) × Has (root_of root).snapshots s × (s.uuid ≡ u)
+listed root rules x u has_x has_u =
+    let i = mapped root_index_of root.indices x has_x in
+    let v = mapped number_of i.0.snapshots u (subst (λ (y : RootIndex). Has y.snapshots u) (sym i.2) has_u) in
+    let passes = pass_has (lists root.snapshots) i.0.snapshots v.0 (all_has (IsListed root.snapshots) root.indices i.0 rules.listed i.1) v.1 in
+    let s = any_has (λ (z : CodeSnap). same_id z.uuid v.0) root.snapshots passes in
+    (root_snap_of s.0, has_map root_snap_of root.snapshots s.0 s.1, eqb-true s.0.uuid.number v.0.number s.2 ∙ v.2)
+
+-- one name to each id, and one id to each name
+one_index : (root : Root) → IsRoot root → (x y : RootIndex) → Has (root_of root).indices x → Has (root_of root).indices y → IsOneIndex x.name x.id y.name y.id
+one_index root rules x y has_x has_y =
+    let i = mapped root_index_of root.indices x has_x in
+    let j = mapped root_index_of root.indices y has_y in
+    record {
+      one_name = λ same.
+          let ids : i.0.id.number ≡ j.0.id.number = ap (λ (z : RootIndex). z.id) i.2 ∙ same ∙ sym (ap (λ (z : RootIndex). z.id) j.2) in
+          let one : i.0 ≡ j.0 = same_by_id i.0 j.0 ids (apart_has same_index root.indices i.0 j.0 rules.indices.distinct i.1 j.1) in
+          sym (ap (λ (z : RootIndex). z.name) i.2) ∙ ap (λ (z : CodeIndex). z.name) one ∙ ap (λ (z : RootIndex). z.name) j.2;
+      one_id = λ same.
+          let names : i.0.name ≡ j.0.name = ap (λ (z : RootIndex). z.name) i.2 ∙ same ∙ sym (ap (λ (z : RootIndex). z.name) j.2) in
+          let one : i.0 ≡ j.0 = same_by_name i.0 j.0 names (rising_has by_name root.indices i.0 j.0 rules.indices.rises i.1 j.1) in
+          sym (ap (λ (z : RootIndex). z.id) i.2) ∙ ap (λ (z : CodeIndex). z.id.number) one ∙ ap (λ (z : RootIndex). z.id) j.2;
+    }
+  where
+    same_by_id : (i j : CodeIndex) → i.id.number ≡ j.id.number → (i ≡ j) ⊎ ((same_index i j ≡ false) ⊎ (same_index j i ≡ false)) → i ≡ j
+    same_by_id i j ids (inl one) = one
+    same_by_id i j ids (inr (inl other)) = absurd (true≢false (sym (eq-eqb i.id.number j.id.number ids) ∙ other))
+    same_by_id i j ids (inr (inr other)) = absurd (true≢false (sym (eq-eqb j.id.number i.id.number (sym ids)) ∙ other))
+
+    same_by_name : (i j : CodeIndex) → i.name ≡ j.name → (i ≡ j) ⊎ ((by_name i j ≡ Less) ⊎ (by_name j i ≡ Less)) → i ≡ j
+    same_by_name i j names (inl one) = one
+    same_by_name i j names (inr (inl less)) = absurd (true≢false (sym (named_so i.name j.name names) ∙ (below i.name j.name less).0))
+    same_by_name i j names (inr (inr less)) = absurd (true≢false (sym (named_so i.name j.name names) ∙ (below j.name i.name less).1))
+
+pub fit_ids : (cluster : Record) (root : Root) → IsFit cluster root → RootIds (root_of root) (first_id (suc cluster.term))
+fit_ids cluster root fit = record {
+  generations = λ i k g is. index_below cluster root fit g (generation_in_indices (root_of root).indices i k g is);
+  snapshots = uuid_below cluster root fit;
+  ids = λ x has. index_below cluster root fit x.id (index_in (root_of root).indices x has);
+  uuids = λ x u has_x has_u.
+      let s = listed root fit.rules x u has_x has_u in
+      subst (λ n. n < bound_of cluster) s.2 (uuid_below cluster root fit s.0 s.1);
+  one_name = λ x y has_x has_y same. (one_index root fit.rules x y has_x has_y).one_name same;
+}
+
+-- ---- no delete
+
+kept_by : (n : ℕ) (w : OpWork) (ops : List RecordOp) (x : Unit {0}) → (if is_delete w then Err (Damage (codes "record") (OpenDelete n)) else no_delete ops) ≡ Ok x → (no_delete ops ≡ Ok x → kept_deletes (map op_of ops) ≡ [])
+    → kept_deletes ((n, work_of_code w) ∷ map op_of ops) ≡ []
+kept_by n (works.Create info) ops x h rest = rest h
+kept_by n (works.Clone info source) ops x h rest = rest h
+kept_by n (works.Delete uuids) ops x h rest = absurd cc
+kept_by n works.Cleanup ops x h rest = rest h
+
+kept_none : (ops : List RecordOp) (x : Unit {0}) → no_delete ops ≡ Ok x → kept_deletes (map op_of ops) ≡ []
+kept_none [] x h = refl
+kept_none (o ∷ ops) x h = kept_by o.op o.work ops x h (kept_none ops x)
+
+pub fit_kept : (cluster : Record) (root : Root) → IsFit cluster root → kept_deletes (cluster_of cluster).ops ≡ []
+fit_kept cluster root fit = let none = fit_deletes cluster root fit in kept_none cluster.ops none.0 none.1
+
+-- ---- numbers
+
+no_length : {A : Type 0} (es : List A) → length es ≡ 0 → es ≡ []
+no_length [] e = refl
+no_length (x ∷ es) e = absurd (omega arith)
+
+pub entries_none : {K X : Type 0} (R : K → K → Ordering) → fin.entries (fin.empty {K = K} {X = X} {R = R}) ≡ []
+entries_none R = no_length (fin.entries fin.empty) (sym (fin.len-entries fin.empty) ∙ fin.len-empty R _)
+
+abbrev op_entry : ℕ × Op → ℕ × RecordWork
+op_entry e = (e.0, work_of e.1)
+
+abbrev deletion_entry : ℕ × Deletion → ℕ × RecordWork
+deletion_entry e = (e.0, deletion_work e.1)
+
+both_none : (xs : List (ℕ × Op)) (ys : List (ℕ × Deletion)) → xs ≡ [] → ys ≡ [] → fin.entries (fin.from_entries {R = nat_cmp} (map op_entry xs ++ map deletion_entry ys)) ≡ []
+both_none [] [] a b = entries_none nat_cmp
+both_none (x ∷ xs) ys a b = absurd (never x xs a)
+  where
+    never : (y : ℕ × Op) (ys : List (ℕ × Op)) → y ∷ ys ≡ [] → ⊥
+    never y ys q = cc
+both_none [] (y ∷ ys) a b = absurd (never y ys b)
+  where
+    never : (y : ℕ × Deletion) (ys : List (ℕ × Deletion)) → y ∷ ys ≡ [] → ⊥
+    never y ys q = cc
+
+no_ops : record_ops fin.empty fin.empty ≡ []
+no_ops = both_none (fin.entries (fin.empty {X = Op} {R = nat_cmp})) (fin.entries (fin.empty {X = Deletion} {R = nat_cmp})) (entries_none nat_cmp) (entries_none nat_cmp)
+
+pub plus_one : (n : ℕ) → suc n ≡ n + 1
+plus_one n = omega arith
+
+-- the record of the opened world
+pub record_is : (held : Option Held) (cluster : Record) (root : Root) → IsFit cluster root → record_of (world_in held cluster root) ≡ cluster_of (next_term cluster)
+record_is held cluster root fit =
+    let at_term : ℕ → List (ℕ × RecordWork) → ClusterRecord = λ (t : ℕ) (ops : List (ℕ × RecordWork)). record { ledger = record { safe = count_of cluster.safe; pending = count_of cluster.pending; term = t }; ops = ops } in
+    ap (λ (kept : List (List ℕ)). at_term (suc cluster.term) (record_ops fin.empty (numbered_deletes 1 kept))) (fit_kept cluster root fit)
+    ∙ ap (at_term (suc cluster.term)) no_ops
+    ∙ ap (λ (t : ℕ). at_term t []) (plus_one cluster.term)
+
+ordered : (safe pending : ℤ) → safe ≤ℤ pending → count_of safe ≤ count_of pending
+ordered (negsuc m) pending le = omega arith
+ordered (pos n) (pos m) le = omega (arith, ints)
+ordered (pos n) (negsuc m) le = absurd (omega (arith, ints))
+
+-- ---- the opened world
+
+pub in_order : (held : Option Held) (cluster : Record) (root : Root) → IsFit cluster root → ReadsBack cluster_kind (cluster_of (next_term cluster))
+    → ((blobs : Blobs) (cluster : ClusterRecord) (root : RootData) → RootIds root (first_id (suc cluster.ledger.term))
+    → ((x y : RootIndex) → Has root.indices x → Has root.indices y → IsOneIndex x.name x.id y.name y.id) → Tracked (opened blobs cluster root))
+    → ((blobs : Blobs) (cluster : ClusterRecord) (root : RootData) → cluster.ledger.safe ≤ cluster.ledger.pending → Ranked (opened blobs cluster root)) → IsInOrder (world_in held cluster root)
+in_order held cluster root fit back tracked ranked = record {
+  record_back = subst (λ (c : ClusterRecord). ReadsBack cluster_kind c) (sym (record_is held cluster root fit)) back;
+  tracked = tracked (known_blobs held) (cluster_of cluster) (root_of root) (fit_ids cluster root fit) (one_index root fit.rules);
+  ranked = ranked (known_blobs held) (cluster_of cluster) (root_of root) (ordered cluster.safe cluster.pending fit.numbers.order);
+  no_deletes = ap (numbered_deletes 1) (fit_kept cluster root fit);
+}

@@ -1,0 +1,11 @@
+pub mod Looking
+pub mod Answering
+pub mod Reading
+pub mod Served
+pub mod Members
+pub mod Below
+pub mod Fitting
+pub mod Steps
+pub mod Opens
+pub mod Begins
+pub mod Finding

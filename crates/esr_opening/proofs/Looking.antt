@@ -1,0 +1,65 @@
+-- Looks into a container, one after another.
+use Rattle.std.proofs.Common.{◌≡◌, ◌⊎◌, inl, inr, List, ℕ, ◌≤◌, true, false, Option, Some, None, Result, Ok, Err, refl, sym, ap, ◌∙◌, subst, arith}
+use Rattle.esr_depot.specs.Image.{Image as Held, with_text, swap_known}
+use Rattle.esr_depot.specs.Changes.{Swapped, SwapMay}
+use Rattle.esr_depot.specs.Look.{Look, now}
+use Rattle.esr_depot.specs.declared.error.CallError.{CallError}
+use Rattle.esr_depot.specs.declared.error.CallError.TheVariants.{Memory, Failed}
+use Rattle.esr_depot.specs.Calls.{Change, SameImage, Stays, Called, HasCause, has_failed}
+use Rattle.esr_depot.specs.Moments.{LeavesOnly, started, goes_on, joined}
+use Rattle.esr_opening.specs.Opening.{IsAsBefore}
+use Rattle.esr_opening.specs.Looked.{Looked}
+use Rattle.esr_opening.specs.Terms.{MayHave}
+
+-- since now there is no image but that of now
+abbrev pub OnlyNow : Look → Type 0
+OnlyNow l = (i : Held) → l.since l.clock i → now l ≡ Some i
+
+-- no call was made
+pub looked_none : (l : Look) (faults : ℕ) → OnlyNow l → Looked l l faults faults
+looked_none l faults only = record { kept = record { same = refl; left = started l (λ i. now l ≡ Some i) only }; later = omega arith }
+
+-- no time passed
+pub stays_now : (old new : Look) → Stays old new → now new ≡ now old
+stays_now old new stays = ap (λ (k : ℕ). new.at k) stays.clock ∙ stays.at old.clock
+
+-- a call that leaves the image
+same_now : {T : Type 0} (old new : Look) (result : Result T CallError) → Called old new (λ _. SameImage) SameImage result → now new ≡ now old
+same_now old new (Ok x) called = called.done
+same_now old new (Err Memory) called = stays_now old new (called.stays refl)
+same_now old new (Err Failed) called = called.failed refl
+
+pub looked_call : {T : Type 0} (old new : Look) (old_faults new_faults : ℕ) (result : Result T CallError) → OnlyNow old → Called old new (λ _. SameImage) SameImage result
+    → HasCause old_faults new_faults (has_failed result) → Looked old new old_faults new_faults
+looked_call old new old_faults new_faults result only called cause =
+    let P : Held → Type 0 = λ i. now old ≡ Some i in
+    record {
+      kept = record { same = same_now old new result called; left = goes_on old old new P (λ _. SameImage) SameImage result (started old P only) called (λ i m. sym m) };
+      later = cause.later;
+    }
+
+-- two looks, one after the other
+pub looked_on : (a b c : Look) (x y z : ℕ) → Looked a b x y → Looked b c y z → Looked a c x z
+looked_on a b c x y z first second = record {
+  kept = record {
+    same = second.kept.same ∙ first.kept.same;
+    left = joined a b c (λ i. now a ≡ Some i) (λ i. now b ≡ Some i) first.kept.left second.kept.left (λ i is. sym first.kept.same ∙ is);
+  };
+  later = omega (arith, first.later, second.later);
+}
+
+-- ---- the swap of the record
+
+put_text : (before : Option Held) (text : List ℕ) (i : Held) → Some i ≡ swap_known before text → MayHave before text i
+put_text None text i is = absurd cc
+put_text (Some j) text i is = inr (j, refl, cc)
+
+may_have : (before : Option Held) (text : List ℕ) (i : Held) → SwapMay text before (Some i) → MayHave before text i
+may_have before text i (inl same) = inl (sym same)
+may_have before text i (inr put) = put_text before text i put
+
+pub left_swap : (old new : Look) (text own : List ℕ) (result : Result (Unit {0}) CallError) → OnlyNow old → Called old new (λ _. Swapped text) (SwapMay text) result → text ≡ own → LeavesOnly old new (MayHave (now old) own)
+left_swap old new text own result only called is =
+    let P : Held → Type 0 = MayHave (now old) text in
+    subst (λ (t : List ℕ). LeavesOnly old new (MayHave (now old) t)) is
+    (goes_on old old new P (λ _. Swapped text) (SwapMay text) result (started old P (λ i left. inl (only i left))) called (may_have (now old) text))

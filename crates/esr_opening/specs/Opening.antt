@@ -1,0 +1,112 @@
+-- What the opening of a container does.
+use Rattle.std.specs.Prelude.{◌≡◌, ◌⊎◌, ℕ, ◌-◌, ◌^◌, ◌<◌, ◌≤◌, Bool, true, List, Option, Some, None, Ok, Err}
+use Rattle.std.specs.FinMap as fin
+use Rattle.esr_model.specs.Values.{Bytes, ReadsBack, RootData, ClusterRecord}
+use Rattle.esr_model.specs.Image.{Blobs, Image}
+use Rattle.esr_core.specs.World.{World, record_of, opened, Opened}
+use Rattle.esr_core.specs.Tracked.{Tracked}
+use Rattle.esr_core.specs.Ranked.{Ranked}
+use Rattle.esr_depot.specs.Image.{Image as Held, with_text}
+use Rattle.esr_depot.specs.Look.{Look, now}
+use Rattle.esr_depot.specs.Calls.{HasCause}
+use Rattle.esr_depot.specs.Moments.{LeavesOnly}
+use Rattle.esr_root.specs.Root.{Root}
+use Rattle.esr_record.specs.Record.{Record}
+use Rattle.esr_formats.specs.Formats.{formats}
+use Rattle.esr_formats.specs.Roots.{root_of}
+use Rattle.esr_formats.specs.Clusters.{cluster_of, cluster_kind}
+use Rattle.esr_progress.specs.Plan.{Plan, IsPlanOf}
+use Rattle.esr_opening.specs.Found.{Damage, LastTerm, found}
+use Rattle.esr_opening.specs.declared.refusal.OpenRefusal.{OpenRefusal}
+use Rattle.esr_opening.specs.declared.refusal.OpenRefusal.TheVariants as refusals
+
+-- an image of the container, as the definitions see it
+abbrev pub image_of : Held → Image
+image_of i = record { blobs = i.blobs; text = i.text }
+
+-- what a repository keeps of the world, apart from the container
+pub record Kept : Type 0 where
+  pub cluster : Record
+  pub root : Root
+  pub plan : Plan
+  pub next : ℕ
+
+-- it is that of the world
+pub record IsKeptOf (w : World) (k : Kept) : Type 0 where
+  pub cluster : cluster_of k.cluster ≡ record_of w
+  pub root : root_of k.root ≡ w.root
+  pub plan : IsPlanOf w k.plan
+  pub next : k.next ≡ w.next_id
+
+-- ---- the opened world
+
+-- the blobs, where they are told
+abbrev pub known_blobs : Option Held → Blobs
+known_blobs None = fin.empty
+known_blobs (Some i) = i.blobs
+
+-- the world that opening makes of a container with this record and this root
+abbrev pub world_in : Option Held → Record → Root → World
+world_in held cluster root = opened (known_blobs held) (cluster_of cluster) (root_of root)
+
+-- the text of its record
+abbrev pub opened_text : Record → Root → Bytes
+opened_text cluster root = cluster_kind.text (record_of (opened fin.empty (cluster_of cluster) (root_of root)))
+
+-- what holds of it, whatever the container tells
+pub record IsInOrder (w : World) : Type 0 where
+  pub record_back : ReadsBack cluster_kind (record_of w)
+  pub tracked : Tracked w
+  pub ranked : Ranked w
+  pub no_deletes : w.deletes ≡ fin.empty
+
+-- what a crash in the opening may leave: all as it was, or with the opened world's record
+abbrev pub IsLeftOf : Option Held → Record → Root → Held → Type 0
+IsLeftOf before cluster root i = (before ≡ Some i) ⊎ ((j : Held) × (before ≡ Some j) × (i ≡ with_text j (opened_text cluster root)))
+
+-- ---- the answers
+
+-- The container was opened: this record and this root were read, the container has the opened world's record now, and else it
+-- is as it was.
+pub record IsOpening (before after : Look) (k : Kept) : Type 0 where
+  pub cluster : Record
+  pub root : Root
+  pub kept : IsKeptOf (world_in (now before) cluster root) k
+  pub order : IsInOrder (world_in (now before) cluster root)
+  -- where it tells they are what opening finds, and this is the opened world of its image
+  pub finds : (i : Held) → now before ≡ Some i → found i ≡ Ok (cluster, root)
+  pub opens : (i : Held) (known : Bytes → Bytes → ℕ → Bool) (told : Bytes → Bytes → ℕ → List (Bytes × Bytes)) → now before ≡ Some i → Opened (formats known told) (image_of i) (world_in (now before) cluster root)
+  pub untold : now before ≡ None → now after ≡ None
+  pub swapped : (i : Held) → now before ≡ Some i → now after ≡ Some (with_text i (opened_text cluster root))
+  pub bounded : after.clock ≤ 2 ^ 64 - 1
+  pub left : LeavesOnly before after (IsLeftOf (now before) cluster root)
+
+-- the container is as it was
+pub record IsAsBefore (before after : Look) : Type 0 where
+  pub same : now after ≡ now before
+  pub left : LeavesOnly before after (λ i. now before ≡ Some i)
+
+-- The swap of the record failed: the old record stands or that of the opened world.
+pub record SwapFailed (before after : Look) : Type 0 where
+  pub cluster : Record
+  pub root : Root
+  pub order : IsInOrder (world_in (now before) cluster root)
+  pub finds : (i : Held) → now before ≡ Some i → found i ≡ Ok (cluster, root)
+  pub opens : (i : Held) (known : Bytes → Bytes → ℕ → Bool) (told : Bytes → Bytes → ℕ → List (Bytes × Bytes)) → now before ≡ Some i → Opened (formats known told) (image_of i) (world_in (now before) cluster root)
+  pub left : LeavesOnly before after (IsLeftOf (now before) cluster root)
+
+-- a read of the fetch failed
+abbrev pub HasFailed : {F : Type 0} → (F → ℕ) → Option F → Type 0
+HasFailed faults None = ⊥
+HasFailed faults (Some fetch) = 0 < faults fetch
+
+-- The container failed, or a read of a fetch that it gave.
+abbrev pub IsFault : {F : Type 0} → (F → ℕ) → ℕ → ℕ → Option F → Type 0
+IsFault faults old_faults new_faults fetch = HasCause old_faults new_faults true ⊎ HasFailed faults fetch
+
+-- Why a container wasn't opened; it counts faults. Where it tells, a refusal is what opening finds.
+abbrev pub IsOpenRefused : {F : Type 0} → (F → ℕ) → Look → Look → ℕ → ℕ → OpenRefusal F → Type 0
+IsOpenRefused faults before after old_faults new_faults refusals.Memory = IsAsBefore before after
+IsOpenRefused faults before after old_faults new_faults (refusals.DepotFault fetch) = IsFault faults old_faults new_faults fetch × (IsAsBefore before after ⊎ SwapFailed before after)
+IsOpenRefused faults before after old_faults new_faults (refusals.Damaged name why) = IsAsBefore before after × ((i : Held) → now before ≡ Some i → found i ≡ Err (Damage name why))
+IsOpenRefused faults before after old_faults new_faults (refusals.TermsSpent term) = IsAsBefore before after × ((i : Held) → now before ≡ Some i → found i ≡ Err (LastTerm term))

@@ -1,0 +1,22 @@
+//! The opening of a container: what an earlier run left is read, and the record gets the next term.
+#![tactic(auto)]
+
+mod agreement;
+mod blob;
+#[cfg(test)]
+mod held;
+mod ids;
+mod infos;
+mod laws;
+mod opening;
+mod own;
+mod record;
+mod refusal;
+mod root;
+mod term;
+#[cfg(test)]
+mod tests;
+
+pub use laws::agreement_is;
+pub use opening::{Opening, open_container};
+pub use refusal::{OpenRefusal, Why};

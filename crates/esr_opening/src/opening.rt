@@ -1,0 +1,87 @@
+//! A container is opened.
+ghost use Rattle.std.specs.Prelude.{◌≡◌, IfOk, IfErr};
+ghost use Rattle.esr_model.specs.Kept.{first_id};
+ghost use Rattle.esr_depot.specs.Look.{now};
+ghost use Rattle.esr_progress.specs.Plan.{no_plan};
+ghost use Rattle.esr_opening.specs.Found.{found};
+ghost use Rattle.esr_opening.specs.Opening.{IsOpening, IsOpenRefused};
+ghost use Rattle.esr_opening.specs.Looked.{Looked, Answers};
+ghost use Rattle.esr_opening.specs.Terms.{IsFit};
+
+use crate::OpenRefusal;
+use crate::laws::opened_worlds_are_in_order;
+use crate::own::check_own;
+use crate::record::find_record;
+use crate::root::find_whole_root;
+use crate::term::begin_term;
+use esr_depot::Depot;
+use esr_names::Id;
+use esr_progress::Progress;
+use esr_record::ClusterRecord;
+use esr_root::RootData;
+use std::alloc::Global;
+
+/// A container that was opened, with what a repository keeps of it at its start: the record of the new term, the safe
+/// root, an empty list of ops, and the first id of the term.
+#[derive(Drop)]
+pub struct Opening<D: Depot> {
+    pub depot: D,
+    pub cluster: ClusterRecord,
+    pub root: RootData,
+    pub progress: Progress,
+    pub next: Id,
+}
+
+/// Opens a container: one into which nothing was written, or one that an earlier run left. It reads the record, the safe
+/// root and the info of each snapshot that it lists, and refuses the first that is damaged; then one swap of the record
+/// begins the next term, without the ops that were open.
+pub fn open_container<D: Depot>(
+    alloc: Global,
+    mut depot: D,
+) -> Result<Opening<D>, (D, OpenRefusal<D::Fetch>)>
+    ensures opened { IfOk result (λ o. IsOpening (D.look depot) (D.look o.depot) (record { cluster = o.cluster; root = o.root; plan = o.progress; next = o.next.number })) }
+    ensures refused { IfErr result (λ e. IsOpenRefused D.Fetch.faults (D.look depot) (D.look e.0) (D.faults depot) (D.faults e.0) e.1) }
+{
+    match open_in_place(alloc, &mut depot) {
+        Ok((cluster, root)) => {
+            let next = Id::new(cluster.term, 0);
+            Ok(Opening {
+                depot,
+                cluster,
+                root,
+                progress: Progress::new(alloc),
+                next,
+            })
+        }
+        Err(refusal) => Err((depot, refusal)),
+    }
+}
+
+/// The record and the safe root, where nothing is wrong with them.
+fn find<D: Depot>(
+    alloc: Global,
+    depot: &mut D,
+) -> Result<(ClusterRecord, RootData), OpenRefusal<D::Fetch>>
+    ensures looked { Looked (D.look depot.old) (D.look depot.new) (D.faults depot.old) (D.faults depot.new) }
+    ensures answer { Answers D.Fetch.faults (now (D.look depot.old)) (D.faults depot.old) (D.faults depot.new) found result }
+    ensures fit { IfOk result (λ o. IsFit o.0 o.1) }
+{
+    let cluster = find_record(alloc, depot)?;
+    let root = find_whole_root(alloc, depot, cluster.safe)?;
+    check_own(alloc, &cluster, &root)?;
+    Ok((cluster, root))
+}
+
+/// Finds the record and the safe root, and begins the next term.
+fn open_in_place<D: Depot>(
+    alloc: Global,
+    depot: &mut D,
+) -> Result<(ClusterRecord, RootData), OpenRefusal<D::Fetch>>
+    ensures opened { IfOk result (λ o. IsOpening (D.look depot.old) (D.look depot.new) (record { cluster = o.0; root = o.1; plan = no_plan; next = first_id o.0.term })) }
+    ensures refused { IfErr result (λ e. IsOpenRefused D.Fetch.faults (D.look depot.old) (D.look depot.new) (D.faults depot.old) (D.faults depot.new) e) }
+{
+    opened_worlds_are_in_order();
+    let (cluster, root) = find(alloc, depot)?;
+    let next = begin_term(alloc, depot, &cluster)?;
+    Ok((next, root))
+}

@@ -1,0 +1,11 @@
+pub mod Loops
+pub mod Blobs
+pub mod Held
+pub mod Parts
+pub mod Stored
+pub mod Shards
+pub mod Infos
+pub mod Standing
+pub mod Shelves
+pub mod Sorting
+pub mod Reaching

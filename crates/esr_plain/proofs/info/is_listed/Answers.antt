@@ -1,0 +1,23 @@
+use Rattle.std.proofs.Common.{List, map, ap, ◌∙◌, subst}
+use Rattle.esr_root.specs.Root.{Root as CodeRoot}
+use Rattle.esr_root.specs.declared.indices.RootIndex.{RootIndex as CodeIndex}
+use Rattle.esr_formats.specs.Roots.{root_index_of}
+use Rattle.esr_formats.specs.Refs.{ref_of_code}
+use Rattle.esr_model.specs.Values.{Has, RootIndex}
+use Rattle.esr_plain.proofs.Loops.{holds, so, not_so, has_at, every_more}
+use Rattle.esr_plain.proofs.Infos.{IsIndexOf}
+use Rattle.esr_plain.proofs.info.is_listed.Goals as goal
+
+pub returns-then-is_index_of : goal.returns-then-is_index_of
+returns-then-is_index_of c =
+    let xs = c.as_slice-listed-items.result.now in
+    let own = root_index_of c.listed-item.result in
+    let items = c.as_slice-listed-items.ensures.items ∙ ap (λ (r : CodeRoot). r.indices) c.root.view_is in
+    let there = subst (λ (is : List CodeIndex). Has (map root_index_of is) own) items (has_at root_index_of xs c.loop-listed.listed-index c.listed-item.result c.loop-listed-test.true c.listed-item.is) in
+    let is = so c.is_index_of.result c.is_index_of.ensures c.if-is_index_of.true in
+    holds (own, there, is.0, is.1, is.2)
+
+pub loop-listed-preserved : goal.loop-listed-preserved
+loop-listed-preserved c =
+    every_more (λ (x : RootIndex). IsIndexOf c.args.uuid.number (ref_of_code c.args.index.now) x → ⊥) root_index_of c.as_slice-listed-items.result.now c.loop-listed.listed-index c.listed-item.result c.loop-listed-test.true c.listed-item.is c.loop-listed.invariant
+    (not_so c.is_index_of.result c.is_index_of.ensures c.if-is_index_of.false)

@@ -1,0 +1,44 @@
+-- A container that was opened is one with an empty history.
+use Rattle.std.proofs.Common.{◌≡◌, ℕ, ◌-◌, ◌^◌, ◌≤◌, [], Some, None, sym, ap, ◌∙◌, subst, arith, nat_cmp}
+use Rattle.std.specs.FinMap.{FinMap}
+use Rattle.std.specs.FinMap as fin
+use Rattle.esr_core.specs.World.{World, Ticket}
+use Rattle.esr_depot.specs.Image.{Image as Held}
+use Rattle.esr_depot.specs.Look.{Look}
+use Rattle.esr_desk.specs.Start.{Start}
+use Rattle.esr_opening.specs.Opening.{Kept}
+use Rattle.esr_repo.specs.Repo.{NoDeleting, IsRepo}
+use Rattle.esr_repo.specs.Begun.{IsBegun}
+
+-- no ticket was given
+no_deleting : (w : World) → w.tickets ≡ fin.empty → NoDeleting w
+no_deleting w none k t uuids plan there work = never t (sym (fin.get-empty nat_cmp k) ∙ ap (λ (m : FinMap nat_cmp Ticket). fin.get m k) (sym none) ∙ there)
+  where
+    never : (t : Ticket) → None ≡ Some t → ⊥
+    never t q = cc
+
+pub begun_repo : (l : Look) (s : Start) (clock : ℕ) (past : ℕ → Held → Type 0) (k : Kept) → IsBegun s clock past l k → IsRepo l s clock [] k None
+begun_repo l s clock past k b =
+    record {
+      roomy = b.roomy;
+      bounded = subst (λ (n : ℕ). n ≤ 2 ^ 64 - 1) (sym b.clock_is) b.bounded;
+      clock_is = sym b.clock_is;
+      tells = b.tells;
+      steady =
+          record {
+            legal = tt;
+            image = b.image;
+            record_back = b.order.record_back;
+            tracked = b.order.tracked;
+            ranked = b.order.ranked;
+            no_deletes = b.order.no_deletes;
+            no_deleting = no_deleting s.world b.no_tickets;
+            few_ops = omega arith;
+            few_tickets = omega arith;
+          };
+      live = λ e. (b.live, b.kept);
+      fallen = λ place e. absurd (never place e);
+    }
+  where
+    never : (n : ℕ) → None ≡ Some n → ⊥
+    never n q = cc

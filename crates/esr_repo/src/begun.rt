@@ -1,0 +1,26 @@
+//! A repository of a container that was opened.
+ghost use Rattle.std.specs.Prelude.{◌≡◌, []};
+ghost use Rattle.esr_repo.specs.Begun.{IsBegun};
+
+use crate::{Repo, Told};
+use esr_depot::Depot;
+use esr_opening::Opening;
+use std::alloc::Global;
+
+impl<D: Depot, K: Told> Repo<D, K> {
+    /// The repository of a container that was opened.
+    pub fn from_opening(alloc: Global, opening: Opening<D>) -> Repo<D, K>
+        requires { IsBegun K.start K.clock K.past (D.look opening.depot)
+            (record { cluster = opening.cluster; root = opening.root; plan = opening.progress; next = opening.next.number }) }
+        ensures { result ≡ [] }
+    {
+        Repo::new(
+            alloc,
+            opening.depot,
+            opening.cluster,
+            opening.root,
+            opening.next,
+            opening.progress,
+        )
+    }
+}

@@ -1,0 +1,23 @@
+-- The laws of the core on which a run rests.
+use Rattle.std.specs.Prelude.{◌≡◌, ℕ, suc, ◌≤◌, List, ◌∷◌, ◌++◌, Some}
+use Rattle.std.specs.FinMap as fin
+use Rattle.esr_model.specs.Values.{Formats, ReadsBack}
+use Rattle.esr_model.specs.Image.{Image}
+use Rattle.esr_model.specs.Kept.{Kept}
+use Rattle.esr_model.specs.Shelf.{Shelved, shelf_after}
+use Rattle.esr_core.specs.World.{World, Ticket, image_of, record_of, Opened}
+use Rattle.esr_core.specs.Entry.{Moment, SettleStep, WasSettled}
+use Rattle.esr_core.specs.After.{after}
+use Rattle.esr_core.specs.History.{world_from, IsLegal, AllKnown, AreTold, AreHonest, committed}
+use Rattle.esr_core.specs.Ids.{Law}
+use Rattle.esr_core.specs.Left.{Leaves, safe_in}
+
+pub record Laws : Type 0 where
+  pub opened : (f : Formats) (image : Image) (shelf : List Shelved) (w : World) → Kept f image shelf → Opened f image w → Law f w shelf
+  pub kept : (f : Formats) (w : World) (shelf : List Shelved) → Law f w shelf → ReadsBack f.cluster (record_of w) → Kept f (image_of f w) shelf
+  pub one_shelf : (f : Formats) (image : Image) (a b : List Shelved) → Kept f image a → Kept f image b → a ≡ b
+  pub left : (f : Formats) (part_size : ℕ) (image : Image) (shelf : List Shelved) (w : World) (log : List Moment) (i : Image) → AllKnown f → Kept f image shelf → Opened f image w → ReadsBack f.cluster (record_of w) → IsLegal f part_size w log
+      → AreTold log → AreHonest f w log → Leaves f part_size w log i → Kept f i (shelf_after shelf (committed f (safe_in f i) w log))
+  pub stays : (f : Formats) (part_size : ℕ) (image : Image) (shelf : List Shelved) (w : World) (before rest : List Moment) (m : Moment) (t : Ticket) (n : ℕ) (i : Image) → AllKnown f → Kept f image shelf → Opened f image w
+      → IsLegal f part_size w (before ++ m ∷ rest) → AreTold (before ++ m ∷ rest) → AreHonest f w (before ++ m ∷ rest) → m.entry.step ≡ SettleStep → m.entry.reply ≡ WasSettled
+      → fin.get (world_from f w before).tickets m.entry.who ≡ Some t → t.raised ≡ Some n → Leaves f part_size (after f (world_from f w before) m) rest i → suc n ≤ safe_in f i
