@@ -1,5 +1,5 @@
 //! Runs over what an earlier run, or a crash in it, left.
-use crate::tests::{BLOBS, Left, RECORD, SCRIPT, holds, run_over};
+use crate::tests::{Left, RECORD, ROOT, SCRIPT, has_record, holds, run_over};
 use crate::{FailedObject, Fault};
 use esr_depot::{CallError, Counted, Depot, Stage};
 use esr_memdepot::{Call, Failing, Leaves, MemDepot, Plan};
@@ -12,10 +12,25 @@ use std::test::Fail;
 const MOMENTS: u64 = 100;
 
 /// A run over that container, and what it printed.
-fn run_on(alloc: Global, depot: MemDepot, script: &[u8]) -> Result<(Left, MemOut), Fail> {
+fn run_on(alloc: Global, depot: MemDepot, script: &str) -> Result<(Left, MemOut), Fail> {
     let mut out = MemOut::new(alloc, 1000, Seq::new(alloc))?;
     let left = run_over(alloc, depot, &["run"], script, Seq::new(alloc), &mut out)?;
     Ok((left, out))
+}
+
+/// The container that a run leaves if that is what it printed, with that status.
+fn left_by(
+    alloc: Global,
+    depot: MemDepot,
+    script: &str,
+    status: u8,
+    printed: &str,
+) -> Result<MemDepot, Fail> {
+    let (left, out) = run_on(alloc, depot, script)?;
+    if left.status != status || out.as_slice() != printed.as_bytes() {
+        return Err(Fail::new("the run ended otherwise"));
+    }
+    Ok(left.depot)
 }
 
 /// The container that the script leaves in one whose calls of the plan fail.
@@ -24,16 +39,8 @@ fn first_run(alloc: Global, plan: Plan) -> Result<MemDepot, Fail> {
     Ok(left.depot)
 }
 
-/// Whether the record has that text.
-fn has_record(alloc: Global, depot: &mut MemDepot, text: &[u8]) -> Result<bool, CallError> {
-    match depot.read_record(alloc)? {
-        Some(record) => Ok(record.as_slice() == text),
-        None => Ok(false),
-    }
-}
-
 /// The moment of the record swap that brought that text.
-fn moment_of(alloc: Global, depot: &MemDepot, text: &[u8]) -> Result<u64, Fail> {
+fn moment_of(alloc: Global, depot: &MemDepot, text: &str) -> Result<u64, Fail> {
     for moment in 0..MOMENTS {
         let mut left = depot.cut(alloc, moment, Leaves::New)?;
         if has_record(alloc, &mut left, text)? {
@@ -44,20 +51,15 @@ fn moment_of(alloc: Global, depot: &MemDepot, text: &[u8]) -> Result<u64, Fail> 
 }
 
 /// The container as a crash just before that record swap leaves it.
-fn cut_before(alloc: Global, depot: &MemDepot, text: &[u8]) -> Result<MemDepot, Fail> {
+fn cut_before(alloc: Global, depot: &MemDepot, text: &str) -> Result<MemDepot, Fail> {
     let moment = moment_of(alloc, depot, text)?;
     Ok(depot.cut(alloc, moment, Leaves::Old)?)
 }
 
-/// The bytes of `index-0` after the script.
-fn root_bytes() -> &'static [u8] {
-    BLOBS[0].1
-}
-
 /// Puts a blob.
-fn put(alloc: Global, depot: &mut MemDepot, name: &str, bytes: &[u8]) -> Result<(), CallError> {
-    let mut stage = depot.begin(alloc, name, bytes.len())?;
-    stage.write(bytes)?;
+fn put(alloc: Global, depot: &mut MemDepot, name: &str, text: &str) -> Result<(), CallError> {
+    let mut stage = depot.begin(alloc, name, text.len())?;
+    stage.write(text.as_bytes())?;
     depot.replace(alloc, stage)
 }
 
@@ -66,24 +68,21 @@ fn a_run_after_a_crash_before_the_settle(rt: HostRuntime) -> Result<(), Fail> {
     let alloc = rt.alloc();
     let first = first_run(alloc, Seq::new(alloc))?;
     let mut crashed = cut_before(alloc, &first, RECORD)?;
-    assert!(rt; holds(alloc, &mut crashed, "index-0", root_bytes())?);
-    let (mut left, out) = run_on(alloc, crashed, SCRIPT)?;
-    assert_eq!(rt;
-        out.as_slice(),
-        b"1 snapshot s1 ok AAAAAAAAAAIAAAAAAAAAAA\n2 wait\n3 list 1\n- s1 AAAAAAAAAAIAAAAAAAAAAA success\n".as_slice()
-    );
-    assert_eq!(rt; left.status, 0);
-    let depot = &mut left.depot;
-    assert!(rt; has_record(alloc, depot, br#"{"ops":[],"pending":1,"safe":1,"term":2}"#)?);
-    assert!(rt; holds(alloc, depot, "index-0", root_bytes())?);
+    assert!(rt; holds(alloc, &mut crashed, "index-0", ROOT)?);
+    let printed =
+        "1 snapshot s1 ok AAAAAAAAAAIAAAAAAAAAAA\n2 wait\n3 list 1\n- s1 AAAAAAAAAAIAAAAAAAAAAA success\n";
+    let mut depot = left_by(alloc, crashed, SCRIPT, 0, printed)?;
     assert!(rt;
-        holds(
+        has_record(
             alloc,
-            depot,
-            "index-1",
-            br#"{"indices":{"logs":{"id":"AAAAAAAAAAIAAAAAAAAAAQ","shard_generations":["AAAAAAAAAAIAAAAAAAAAAw"],"snapshots":["AAAAAAAAAAIAAAAAAAAAAA"]}},"snapshots":[{"name":"s1","state":1,"uuid":"AAAAAAAAAAIAAAAAAAAAAA"}]}"#
+            &mut depot,
+            r#"{"ops":[],"pending":1,"safe":1,"term":2}"#
         )?
     );
+    assert!(rt; holds(alloc, &mut depot, "index-0", ROOT)?);
+    let root =
+        r#"{"indices":{"logs":{"id":"AAAAAAAAAAIAAAAAAAAAAQ","shard_generations":["AAAAAAAAAAIAAAAAAAAAAw"],"snapshots":["AAAAAAAAAAIAAAAAAAAAAA"]}},"snapshots":[{"name":"s1","state":1,"uuid":"AAAAAAAAAAIAAAAAAAAAAA"}]}"#;
+    assert!(rt; holds(alloc, &mut depot, "index-1", root)?);
     Ok(())
 }
 
@@ -91,18 +90,20 @@ fn a_run_after_a_crash_before_the_settle(rt: HostRuntime) -> Result<(), Fail> {
 fn a_third_run_after_a_second_that_crashed(rt: HostRuntime) -> Result<(), Fail> {
     let alloc = rt.alloc();
     let first = first_run(alloc, Seq::new(alloc))?;
-    let (second, _) = run_on(alloc, first, b"snapshot s2 logs/1/src\n")?;
-    let settled = br#"{"ops":[],"pending":1,"safe":1,"term":2}"#;
+    let (second, _) = run_on(alloc, first, "snapshot s2 logs/1/src\n")?;
+    let settled = r#"{"ops":[],"pending":1,"safe":1,"term":2}"#;
     let mut crashed = cut_before(alloc, &second.depot, settled)?;
     assert!(rt; crashed.fetch(alloc, "index-1")?.is_some());
-    let (mut third, out) = run_on(alloc, crashed, b"list\nsnapshot s3 logs/1/src\n")?;
-    assert_eq!(rt;
-        out.as_slice(),
-        b"1 list 1\n- s1 AAAAAAAAAAEAAAAAAAAAAA success\n2 snapshot s3 ok AAAAAAAAAAMAAAAAAAAAAA\n".as_slice()
+    let printed =
+        "1 list 1\n- s1 AAAAAAAAAAEAAAAAAAAAAA success\n2 snapshot s3 ok AAAAAAAAAAMAAAAAAAAAAA\n";
+    let mut depot = left_by(alloc, crashed, "list\nsnapshot s3 logs/1/src\n", 0, printed)?;
+    assert!(rt;
+        has_record(
+            alloc,
+            &mut depot,
+            r#"{"ops":[],"pending":2,"safe":2,"term":3}"#
+        )?
     );
-    assert_eq!(rt; third.status, 0);
-    let depot = &mut third.depot;
-    assert!(rt; has_record(alloc, depot, br#"{"ops":[],"pending":2,"safe":2,"term":3}"#)?);
     assert!(rt; depot.fetch(alloc, "index-2")?.is_some());
     Ok(())
 }
@@ -116,43 +117,39 @@ fn each_crash_lists_the_snapshot_or_not(rt: HostRuntime) -> Result<(), Fail> {
     for moment in 0..settle.saturating_add(3) {
         for leaves in [Leaves::Old, Leaves::New] {
             let crashed = first.cut(alloc, moment, leaves)?;
-            let (left, out) = run_on(alloc, crashed, b"list\n")?;
             let settled = moment > settle || moment == settle && leaves == Leaves::New;
-            let printed: &[u8] = if settled {
-                b"1 list 1\n- s1 AAAAAAAAAAEAAAAAAAAAAA success\n"
+            let printed = if settled {
+                "1 list 1\n- s1 AAAAAAAAAAEAAAAAAAAAAA success\n"
             } else {
-                b"1 list 0\n"
+                "1 list 0\n"
             };
-            assert_eq!(rt; out.as_slice(), printed);
-            assert_eq!(rt; left.status, 0);
+            left_by(alloc, crashed, "list\n", 0, printed)?;
         }
     }
     Ok(())
 }
 
 #[test]
-fn a_root_that_lost_its_last_byte(rt: HostRuntime) -> Result<(), Fail> {
+fn what_cannot_be_opened(rt: HostRuntime) -> Result<(), Fail> {
     let alloc = rt.alloc();
-    let mut damaged = first_run(alloc, Seq::new(alloc))?;
-    let root = root_bytes();
-    put(alloc, &mut damaged, "index-0", &root[..root.len() - 1])?;
-    let (mut left, out) = run_on(alloc, damaged, b"list\n")?;
-    assert_eq!(rt; out.as_slice(), b"damaged index-0\n".as_slice());
-    assert_eq!(rt; left.status, 4);
-    assert!(rt; has_record(alloc, &mut left.depot, RECORD)?);
-    Ok(())
-}
-
-#[test]
-fn blobs_without_a_record(rt: HostRuntime) -> Result<(), Fail> {
-    let alloc = rt.alloc();
-    let mut foreign = MemDepot::new(alloc, Seq::new(alloc));
-    put(alloc, &mut foreign, "b", b"2")?;
-    put(alloc, &mut foreign, "a", b"1")?;
-    let (mut left, out) = run_on(alloc, foreign, b"list\n")?;
-    assert_eq!(rt; out.as_slice(), b"damaged a\n".as_slice());
-    assert_eq!(rt; left.status, 4);
-    assert!(rt; left.depot.read_record(alloc)?.is_none());
+    let last = r#"{"ops":[],"pending":-1,"safe":-1,"term":9223372036854775807}"#;
+    let cut = ROOT.strip_suffix('}').unwrap_or("");
+    let cases = [
+        (RECORD, "index-0", cut, 4, "damaged index-0\n"),
+        ("{}", "index-0", ROOT, 4, "damaged record\n"),
+        (last, "index-0", ROOT, 7, "numbers spent\n"),
+        ("", "b", "2", 4, "damaged a\n"),
+    ];
+    for (record, name, text, status, printed) in cases {
+        let mut left = MemDepot::new(alloc, Seq::new(alloc));
+        put(alloc, &mut left, name, text)?;
+        put(alloc, &mut left, "a", "1")?;
+        if !record.is_empty() {
+            left.swap_record(alloc, record.as_bytes())?;
+        }
+        let mut depot = left_by(alloc, left, "list\n", status, printed)?;
+        assert_eq!(rt; has_record(alloc, &mut depot, record)?, !record.is_empty());
+    }
     Ok(())
 }
 
@@ -166,8 +163,8 @@ fn a_root_that_cannot_be_read(rt: HostRuntime) -> Result<(), Fail> {
         leaves: Leaves::Old,
     })?;
     let first = first_run(alloc, plan)?;
-    let (mut left, out) = run_on(alloc, first, b"list\n")?;
-    assert_eq!(rt; out.as_slice(), b"depot fault at opening\n".as_slice());
+    let (mut left, out) = run_on(alloc, first, "list\n")?;
+    assert_eq!(rt; out.as_slice(), "depot fault at opening\n".as_bytes());
     assert_eq!(rt; left.status, 3);
     assert_eq!(rt; left.faults.len(), 1);
     let Some(

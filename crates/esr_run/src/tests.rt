@@ -14,46 +14,26 @@ use std::test::Fail;
 /// What a run over a container in memory leaves.
 pub(crate) type Left = Ended<MemDepot, MemShard, MemTarget>;
 
-pub(crate) const SCRIPT: &[u8] = b"snapshot s1 logs/1/src\nwait\nlist\n";
+pub(crate) const SCRIPT: &str = "snapshot s1 logs/1/src\nwait\nlist\n";
 
-const REPORT: &[u8] =
-    b"1 snapshot s1 ok AAAAAAAAAAEAAAAAAAAAAA\n2 wait\n3 list 1\n- s1 AAAAAAAAAAEAAAAAAAAAAA success\n";
+const REPORT: &str =
+    "1 snapshot s1 ok AAAAAAAAAAEAAAAAAAAAAA\n2 wait\n3 list 1\n- s1 AAAAAAAAAAEAAAAAAAAAAA success\n";
 
 /// The record after the script.
-pub(crate) const RECORD: &[u8] = br#"{"ops":[],"pending":0,"safe":0,"term":1}"#;
+pub(crate) const RECORD: &str = r#"{"ops":[],"pending":0,"safe":0,"term":1}"#;
 
-/// The names and the bytes of the blobs after the script.
-pub(crate) const BLOBS: [(&str, &[u8]); 8] = [
-    (
-        "index-0",
-        br#"{"indices":{"logs":{"id":"AAAAAAAAAAEAAAAAAAAAAQ","shard_generations":["AAAAAAAAAAEAAAAAAAAAAw"],"snapshots":["AAAAAAAAAAEAAAAAAAAAAA"]}},"snapshots":[{"name":"s1","state":1,"uuid":"AAAAAAAAAAEAAAAAAAAAAA"}]}"#,
-    ),
-    ("index.latest", b"\0\0\0\0\0\0\0\0"),
-    (
-        "snap-AAAAAAAAAAEAAAAAAAAAAA.dat",
-        br#"{"bytes":3,"files":1,"indices":[{"id":"AAAAAAAAAAEAAAAAAAAAAQ","name":"logs","shards":1}],"moment":0,"name":"s1","state":1,"uuid":"AAAAAAAAAAEAAAAAAAAAAA"}"#,
-    ),
-    (
-        "meta-AAAAAAAAAAEAAAAAAAAAAA.dat",
-        br#"{"moment":0,"name":"s1","uuid":"AAAAAAAAAAEAAAAAAAAAAA"}"#,
-    ),
-    (
-        "indices/AAAAAAAAAAEAAAAAAAAAAQ/meta-AAAAAAAAAAEAAAAAAAAAAA.dat",
-        br#"{"id":"AAAAAAAAAAEAAAAAAAAAAQ","name":"logs","shards":1,"uuid":"AAAAAAAAAAEAAAAAAAAAAA"}"#,
-    ),
-    (
-        "indices/AAAAAAAAAAEAAAAAAAAAAQ/0/snap-AAAAAAAAAAEAAAAAAAAAAA.dat",
-        br#"{"files":[{"length":3,"name":"__AAAAAAAAAAEAAAAAAAAAAg","part_size":16777216,"physical_name":"_0.cfs","sha256":"ba7816bf8f01cfea414140de5dae2223b00361a396177a9cb410ff61f20015ad"}],"uuid":"AAAAAAAAAAEAAAAAAAAAAA"}"#,
-    ),
-    (
-        "indices/AAAAAAAAAAEAAAAAAAAAAQ/0/index-AAAAAAAAAAEAAAAAAAAAAw",
-        br#"{"files":[{"length":3,"name":"__AAAAAAAAAAEAAAAAAAAAAg","part_size":16777216,"physical_name":"_0.cfs","sha256":"ba7816bf8f01cfea414140de5dae2223b00361a396177a9cb410ff61f20015ad"}],"snapshots":[{"files":["__AAAAAAAAAAEAAAAAAAAAAg"],"uuid":"AAAAAAAAAAEAAAAAAAAAAA"}]}"#,
-    ),
-    (
-        "indices/AAAAAAAAAAEAAAAAAAAAAQ/0/__AAAAAAAAAAEAAAAAAAAAAg",
-        b"abc",
-    ),
-];
+/// The root after the script.
+pub(crate) const ROOT: &str =
+    r#"{"indices":{"logs":{"id":"AAAAAAAAAAEAAAAAAAAAAQ","shard_generations":["AAAAAAAAAAEAAAAAAAAAAw"],"snapshots":["AAAAAAAAAAEAAAAAAAAAAA"]}},"snapshots":[{"name":"s1","state":1,"uuid":"AAAAAAAAAAEAAAAAAAAAAA"}]}"#;
+
+/// The other blobs after the script, but for `index.latest`: a line each, with its name and its text.
+const BLOBS: &str =
+    r#"snap-AAAAAAAAAAEAAAAAAAAAAA.dat {"bytes":3,"files":1,"indices":[{"id":"AAAAAAAAAAEAAAAAAAAAAQ","name":"logs","shards":1}],"moment":0,"name":"s1","state":1,"uuid":"AAAAAAAAAAEAAAAAAAAAAA"}
+meta-AAAAAAAAAAEAAAAAAAAAAA.dat {"moment":0,"name":"s1","uuid":"AAAAAAAAAAEAAAAAAAAAAA"}
+indices/AAAAAAAAAAEAAAAAAAAAAQ/meta-AAAAAAAAAAEAAAAAAAAAAA.dat {"id":"AAAAAAAAAAEAAAAAAAAAAQ","name":"logs","shards":1,"uuid":"AAAAAAAAAAEAAAAAAAAAAA"}
+indices/AAAAAAAAAAEAAAAAAAAAAQ/0/snap-AAAAAAAAAAEAAAAAAAAAAA.dat {"files":[{"length":3,"name":"__AAAAAAAAAAEAAAAAAAAAAg","part_size":16777216,"physical_name":"_0.cfs","sha256":"ba7816bf8f01cfea414140de5dae2223b00361a396177a9cb410ff61f20015ad"}],"uuid":"AAAAAAAAAAEAAAAAAAAAAA"}
+indices/AAAAAAAAAAEAAAAAAAAAAQ/0/index-AAAAAAAAAAEAAAAAAAAAAw {"files":[{"length":3,"name":"__AAAAAAAAAAEAAAAAAAAAAg","part_size":16777216,"physical_name":"_0.cfs","sha256":"ba7816bf8f01cfea414140de5dae2223b00361a396177a9cb410ff61f20015ad"}],"snapshots":[{"files":["__AAAAAAAAAAEAAAAAAAAAAg"],"uuid":"AAAAAAAAAAEAAAAAAAAAAA"}]}
+indices/AAAAAAAAAAEAAAAAAAAAAQ/0/__AAAAAAAAAAEAAAAAAAAAAg abc"#;
 
 fn words_of(alloc: Global, texts: &[&str]) -> Result<Words, AllocError> {
     let mut words = Seq::new(alloc);
@@ -85,13 +65,13 @@ pub(crate) fn run_over(
     alloc: Global,
     depot: MemDepot,
     words: &[&str],
-    script: &[u8],
+    script: &str,
     reads: Plan,
     out: &mut MemOut,
 ) -> Result<Left, AllocError> {
     let words = words_of(alloc, words)?;
     let sources = sources_of(alloc)?;
-    let mut lines = MemLines::new(Bytes::from_slice(alloc, script)?, reads);
+    let mut lines = MemLines::new(Bytes::from_slice(alloc, script.as_bytes())?, reads);
     let targets = MemTargets::new(Seq::new(alloc));
     Ok(run(
         alloc, &words, &mut lines, depot, &sources, &targets, &NoGate, 0, out,
@@ -102,7 +82,7 @@ pub(crate) fn run_over(
 fn run_in_memory(
     alloc: Global,
     words: &[&str],
-    script: &[u8],
+    script: &str,
     reads: Plan,
     out: &mut MemOut,
 ) -> Result<Left, AllocError> {
@@ -110,31 +90,44 @@ fn run_in_memory(
     run_over(alloc, depot, words, script, reads, out)
 }
 
-/// The status of a run, with what it printed compared.
-fn status_of(
-    alloc: Global,
-    words: &[&str],
-    script: &[u8],
-    printed: &[u8],
-) -> Result<Option<u8>, AllocError> {
-    let mut out = MemOut::new(alloc, 1000, Seq::new(alloc))?;
-    let ended = run_in_memory(alloc, words, script, Seq::new(alloc), &mut out)?;
-    Ok((out.as_slice() == printed).then_some(ended.status))
-}
-
-/// Whether the blob of that name has these bytes.
+/// Whether the blob of that name has that text.
 pub(crate) fn holds(
     alloc: Global,
     depot: &mut MemDepot,
     name: &str,
-    bytes: &[u8],
+    text: &str,
 ) -> Result<bool, CallError> {
     let Some(mut fetch) = depot.fetch(alloc, name)? else {
         return Ok(false);
     };
     let mut buf = [0; 512];
     let count = fetch.read(&mut buf)?;
-    Ok(&buf[..count] == bytes)
+    Ok(&buf[..count] == text.as_bytes())
+}
+
+/// Whether each line of the table is the name and the text of a blob.
+fn holds_all(alloc: Global, depot: &mut MemDepot, table: &str) -> Result<bool, CallError> {
+    for line in table.lines() {
+        let Some((name, text)) = line.split_once(' ') else {
+            return Ok(false);
+        };
+        if !holds(alloc, depot, name, text)? {
+            return Ok(false);
+        }
+    }
+    Ok(true)
+}
+
+/// Whether the record has that text.
+pub(crate) fn has_record(
+    alloc: Global,
+    depot: &mut MemDepot,
+    text: &str,
+) -> Result<bool, CallError> {
+    match depot.read_record(alloc)? {
+        Some(record) => Ok(record.as_slice() == text.as_bytes()),
+        None => Ok(false),
+    }
 }
 
 #[test]
@@ -142,38 +135,33 @@ fn a_snapshot_is_made_and_listed(rt: HostRuntime) -> Result<(), Fail> {
     let alloc = rt.alloc();
     let mut out = MemOut::new(alloc, 1000, Seq::new(alloc))?;
     let mut ended = run_in_memory(alloc, &["run"], SCRIPT, Seq::new(alloc), &mut out)?;
-    assert_eq!(rt; out.as_slice(), REPORT);
+    assert_eq!(rt; out.as_slice(), REPORT.as_bytes());
     assert_eq!(rt; ended.status, 0);
-    for (name, bytes) in BLOBS {
-        assert!(rt; holds(alloc, &mut ended.depot, name, bytes)?);
-    }
-    assert_eq!(rt; ended.depot.list(alloc)?.len(), 8);
-    match ended.depot.read_record(alloc)? {
-        Some(text) => assert_eq!(rt; text.as_slice(), RECORD),
-        None => return Err(Fail::new("there is no record")),
-    }
+    let depot = &mut ended.depot;
+    assert!(rt; holds(alloc, depot, "index-0", ROOT)?);
+    assert!(rt; holds(alloc, depot, "index.latest", "\0\0\0\0\0\0\0\0")?);
+    assert!(rt; holds_all(alloc, depot, BLOBS)?);
+    assert_eq!(rt; depot.list(alloc)?.len(), 8);
+    assert!(rt; has_record(alloc, depot, RECORD)?);
     Ok(())
 }
 
 #[test]
 fn bad_words_and_bad_lines_touch_nothing(rt: HostRuntime) -> Result<(), Fail> {
     let alloc = rt.alloc();
-    assert_eq!(rt;
-        status_of(alloc, &["walk"], SCRIPT, b"bad words\n")?,
-        Some(2)
-    );
-    assert_eq!(rt;
-        status_of(alloc, &["list"], SCRIPT, b"bad words\n")?,
-        Some(2)
-    );
-    assert_eq!(rt;
-        status_of(alloc, &["run"], b"wait\nwalk\n", b"bad line 2\n")?,
-        Some(2)
-    );
-    assert_eq!(rt;
-        status_of(alloc, &["run"], b"\nwait\ncleanup\n", b"bad line 3\n")?,
-        Some(2)
-    );
+    let cases = [
+        ("walk", SCRIPT, "bad words\n"),
+        ("list", SCRIPT, "bad words\n"),
+        ("run", "wait\nwalk\n", "bad line 2\n"),
+        ("run", "\nwait\ncleanup\n", "bad line 3\n"),
+    ];
+    for (word, script, printed) in cases {
+        let mut out = MemOut::new(alloc, 1000, Seq::new(alloc))?;
+        let mut ended = run_in_memory(alloc, &[word], script, Seq::new(alloc), &mut out)?;
+        assert_eq!(rt; out.as_slice(), printed.as_bytes());
+        assert_eq!(rt; ended.status, 2);
+        assert!(rt; ended.depot.read_record(alloc)?.is_none());
+    }
     Ok(())
 }
 
@@ -184,7 +172,7 @@ fn a_reader_that_fails(rt: HostRuntime) -> Result<(), Fail> {
     let reads = first_fails(alloc, Call::Read)?;
     let ended = run_in_memory(alloc, &["run"], SCRIPT, reads, &mut out)?;
     assert_eq!(rt; ended.status, 6);
-    assert_eq!(rt; out.as_slice(), b"script unreadable\n".as_slice());
+    assert_eq!(rt; out.as_slice(), "script unreadable\n".as_bytes());
     Ok(())
 }
 
@@ -194,6 +182,6 @@ fn an_output_that_fails(rt: HostRuntime) -> Result<(), Fail> {
     let mut out = MemOut::new(alloc, 1000, first_fails(alloc, Call::Write)?)?;
     let ended = run_in_memory(alloc, &["walk"], SCRIPT, Seq::new(alloc), &mut out)?;
     assert_eq!(rt; ended.status, 5);
-    assert_eq!(rt; out.as_slice(), b"".as_slice());
+    assert!(rt; out.as_slice().is_empty());
     Ok(())
 }
