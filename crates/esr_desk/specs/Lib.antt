@@ -7,3 +7,5 @@ pub mod Taken
 pub mod Sources
 pub mod Last
 pub mod Grew
+pub mod Damage
+pub mod Shown

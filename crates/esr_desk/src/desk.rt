@@ -13,17 +13,19 @@ ghost use Rattle.esr_results.specs.Results.{result_of};
 ghost use Rattle.esr_progress.specs.Asked.{asked_of, IsAskable};
 ghost use Rattle.esr_desk.specs.Entries.{why_of};
 ghost use Rattle.esr_desk.specs.Start.{Start, ticket_of, told_bytes};
+ghost use Rattle.esr_desk.specs.Shown.{IsShown};
 ghost use Rattle.esr_desk.specs.Outcome.{Outcome, commit_reply, fetch_reply, take_reply};
 ghost use Rattle.esr_desk.specs.Conditions.{CanDraw, CanCommit, CanPut, CanBegin, Holds, CanFetch, CanRaise, CanSettle, CanEnd, CanFail, CanFinish, CanDrop};
 ghost use Rattle.esr_desk.specs.Taken.{Took, committed_by, begun_by, tried_by, fetched_by, LeftBy, HasRaised, IsSettled, HasEndedAs};
 ghost use Rattle.esr_desk.specs.declared.refusal.StepRefusal.{StepRefusal};
 
-use crate::{Look, Named, StepRefusal, Unit, Why};
+use crate::{By, Look, Named, StepRefusal, Unit, Why};
 use esr_depot::{Commit, Fetch, Stage};
 use esr_names::{BlobName, Id};
 use esr_progress::Command;
 use esr_results::ShardResult;
 use esr_root::RootData;
+use esr_source::{Shard, Target};
 use std::alloc::Global;
 
 /// The steps of a repository. Each adds one entry to the history, or none where it answers `Memory` or `TurnsSpent`; nothing
@@ -33,6 +35,11 @@ pub trait Desk {
     type Stage: Stage;
 
     type Fetch: Fetch;
+
+    /// The shards of the sources, and the targets, of which a unit may report that they failed.
+    type Shard: Shard;
+
+    type Target: Target;
 
     /// What was told when the history began.
     ghost start: { Start };
@@ -173,10 +180,18 @@ pub trait Desk {
         ensures kept { OnErr result (ticket_of start (seen self.new) ticket ≡ ticket_of start (seen self.old) ticket) }
         ensures holds { holds self.new ticket };
 
-    /// A unit failed; its ticket ends.
-    fn failed(&mut self, alloc: Global, ticket: u64, why: Why) -> Result<(), StepRefusal>
+    /// A unit failed, as `by` shows; its ticket ends. An object that failed is given up in each answer.
+    fn failed(
+        &mut self,
+        alloc: Global,
+        ticket: u64,
+        why: Why,
+        by: By<Self::Stage, Self::Fetch, Self::Shard, Self::Target>,
+    ) -> Result<(), StepRefusal>
         requires mine { holds self.old ticket }
         requires may { CanFail (ticket_of start (seen self.old) ticket) }
+        requires shown { IsShown (record { stage = Self.Stage.faults; fetch = Self.Fetch.faults; shard = Self.Shard.faults; target = Self.Target.faults; made_for = λ h. (Self.Shard.origin h).address })
+            start (seen self.old) ticket (why_of why) by }
         ensures step { Outcome start (seen self.old) (seen self.new) ticket (FailedStep (why_of why)) (λ _. HasEnded) result }
         ensures own { OnOk result (ticket_of start (seen self.new) ticket
             ≡ record (ticket_of start (seen self.old) ticket) { out = false }) }

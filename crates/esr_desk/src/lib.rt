@@ -3,12 +3,14 @@
 
 mod desk;
 mod entry;
+mod fault;
 mod named;
 mod refusal;
 mod unit;
 
 pub use desk::Desk;
 pub use entry::{Answer, Entry, Given, History, Step, Why};
+pub use fault::{By, FailedObject, Fault, Faults};
 pub use named::Named;
 pub use refusal::{EntryRefusal, StepRefusal};
 pub use unit::{Look, Unit, UnitRefusal};

@@ -23,7 +23,7 @@ fn drop_op<Q: Desk>(alloc: Global, desk: &mut Q, unit: &Unit) -> Result<(), Unit
 }
 
 /// Does what a unit is to do.
-pub fn do_unit<Q: Desk, S: Sources, G: Gate>(
+pub fn do_unit<Q: Desk<Shard = S::Shard>, S: Sources, G: Gate>(
     alloc: Global,
     desk: &mut Q,
     unit: &Unit,

@@ -12,7 +12,7 @@ use esr_source::{Gate, Sources};
 use std::alloc::Global;
 
 /// Takes a unit, does it, and goes on until none is ready. A unit that fails is no reason to stop; a step that is refused is.
-pub fn work<Q: Desk, S: Sources, G: Gate>(
+pub fn work<Q: Desk<Shard = S::Shard>, S: Sources, G: Gate>(
     alloc: Global,
     desk: &mut Q,
     sources: &S,

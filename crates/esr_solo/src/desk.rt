@@ -1,20 +1,26 @@
 //! The steps of the desk: each is that of the repository, while turns are left.
 
 use crate::Solo;
-use crate::solo::turns;
+use crate::faults::keep;
+use crate::solo::{TURNS, turns};
 use esr_depot::{Commit, Depot};
-use esr_desk::{Desk, Look, Named, StepRefusal, Unit, Why};
+use esr_desk::{By, Desk, Look, Named, StepRefusal, Unit, Why};
 use esr_names::{BlobName, Id};
 use esr_progress::Command;
 use esr_repo::Told;
 use esr_results::ShardResult;
 use esr_root::RootData;
+use esr_source::{Shard, Target};
 use std::alloc::Global;
 
-impl<D: Depot, K: Told> Desk for Solo<D, K> {
+impl<D: Depot, K: Told, H: Shard, T: Target> Desk for Solo<D, K, H, T> {
     type Stage = D::Stage;
 
     type Fetch = D::Fetch;
+
+    type Shard = H;
+
+    type Target = T;
 
     ghost start = { K.start };
 
@@ -150,13 +156,26 @@ impl<D: Depot, K: Told> Desk for Solo<D, K> {
         answer
     }
 
-    fn failed(&mut self, alloc: Global, ticket: u64, why: Why) -> Result<(), StepRefusal> {
+    fn failed(
+        &mut self,
+        alloc: Global,
+        ticket: u64,
+        why: Why,
+        by: By<Self::Stage, Self::Fetch, Self::Shard, Self::Target>,
+    ) -> Result<(), StepRefusal> {
         self.repo.is_legal();
         if self.left == 0 {
             return Err(StepRefusal::TurnsSpent);
         }
+        if self.faults.reserve(1).is_err() {
+            return Err(StepRefusal::Memory);
+        }
+        let place = TURNS - self.left;
         let answer = self.repo.failed(alloc, ticket, why);
         self.left -= turns(&answer);
+        if answer.is_ok() {
+            keep(&mut self.faults, place, by);
+        }
         answer
     }
 

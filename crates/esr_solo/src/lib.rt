@@ -2,6 +2,7 @@
 #![tactic(auto)]
 
 mod desk;
+mod faults;
 mod solo;
 
 pub use solo::Solo;

@@ -1,22 +1,28 @@
-//! A repository with a count of turns.
+//! A repository with a count of turns, and the objects that failed.
 ghost use Rattle.std.specs.Prelude.{◌≡◌, ◌+◌, ◌≤◌, ◌^◌, [], length};
+ghost use Rattle.esr_desk.specs.Shown.{AreShown};
 ghost use Rattle.esr_solo.specs.Turns.{turns_of};
 
 use esr_depot::Depot;
-use esr_desk::StepRefusal;
+use esr_desk::{Fault, Faults, StepRefusal};
 use esr_repo::{Repo, Told};
+use esr_seq::Seq;
+use esr_source::{Shard, Target};
+use std::alloc::Global;
 use std::marker::Model;
 
 /// The turns of a desk.
-const TURNS: u64 = 1 << 40;
+pub(crate) const TURNS: u64 = 1 << 40;
 
-/// A repository as the desk of one thread: it has a count of turns, of which each entry of the history takes one.
-pub struct Solo<D: Depot, K: Told> {
+/// A repository as the desk of one thread: it has a count of turns, of which each entry of the history takes one, and keeps
+/// the objects that failed. `H` is the type of the sources' shards, `T` that of the targets.
+pub struct Solo<D: Depot, K: Told, H: Shard, T: Target> {
     pub(crate) repo: Repo<D, K>,
     pub(crate) left: u64,
+    pub(crate) faults: Vec<Fault<D::Stage, D::Fetch, H, T>>,
 }
 
-impl<D: Depot, K: Told> Model for Solo<D, K> {
+impl<D: Depot, K: Told, H: Shard, T: Target> Model for Solo<D, K, H, T> {
     ghost use Rattle.std.specs.Prelude.{List};
     ghost use Rattle.esr_core.specs.Entry.{Moment};
     ghost use Rattle.std.specs.Coded.{codes};
@@ -26,35 +32,48 @@ impl<D: Depot, K: Told> Model for Solo<D, K> {
 
     ghost coded = { Prim.hlevel (codes, blobs_code) };
 
-    ghost use Rattle.std.specs.Prelude.{◌+◌, ◌≤◌, ◌^◌, length};
+    ghost use Rattle.std.specs.Prelude.{◌≡◌, ◌+◌, ◌^◌, length};
+    ghost use Rattle.esr_desk.specs.Shown.{AreShown};
 
     ghost view = { λ s. s.repo };
 
-    ghost invariant = { λ s. length s.repo + s.left ≤ 2 ^ 40 };
+    ghost invariant = { λ s. (length s.repo + s.left ≡ 2 ^ 40)
+        × AreShown (record { stage = D.Stage.faults; fetch = D.Fetch.faults; shard = H.faults; target = T.faults; made_for = λ h. (H.origin h).address })
+            K.start s.repo s.faults.items };
 }
 
-impl<D: Depot, K: Told> Solo<D, K> {
+impl<D: Depot, K: Told, H: Shard, T: Target> Solo<D, K, H, T> {
     /// A desk with all its turns, over a repository on which no step was made yet.
-    pub fn new(repo: Repo<D, K>) -> Solo<D, K>
+    pub fn new(alloc: Global, repo: Repo<D, K>) -> Solo<D, K, H, T>
         requires { repo ≡ [] }
         ensures { result ≡ [] }
     {
-        Solo { repo, left: TURNS }
+        Solo {
+            repo,
+            left: TURNS,
+            faults: Vec::new(alloc),
+        }
     }
 
-    /// How many turns are left.
+    /// How many turns are left: of 2^40, each entry of the history took one.
     pub fn left(&self) -> u64
-        ensures { length self.now + result ≤ 2 ^ 40 }
+        ensures { length self.now + result ≡ 2 ^ 40 }
     {
         self.left
     }
 
-    /// The repository.
-    pub fn into_repo(self) -> Repo<D, K>
-        ensures { result ≡ self }
+    /// The repository, and the objects that failed.
+    pub fn into_parts(self) -> (Repo<D, K>, Faults<D::Stage, D::Fetch, H, T>)
+        ensures repo { result.0 ≡ self }
+        ensures shown { AreShown (record { stage = D.Stage.faults; fetch = D.Fetch.faults; shard = H.faults; target = T.faults; made_for = λ h. (H.origin h).address })
+            K.start result.0 result.1 }
     {
-        let Solo { repo, left: _ } = self;
-        repo
+        let Solo {
+            repo,
+            left: _,
+            faults,
+        } = self;
+        (repo, Seq::from_vec(faults))
     }
 }
 
