@@ -33,9 +33,9 @@ last_or (l ∷ log) m [] x back e = inr (log, both l x log log (head_is l x (log
 last_or (l ∷ log) m (f ∷ front) x back e =
     let h : l ≡ f = head_is l f (log ++ m ∷ []) (front ++ x ∷ back) e in
     ⊎_elim
-      (λ d. inl (both f l front log (sym h) d.0, d.1))
-      (λ d. inr (d.0, both l f log (front ++ x ∷ d.0) h d.1))
-      (last_or log m front x back (tail_is l f (log ++ m ∷ []) (front ++ x ∷ back) e))
+    (λ d. inl (both f l front log (sym h) d.0, d.1))
+    (λ d. inr (d.0, both l f log (front ++ x ∷ d.0) h d.1))
+    (last_or log m front x back (tail_is l f (log ++ m ∷ []) (front ++ x ∷ back) e))
 
 has_left : {A : Type 0} (xs ys : List A) (y : A) → Has xs y → Has (xs ++ ys) y
 has_left [] ys y h = absurd h
@@ -82,17 +82,17 @@ entry_of place (by.Object object) fault (inr h) = absurd h
 entry_of place by.Entry fault h = absurd h
 entry_of place by.Nothing fault h = absurd h
 
-pub IsNoReport : Moment → Type 0
+abbrev pub IsNoReport : Moment → Type 0
 IsNoReport m = (why : Why) → m.entry.step ≡ FailedStep why → m.entry.reply ≡ HasEnded → ⊥
 
 -- an entry that reports no failure
 pub goes_on : {S F H T : Type 0} (c : Counts S F H T) (s : Start) (log : List Moment) (m : Moment) (faults : List (Fault S F H T)) → IsNoReport m → AreShown c s log faults → AreShown c s (log ++ m ∷ []) faults
-goes_on c s log m faults no h =
+goes_on c s log m faults none h =
     record {
       shown = λ place who why r. ⊎_elim
-        (λ d. absurd (no why (ap (λ (x : Moment). x.entry.step) d.1 ∙ r.step) (ap (λ (x : Moment). x.entry.reply) d.1 ∙ r.reply)))
-        (λ d. h.shown place who why (record { front = r.front; moment = r.moment; back = d.0; is = d.1; place_is = r.place_is; of = r.of; step = r.step; reply = r.reply }))
-        (last_or log m r.front r.moment r.back r.is);
+          (λ d. absurd (none why (ap (λ (x : Moment). x.entry.step) d.1 ∙ r.step) (ap (λ (x : Moment). x.entry.reply) d.1 ∙ r.reply)))
+          (λ d. h.shown place who why (record { front = r.front; moment = r.moment; back = d.0; is = d.1; place_is = r.place_is; of = r.of; step = r.step; reply = r.reply }))
+          (last_or log m r.front r.moment r.back r.is);
       listed = λ fault there. let (place, who, why, e, r) = h.listed fault there in (place, who, why, e, longer log m place who why r);
     }
 
@@ -103,11 +103,11 @@ same_why a b e = cc
 now_shown : {S F H T : Type 0} (c : Counts S F H T) (s : Start) (log : List Moment) (faults : List (Fault S F H T)) (who0 : ℕ) (why0 : Why) (b : By S F H T) → IsShown c s log who0 why0 b
     → (front : List Moment) (place who : ℕ) (why : Why) → front ≡ log → length front ≡ place → who0 ≡ who → why0 ≡ why → IsShownAt c s front place who why (faults ++ listed_at (length log) b)
 now_shown {S} {F} {H} {T} c s log faults who0 why0 b shown front place who why is at of same =
-    subst (λ (l : List Moment). IsShownAt {S} {F} {H} {T} c s l place who why (faults ++ listed_at (length log) b)) (sym is)
-      (subst (λ (n : ℕ). IsShownAt {S} {F} {H} {T} c s log n who why (faults ++ listed_at (length log) b)) (sym (ap length is) ∙ at)
-        (subst (λ (k : ℕ). IsShownAt {S} {F} {H} {T} c s log (length log) k why (faults ++ listed_at (length log) b)) of
-          (subst (λ (y : Why). IsShownAt {S} {F} {H} {T} c s log (length log) who0 y (faults ++ listed_at (length log) b)) same
-            (b, shown, own_listed faults (length log) b))))
+    subst (λ (l : List Moment). IsShownAt {S = S} {F = F} {H = H} {T = T} c s l place who why (faults ++ listed_at (length log) b)) (sym is)
+    (subst (λ (n : ℕ). IsShownAt {S = S} {F = F} {H = H} {T = T} c s log n who why (faults ++ listed_at (length log) b)) (sym (ap length is) ∙ at)
+    (subst (λ (k : ℕ). IsShownAt {S = S} {F = F} {H = H} {T = T} c s log (length log) k why (faults ++ listed_at (length log) b)) of
+    (subst (λ (y : Why). IsShownAt {S = S} {F = F} {H = H} {T = T} c s log (length log) who0 y (faults ++ listed_at (length log) b)) same
+    (b, shown, own_listed faults (length log) b))))
 
 -- a report whose cause is shown
 pub reports : {S F H T : Type 0} (c : Counts S F H T) (s : Start) (log : List Moment) (m : Moment) (faults : List (Fault S F H T)) (why : Why) (b : By S F H T) → m.entry.step ≡ FailedStep why → m.entry.reply ≡ HasEnded
@@ -115,14 +115,14 @@ pub reports : {S F H T : Type 0} (c : Counts S F H T) (s : Start) (log : List Mo
 reports {S} {F} {H} {T} c s log m faults why b step reply shown h =
     record {
       shown = λ place who why1 r. ⊎_elim
-        (λ d. now_shown c s log faults m.entry.who why b shown r.front place who why1 d.0 r.place_is (ap (λ (x : Moment). x.entry.who) d.1 ∙ r.of) (same_why why why1 (sym step ∙ ap (λ (x : Moment). x.entry.step) d.1 ∙ r.step)))
-        (λ d. let (b1, shown1, listed1) = h.shown place who why1 (record { front = r.front; moment = r.moment; back = d.0; is = d.1; place_is = r.place_is; of = r.of; step = r.step; reply = r.reply }) in
+          (λ d. now_shown c s log faults m.entry.who why b shown r.front place who why1 d.0 r.place_is (ap (λ (x : Moment). x.entry.who) d.1 ∙ r.of) (same_why why why1 (sym step ∙ ap (λ (x : Moment). x.entry.step) d.1 ∙ r.step)))
+          (λ d. let (b1, shown1, listed1) = h.shown place who why1 (record { front = r.front; moment = r.moment; back = d.0; is = d.1; place_is = r.place_is; of = r.of; step = r.step; reply = r.reply }) in
           (b1, shown1, more_listed faults (listed_at (length log) b) place b1 listed1))
-        (last_or log m r.front r.moment r.back r.is);
+          (last_or log m r.front r.moment r.back r.is);
       listed = λ fault there. ⊎_elim
-        (λ (old : Has faults fault). let (place, who, why1, e, r) = h.listed fault old in (place, who, why1, e, longer log m place who why1 r))
-        (λ (new : Has (listed_at (length log) b) fault). (length log, m.entry.who, why, entry_of (length log) b fault new, record { front = log; moment = m; back = []; is = refl; place_is = refl; of = refl; step = step; reply = reply }))
-        (has_either faults (listed_at (length log) b) fault there);
+          (λ (old : Has faults fault). let (place, who, why1, e, r) = h.listed fault old in (place, who, why1, e, longer log m place who why1 r))
+          (λ (new : Has (listed_at (length log) b) fault). (length log, m.entry.who, why, entry_of (length log) b fault new, record { front = log; moment = m; back = []; is = refl; place_is = refl; of = refl; step = step; reply = reply }))
+          (has_either faults (listed_at (length log) b) fault there);
     }
 
 -- nothing was reported yet
@@ -134,21 +134,25 @@ none_shown c s =
     }
 
 -- a step by its answer, which reports no failure where it was made
-pub IsNoReportOf : Step → Reply → Type 0
+abbrev pub IsNoReportOf : Step → Reply → Type 0
 IsNoReportOf step reply = (why : Why) → step ≡ FailedStep why → reply ≡ HasEnded → ⊥
 
 added : {S F H T : Type 0} (c : Counts S F H T) (s : Start) (old new : List Moment) (who : ℕ) (step : Step) (reply : Reply) (faults : List (Fault S F H T)) → IsNoReportOf step reply → Added s old new who step reply → AreShown c s old faults → AreShown c s new faults
-added {S} {F} {H} {T} c s old new who step reply faults no a h =
-    subst (λ (l : List Moment). AreShown {S} {F} {H} {T} c s l faults) (sym a.is) (goes_on c s old (record { entry = record { who = who; step = step; reply = reply }; image = a.image }) faults no h)
+added {S} {F} {H} {T} c s old new who step reply faults none a h =
+    subst (λ (l : List Moment). AreShown {S = S} {F = F} {H = H} {T = T} c s l faults) (sym a.is) (goes_on c s old (record { entry = record { who = who; step = step; reply = reply }; image = a.image }) faults none h)
 
 refused_no : (step : Step) (refusal : Refusal) → IsNoReportOf step (Refused refusal)
 refused_no step refusal why e d = cc
 
 pub added_or : {S F H T : Type 0} (c : Counts S F H T) (s : Start) (old new : List Moment) (who : ℕ) (step : Step) (refusal : Option Refusal) (faults : List (Fault S F H T)) → AddedOr s old new who step refusal → AreShown c s old faults → AreShown c s new faults
-added_or {S} {F} {H} {T} c s old new who step None faults e h = subst (λ (l : List Moment). AreShown {S} {F} {H} {T} c s l faults) (sym e) h
+added_or {S} {F} {H} {T} c s old new who step None faults e h = subst (λ (l : List Moment). AreShown {S = S} {F = F} {H = H} {T = T} c s l faults) (sym e) h
 added_or c s old new who step (Some refusal) faults a h = added c s old new who step (Refused refusal) faults (refused_no step refusal) a h
 
 -- a step of a repository that isn't the report of a failure
 pub did : {X S F H T : Type 0} (c : Counts S F H T) (s : Start) (old new : List Moment) (who : ℕ) (step : Step) (ok : X → Reply) (result : Result X StepRefusal) (faults : List (Fault S F H T)) → ((x : X) → IsNoReportOf step (ok x)) → Did s old new who step ok result → AreShown c s old faults → AreShown c s new faults
-did c s old new who step ok (Ok x) faults no d h = added c s old new who step (ok x) faults (no x) d h
-did c s old new who step ok (Err e) faults no d h = added_or c s old new who step (told_refusal e) faults d h
+did c s old new who step ok (Ok x) faults none d h = added c s old new who step (ok x) faults (none x) d h
+did c s old new who step ok (Err e) faults none d h = added_or c s old new who step (told_refusal e) faults d h
+
+-- the same objects
+pub same_objects : {S F H T : Type 0} (c : Counts S F H T) (s : Start) (log : List Moment) (faults same : List (Fault S F H T)) → same ≡ faults → AreShown c s log faults → AreShown c s log same
+same_objects {S} {F} {H} {T} c s log faults same e h = subst (λ (l : List (Fault S F H T)). AreShown {S = S} {F = F} {H = H} {T = T} c s log l) (sym e) h

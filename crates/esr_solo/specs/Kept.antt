@@ -1,5 +1,6 @@
 -- The objects that failed, as a desk keeps them.
-use Rattle.std.specs.Prelude.{ℕ, List, [], ◌∷◌, Some}
+use Rattle.std.specs.Prelude.{ℕ, List, [], ◌∷◌, Some, Result, Ok, Err}
+use Rattle.esr_desk.specs.declared.refusal.StepRefusal.{StepRefusal}
 use Rattle.esr_desk.specs.declared.fault.Fault.{Fault}
 use Rattle.esr_desk.specs.declared.fault.By.{By}
 use Rattle.esr_desk.specs.declared.fault.By.TheVariants as by
@@ -9,3 +10,8 @@ abbrev pub listed_at : {S F H T : Type 0} → ℕ → By S F H T → List (Fault
 listed_at place (by.Object object) = record { entry = Some place; object = object } ∷ []
 listed_at place by.Entry = []
 listed_at place by.Nothing = []
+
+-- by the answer: only where the failure was taken
+abbrev pub kept_by : {X S F H T : Type 0} → ℕ → By S F H T → Result X StepRefusal → List (Fault S F H T)
+kept_by place b (Ok x) = listed_at place b
+kept_by place b (Err e) = []

@@ -1,4 +1,11 @@
 //! The steps of the desk: each is that of the repository, while turns are left.
+ghost use Rattle.std.specs.Prelude.{◌≡◌, false, OnOk, OnErr};
+ghost use Rattle.esr_core.specs.Entry.{FailedStep, HasEnded};
+ghost use Rattle.esr_desk.specs.Conditions.{CanFail};
+ghost use Rattle.esr_desk.specs.Entries.{why_of};
+ghost use Rattle.esr_desk.specs.Outcome.{Outcome};
+ghost use Rattle.esr_desk.specs.Shown.{IsShown};
+ghost use Rattle.esr_desk.specs.Start.{ticket_of};
 
 use crate::Solo;
 use crate::faults::keep;
@@ -161,8 +168,17 @@ impl<D: Depot, K: Told, H: Shard, T: Target> Desk for Solo<D, K, H, T> {
         alloc: Global,
         ticket: u64,
         why: Why,
-        by: By<Self::Stage, Self::Fetch, Self::Shard, Self::Target>,
-    ) -> Result<(), StepRefusal> {
+        by: By<D::Stage, D::Fetch, H, T>,
+    ) -> Result<(), StepRefusal>
+        requires may { CanFail (ticket_of K.start self.old ticket) }
+        requires shown { IsShown (record { stage = D.Stage.faults; fetch = D.Fetch.faults; shard = H.faults; target = T.faults; made_for = λ h. (H.origin h).address })
+            K.start self.old ticket (why_of why) by }
+        ensures step { Outcome K.start self.old self.new ticket (FailedStep (why_of why)) (λ _. HasEnded) result }
+        ensures own { OnOk result (ticket_of K.start self.new ticket
+            ≡ record (ticket_of K.start self.old ticket) { out = false }) }
+        ensures kept { OnErr result (ticket_of K.start self.new ticket ≡ ticket_of K.start self.old ticket) }
+        ensures holds { Prim.Unit {0} }
+    {
         self.repo.is_legal();
         if self.left == 0 {
             return Err(StepRefusal::TurnsSpent);
@@ -173,9 +189,7 @@ impl<D: Depot, K: Told, H: Shard, T: Target> Desk for Solo<D, K, H, T> {
         let place = TURNS - self.left;
         let answer = self.repo.failed(alloc, ticket, why);
         self.left -= turns(&answer);
-        if answer.is_ok() {
-            keep(&mut self.faults, place, by);
-        }
+        keep(&mut self.faults, place, by, &answer);
         answer
     }
 

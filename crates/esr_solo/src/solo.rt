@@ -39,7 +39,7 @@ impl<D: Depot, K: Told, H: Shard, T: Target> Model for Solo<D, K, H, T> {
 
     ghost invariant = { λ s. (length s.repo + s.left ≡ 2 ^ 40)
         × AreShown (record { stage = D.Stage.faults; fetch = D.Fetch.faults; shard = H.faults; target = T.faults; made_for = λ h. (H.origin h).address })
-            K.start s.repo s.faults.items };
+        K.start s.repo s.faults.items };
 }
 
 impl<D: Depot, K: Told, H: Shard, T: Target> Solo<D, K, H, T> {
