@@ -17,8 +17,3 @@ mod whole;
 pub use ended::{Ended, Restored, TargetList};
 pub use fault::{FailedObject, Fault, Faults};
 pub use whole::run;
-
-#[cfg(test)]
-mod reopened;
-#[cfg(test)]
-mod tests;

@@ -1,30 +1,14 @@
-//! Whole runs, over a container in memory.
-use crate::{Ended, run};
-use esr_depot::{CallError, Depot, Fetch};
+//! The first path, and runs that touch nothing.
+use crate::setting::{Left, RECORD, ROOT, SCRIPT, has_record, holds, run_over, sources_of};
+use esr_depot::{CallError, Depot};
 use esr_memdepot::MemDepot;
-use esr_script::Words;
-use esr_seq::{Bytes, Seq, Text};
-use esr_source::{
-    Address, Call, Failing, MemFile, MemLines, MemOut, MemShard, MemSource, MemSources, MemTarget,
-    MemTargets, NoGate, Plan,
-};
+use esr_seq::Seq;
+use esr_source::{Call, Failing, MemOut, Plan};
 use std::alloc::{AllocError, Global};
 use std::test::Fail;
 
-/// What a run over a container in memory leaves.
-pub(crate) type Left = Ended<MemDepot, MemShard, MemTarget>;
-
-pub(crate) const SCRIPT: &str = "snapshot s1 logs/1/src\nwait\nlist\n";
-
 const REPORT: &str =
     "1 snapshot s1 ok AAAAAAAAAAEAAAAAAAAAAA\n2 wait\n3 list 1\n- s1 AAAAAAAAAAEAAAAAAAAAAA success\n";
-
-/// The record after the script.
-pub(crate) const RECORD: &str = r#"{"ops":[],"pending":0,"safe":0,"term":1}"#;
-
-/// The root after the script.
-pub(crate) const ROOT: &str =
-    r#"{"indices":{"logs":{"id":"AAAAAAAAAAEAAAAAAAAAAQ","shard_generations":["AAAAAAAAAAEAAAAAAAAAAw"],"snapshots":["AAAAAAAAAAEAAAAAAAAAAA"]}},"snapshots":[{"name":"s1","state":1,"uuid":"AAAAAAAAAAEAAAAAAAAAAA"}]}"#;
 
 /// The other blobs after the script, but for `index.latest`: a line each, with its name and its text.
 const BLOBS: &str =
@@ -35,47 +19,11 @@ indices/AAAAAAAAAAEAAAAAAAAAAQ/0/snap-AAAAAAAAAAEAAAAAAAAAAA.dat {"files":[{"len
 indices/AAAAAAAAAAEAAAAAAAAAAQ/0/index-AAAAAAAAAAEAAAAAAAAAAw {"files":[{"length":3,"name":"__AAAAAAAAAAEAAAAAAAAAAg","part_size":16777216,"physical_name":"_0.cfs","sha256":"ba7816bf8f01cfea414140de5dae2223b00361a396177a9cb410ff61f20015ad"}],"snapshots":[{"files":["__AAAAAAAAAAEAAAAAAAAAAg"],"uuid":"AAAAAAAAAAEAAAAAAAAAAA"}]}
 indices/AAAAAAAAAAEAAAAAAAAAAQ/0/__AAAAAAAAAAEAAAAAAAAAAg abc"#;
 
-fn words_of(alloc: Global, texts: &[&str]) -> Result<Words, AllocError> {
-    let mut words = Seq::new(alloc);
-    for text in texts {
-        words.push(Text::from_str(alloc, text)?)?;
-    }
-    Ok(words)
-}
-
-/// One shard with one file.
-fn sources_of(alloc: Global) -> Result<MemSources, AllocError> {
-    let mut files = Seq::new(alloc);
-    files.push(MemFile::new(alloc, "_0.cfs", b"abc")?)?;
-    let address = Address::new(alloc, "src", "logs", 0)?;
-    let mut sources = Seq::new(alloc);
-    sources.push(MemSource { address, files })?;
-    Ok(MemSources::new(sources, Seq::new(alloc)))
-}
-
 /// A plan under which the first call of that kind fails.
-fn first_fails(alloc: Global, call: Call) -> Result<Plan, AllocError> {
+pub(crate) fn first_fails(alloc: Global, call: Call) -> Result<Plan, AllocError> {
     let mut plan = Seq::new(alloc);
     plan.push(Failing { call, nth: 1 })?;
     Ok(plan)
-}
-
-/// A run over that container.
-pub(crate) fn run_over(
-    alloc: Global,
-    depot: MemDepot,
-    words: &[&str],
-    script: &str,
-    reads: Plan,
-    out: &mut MemOut,
-) -> Result<Left, AllocError> {
-    let words = words_of(alloc, words)?;
-    let sources = sources_of(alloc)?;
-    let mut lines = MemLines::new(Bytes::from_slice(alloc, script.as_bytes())?, reads);
-    let targets = MemTargets::new(Seq::new(alloc));
-    Ok(run(
-        alloc, &words, &mut lines, depot, &sources, &targets, &NoGate, 0, out,
-    ))
 }
 
 /// A run over an empty container.
@@ -87,22 +35,8 @@ fn run_in_memory(
     out: &mut MemOut,
 ) -> Result<Left, AllocError> {
     let depot = MemDepot::new(alloc, Seq::new(alloc));
-    run_over(alloc, depot, words, script, reads, out)
-}
-
-/// Whether the blob of that name has that text.
-pub(crate) fn holds(
-    alloc: Global,
-    depot: &mut MemDepot,
-    name: &str,
-    text: &str,
-) -> Result<bool, CallError> {
-    let Some(mut fetch) = depot.fetch(alloc, name)? else {
-        return Ok(false);
-    };
-    let mut buf = [0; 512];
-    let count = fetch.read(&mut buf)?;
-    Ok(&buf[..count] == text.as_bytes())
+    let sources = sources_of(alloc, Seq::new(alloc))?;
+    run_over(alloc, depot, &sources, words, script, reads, out)
 }
 
 /// Whether each line of the table is the name and the text of a blob.
@@ -116,18 +50,6 @@ fn holds_all(alloc: Global, depot: &mut MemDepot, table: &str) -> Result<bool, C
         }
     }
     Ok(true)
-}
-
-/// Whether the record has that text.
-pub(crate) fn has_record(
-    alloc: Global,
-    depot: &mut MemDepot,
-    text: &str,
-) -> Result<bool, CallError> {
-    match depot.read_record(alloc)? {
-        Some(record) => Ok(record.as_slice() == text.as_bytes()),
-        None => Ok(false),
-    }
 }
 
 #[test]
@@ -170,9 +92,10 @@ fn a_reader_that_fails(rt: HostRuntime) -> Result<(), Fail> {
     let alloc = rt.alloc();
     let mut out = MemOut::new(alloc, 1000, Seq::new(alloc))?;
     let reads = first_fails(alloc, Call::Read)?;
-    let ended = run_in_memory(alloc, &["run"], SCRIPT, reads, &mut out)?;
+    let mut ended = run_in_memory(alloc, &["run"], SCRIPT, reads, &mut out)?;
     assert_eq!(rt; ended.status, 6);
     assert_eq!(rt; out.as_slice(), "script unreadable\n".as_bytes());
+    assert!(rt; ended.depot.read_record(alloc)?.is_none());
     Ok(())
 }
 
@@ -180,8 +103,9 @@ fn a_reader_that_fails(rt: HostRuntime) -> Result<(), Fail> {
 fn an_output_that_fails(rt: HostRuntime) -> Result<(), Fail> {
     let alloc = rt.alloc();
     let mut out = MemOut::new(alloc, 1000, first_fails(alloc, Call::Write)?)?;
-    let ended = run_in_memory(alloc, &["walk"], SCRIPT, Seq::new(alloc), &mut out)?;
+    let mut ended = run_in_memory(alloc, &["run"], SCRIPT, Seq::new(alloc), &mut out)?;
     assert_eq!(rt; ended.status, 5);
     assert!(rt; out.as_slice().is_empty());
+    assert!(rt; has_record(alloc, &mut ended.depot, RECORD)?);
     Ok(())
 }

@@ -1,22 +1,14 @@
 //! Runs over what an earlier run, or a crash in it, left.
-use crate::tests::{Left, RECORD, ROOT, SCRIPT, has_record, holds, run_over};
-use crate::{FailedObject, Fault};
+use crate::setting::{RECORD, ROOT, SCRIPT, has_record, holds, run_on};
 use esr_depot::{CallError, Counted, Depot, Stage};
 use esr_memdepot::{Call, Failing, Leaves, MemDepot, Plan};
+use esr_run::{FailedObject, Fault};
 use esr_seq::Seq;
-use esr_source::MemOut;
 use std::alloc::Global;
 use std::test::Fail;
 
 /// More moments than two runs have.
 const MOMENTS: u64 = 100;
-
-/// A run over that container, and what it printed.
-fn run_on(alloc: Global, depot: MemDepot, script: &str) -> Result<(Left, MemOut), Fail> {
-    let mut out = MemOut::new(alloc, 1000, Seq::new(alloc))?;
-    let left = run_over(alloc, depot, &["run"], script, Seq::new(alloc), &mut out)?;
-    Ok((left, out))
-}
 
 /// The container that a run leaves if that is what it printed, with that status.
 fn left_by(

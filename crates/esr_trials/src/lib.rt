@@ -1,0 +1,11 @@
+//! Tests of whole runs, over a container in memory. There is nothing else here.
+#![tactic(auto)]
+
+#[cfg(test)]
+mod failing;
+#[cfg(test)]
+mod first;
+#[cfg(test)]
+mod reopened;
+#[cfg(test)]
+mod setting;
