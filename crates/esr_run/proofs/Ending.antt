@@ -19,7 +19,7 @@ use Rattle.esr_repo.specs.Past.{IsPast}
 use Rattle.esr_script.specs.Jobs.{job_of}
 use Rattle.esr_script.specs.declared.item.ScriptLine.{ScriptLine}
 use Rattle.esr_run.specs.declared.fault.Fault.{Fault}
-use Rattle.esr_run.specs.Asked.{run_size}
+use Rattle.esr_run.specs.Asked.{wanted_of, part_size_of}
 use Rattle.esr_run.specs.Ends.{RunEnd, BadWords, Unreadable, BadScript, BadLine, OpenFault, Damaged, NoTerm, Carried}
 use Rattle.esr_run.specs.Faults.{of_opening, listed, fetch_of, HasFetch}
 use Rattle.esr_run.specs.Start.{Telling, formats_by, start_of, LegalRun}
@@ -117,7 +117,7 @@ verdict_refused status text count files size before after old_faults new_faults 
 verdict_refused status text count files size before after old_faults new_faults lines history faults (refusals.TermsSpent term) told refused empty are = told_end status text (IsOpenCause count files size before after old_faults new_faults lines history faults) NoTerm told (empty, (term, refused))
 
 pub verdict_stopped : {S F H T : Type 0} (status : ℕ) (text : Bytes) (count : F → ℕ) (given : Given) (files : Telling) (reader : ℕ) (before after : Look) (old_faults new_faults : ℕ) (history : List Entry) (faults : List (Fault S F H T)) (end : Option RunEnd)
-    → IsTold status text end → StoppedBy given reader end → IsUntouched files before after history faults → IsVerdict status text (IsCauseOf count given files reader before after old_faults new_faults history faults)
+    → IsTold status text end → StoppedBy (wanted_of (job_of given.words)) given.script given.faults reader end → IsUntouched files before after history faults → IsVerdict status text (IsCauseOf count given files reader before after old_faults new_faults history faults)
 verdict_stopped status text count given files reader before after old_faults new_faults history faults None told stop un = told_none status text (IsCauseOf count given files reader before after old_faults new_faults history faults) told
 verdict_stopped status text count given files reader before after old_faults new_faults history faults (Some BadWords) told stop un = told_end status text (IsCauseOf count given files reader before after old_faults new_faults history faults) BadWords told (un, stop)
 verdict_stopped status text count given files reader before after old_faults new_faults history faults (Some Unreadable) told stop un = told_end status text (IsCauseOf count given files reader before after old_faults new_faults history faults) Unreadable told (un, stop)
@@ -130,7 +130,7 @@ verdict_stopped status text count given files reader before after old_faults new
 
 -- from the opening on, with the words and the script
 with_script : {S F H T : Type 0} (count : F → ℕ) (given : Given) (files : Telling) (reader size : ℕ) (before after : Look) (old_faults new_faults : ℕ) (lines : List ScriptLine) (history : List Entry) (faults : List (Fault S F H T)) (end : RunEnd)
-    → run_size (job_of given.words) ≡ Some size → IsScript given lines → IsOpenCause count files size before after old_faults new_faults lines history faults end → IsCauseOf count given files reader before after old_faults new_faults history faults end
+    → part_size_of (wanted_of (job_of given.words)) ≡ Some size → IsScript given lines → IsOpenCause count files size before after old_faults new_faults lines history faults end → IsCauseOf count given files reader before after old_faults new_faults history faults end
 with_script count given files reader size before after old_faults new_faults lines history faults (Carried script entries) size_is is cause =
     (cause.1, subst (IsScript given) (sym cause.0) is, record { size = size; size_is = size_is; run = cause.2 })
 with_script count given files reader size before after old_faults new_faults lines history faults OpenFault size_is is cause = cause
@@ -142,14 +142,14 @@ with_script count given files reader size before after old_faults new_faults lin
 with_script count given files reader size before after old_faults new_faults lines history faults (BadLine number) size_is is cause = absurd cause
 
 pub verdict_opened : {S F H T : Type 0} (status : ℕ) (text : Bytes) (count : F → ℕ) (given : Given) (files : Telling) (reader size : ℕ) (before after : Look) (old_faults new_faults : ℕ) (lines : List ScriptLine) (history : List Entry) (faults : List (Fault S F H T))
-    → run_size (job_of given.words) ≡ Some size → IsScript given lines → IsVerdict status text (IsOpenCause count files size before after old_faults new_faults lines history faults)
+    → part_size_of (wanted_of (job_of given.words)) ≡ Some size → IsScript given lines → IsVerdict status text (IsOpenCause count files size before after old_faults new_faults lines history faults)
     → IsVerdict status text (IsCauseOf count given files reader before after old_faults new_faults history faults)
 verdict_opened status text count given files reader size before after old_faults new_faults lines history faults size_is is (inl wanting) = inl wanting
 verdict_opened status text count given files reader size before after old_faults new_faults lines history faults size_is is (inr v) =
     inr (record { end = v.end; status_is = v.status_is; text_is = v.text_is; cause = with_script count given files reader size before after old_faults new_faults lines history faults v.end size_is is v.cause })
 
 pub run_opened : {S F H T : Type 0} (count : F → ℕ) (given : Given) (files : Telling) (size : ℕ) (before after : Look) (old_faults new_faults : ℕ) (history : List Entry) (faults : List (Fault S F H T))
-    → run_size (job_of given.words) ≡ Some size → IsUnopened count files before after old_faults new_faults history faults ⊎ IsOpenedRun files size before after history faults → IsRunOf count given files before after old_faults new_faults history faults
+    → part_size_of (wanted_of (job_of given.words)) ≡ Some size → IsUnopened count files before after old_faults new_faults history faults ⊎ IsOpenedRun files size before after history faults → IsRunOf count given files before after old_faults new_faults history faults
 run_opened count given files size before after old_faults new_faults history faults size_is (inl unopened) = inr (inl unopened)
 run_opened count given files size before after old_faults new_faults history faults size_is (inr run) = inr (inr (record { size = size; size_is = size_is; run = run }))
 

@@ -2,6 +2,7 @@ pub mod Going
 pub mod Reading
 pub mod Asking
 pub mod Scripts
+pub mod Wanting
 pub mod Worlds
 pub mod Keeping
 pub mod Ending

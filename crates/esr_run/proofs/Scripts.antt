@@ -11,7 +11,8 @@ use Rattle.esr_script.specs.declared.refusal.ScriptRefusal.TheVariants.{TooLong}
 use Rattle.esr_run.specs.declared.stop.Stop.{Stop}
 use Rattle.esr_run.specs.declared.stop.Stop.TheVariants as stops
 use Rattle.esr_run.specs.Script.{bad_line}
-use Rattle.esr_run.specs.Causes.{Given, IsScript}
+use Rattle.esr_run.specs.Asked.{ReadScript}
+use Rattle.esr_run.specs.Causes.{IsScriptFor}
 use Rattle.esr_run.specs.Stops.{IsKept, IsBadIn, AreGood, end_of, StoppedBy}
 
 abbrev Read : Type 0
@@ -40,21 +41,19 @@ pub kept_reads : (told : Option Bytes) (kept : Bytes) (k : IsKept told kept) →
 kept_reads told kept k = ap script_of k.kept_is ∙ same_read 4194305 k.bytes refl
 
 -- a script that can be carried out
-pub good_script : (given : Given) (kept : Bytes) (lines : List ScriptLine) → IsKept given.script kept → AreGood (script_of kept) lines → IsScript given lines
-good_script given kept lines k good = record {
-  bytes = k.bytes;
-  bytes_are = k.bytes_are;
-  read = sym (kept_reads given.script kept k) ∙ good.read_as;
+pub good_script : (size : ℕ) (told : Option Bytes) (kept : Bytes) (lines : List ScriptLine) → IsKept told kept → AreGood (script_of kept) lines → IsScriptFor (ReadScript size) told lines
+good_script size told kept lines k good = record {
+  are = record { bytes = k.bytes; bytes_are = k.bytes_are; read = sym (kept_reads told kept k) ∙ good.read_as };
   good = good.good;
 }
 
 -- or one that can't
-pub bad_script : (given : Given) (faults : ℕ) (kept : Bytes) (e : Stop) → IsKept given.script kept → IsBadIn (script_of kept) e → StoppedBy given faults (end_of e)
-bad_script given faults kept stops.Memory k bad = tt
-bad_script given faults kept stops.BadWords k bad = absurd bad
-bad_script given faults kept stops.Unreadable k bad = absurd bad
-bad_script given faults kept stops.BadScript k bad = (k.bytes, k.bytes_are, sym (kept_reads given.script kept k) ∙ bad)
-bad_script given faults kept (stops.BadLine number) k bad = (k.bytes, k.bytes_are, ap bad_line (sym (kept_reads given.script kept k)) ∙ bad)
-bad_script given faults kept stops.OpenFault k bad = absurd bad
-bad_script given faults kept (stops.Damaged name) k bad = absurd bad
-bad_script given faults kept stops.NoTerm k bad = absurd bad
+pub bad_script : (size : ℕ) (told : Option Bytes) (old new : ℕ) (kept : Bytes) (e : Stop) → IsKept told kept → IsBadIn (script_of kept) e → StoppedBy (ReadScript size) told old new (end_of e)
+bad_script size told old new kept stops.Memory k bad = tt
+bad_script size told old new kept stops.BadWords k bad = absurd bad
+bad_script size told old new kept stops.Unreadable k bad = absurd bad
+bad_script size told old new kept stops.BadScript k bad = (tt, (k.bytes, k.bytes_are, sym (kept_reads told kept k) ∙ bad))
+bad_script size told old new kept (stops.BadLine number) k bad = (tt, (k.bytes, k.bytes_are, ap bad_line (sym (kept_reads told kept k)) ∙ bad))
+bad_script size told old new kept stops.OpenFault k bad = absurd bad
+bad_script size told old new kept (stops.Damaged name) k bad = absurd bad
+bad_script size told old new kept stops.NoTerm k bad = absurd bad

@@ -17,7 +17,7 @@ use Rattle.esr_opening.specs.declared.refusal.Why.{Why}
 use Rattle.esr_opening.specs.Opening.{image_of, IsInOrder, IsOpenRefused}
 use Rattle.esr_repo.specs.Log.{log_of}
 use Rattle.esr_run.specs.declared.fault.Fault.{Fault}
-use Rattle.esr_run.specs.Asked.{run_size}
+use Rattle.esr_run.specs.Asked.{Wanted, ReadScript, OneCommand, NoRun, AsksScript, wanted_of, part_size_of, single_script}
 use Rattle.esr_run.specs.Script.{AreBytes, first_bad, bad_line}
 use Rattle.esr_run.specs.Ends.{RunEnd, BadWords, Unreadable, BadScript, BadLine, OpenFault, Damaged, NoTerm, Carried, text_of, exit_of, exit_at, text_at}
 use Rattle.esr_run.specs.Faults.{listed, fetch_of, HasFetch}
@@ -31,23 +31,52 @@ pub record Given : Type 0 where
   pub script : Option Bytes
   pub faults : ℕ
 
--- the script was read, and asks for these lines, each of which can be carried out
-pub record IsScript (given : Given) (lines : List ScriptLine) : Type 0 where
+-- the script was read, and these are its lines
+pub record AreRead (script : Option Bytes) (lines : List ScriptLine) : Type 0 where
   pub bytes : Bytes
-  pub bytes_are : AreBytes given.script bytes
+  pub bytes_are : AreBytes script bytes
   pub read : script_of bytes ≡ Ok lines
+
+-- these lines are wanted: those of the script, or the one command as line 1
+abbrev pub AreWanted : Wanted → Option Bytes → List ScriptLine → Type 0
+AreWanted (ReadScript size) script lines = AreRead script lines
+AreWanted (OneCommand size item) script lines = lines ≡ single_script item
+AreWanted NoRun script lines = ⊥
+
+-- these lines are wanted, and each can be carried out
+pub record IsScriptFor (wanted : Wanted) (script : Option Bytes) (lines : List ScriptLine) : Type 0 where
+  pub are : AreWanted wanted script lines
   pub good : first_bad lines ≡ None
+
+-- the words ask for these lines, each of which can be carried out
+abbrev pub IsScript : Given → List ScriptLine → Type 0
+IsScript given lines = IsScriptFor (wanted_of (job_of given.words)) given.script lines
+
+-- the reader of the script gave nothing, and no read of it failed
+pub record IsUnread (old new : Option Bytes) (old_faults new_faults : ℕ) : Type 0 where
+  pub left : new ≡ old
+  pub faults : new_faults ≡ old_faults
+
+-- the reader of the script is read only where a script is wanted
+abbrev pub IsReadFor : Wanted → Option Bytes → Option Bytes → ℕ → ℕ → Type 0
+IsReadFor (ReadScript size) old new old_faults new_faults = Unit {0}
+IsReadFor (OneCommand size item) old new old_faults new_faults = IsUnread old new old_faults new_faults
+IsReadFor NoRun old new old_faults new_faults = IsUnread old new old_faults new_faults
+
+-- Why nothing was begun, by what is wanted, the script, and the faults that its reader had and has.
+abbrev pub IsStoppedFor : Wanted → Option Bytes → ℕ → ℕ → RunEnd → Type 0
+IsStoppedFor wanted script old new BadWords = wanted ≡ NoRun
+IsStoppedFor wanted script old new Unreadable = AsksScript wanted × HasCause old new true
+IsStoppedFor wanted script old new BadScript = AsksScript wanted × ((bytes : Bytes) × AreBytes script bytes × (script_of bytes ≡ Err TooLong))
+IsStoppedFor wanted script old new (BadLine number) = AsksScript wanted × ((bytes : Bytes) × AreBytes script bytes × (bad_line (script_of bytes) ≡ Some number))
+IsStoppedFor wanted script old new OpenFault = ⊥
+IsStoppedFor wanted script old new (Damaged name) = ⊥
+IsStoppedFor wanted script old new NoTerm = ⊥
+IsStoppedFor wanted script old new (Carried lines history) = ⊥
 
 -- Why a run ended before the container was touched; the reader has so many faults now.
 abbrev pub IsStopped : Given → ℕ → RunEnd → Type 0
-IsStopped given faults BadWords = run_size (job_of given.words) ≡ None
-IsStopped given faults Unreadable = HasCause given.faults faults true
-IsStopped given faults BadScript = (bytes : Bytes) × AreBytes given.script bytes × (script_of bytes ≡ Err TooLong)
-IsStopped given faults (BadLine number) = (bytes : Bytes) × AreBytes given.script bytes × (bad_line (script_of bytes) ≡ Some number)
-IsStopped given faults OpenFault = ⊥
-IsStopped given faults (Damaged name) = ⊥
-IsStopped given faults NoTerm = ⊥
-IsStopped given faults (Carried script history) = ⊥
+IsStopped given faults end = IsStoppedFor (wanted_of (job_of given.words)) given.script given.faults faults end
 
 -- ---- what became of the container
 
@@ -82,7 +111,7 @@ pub record IsOpenedRun {S F H T : Type 0} (files : Telling) (size : ℕ) (before
 -- with parts of the size for which the words ask
 pub record IsCarried {S F H T : Type 0} (given : Given) (files : Telling) (before after : Look) (history : List Entry) (faults : List (Fault S F H T)) : Type 0 where
   pub size : ℕ
-  pub size_is : run_size (job_of given.words) ≡ Some size
+  pub size_is : part_size_of (wanted_of (job_of given.words)) ≡ Some size
   pub run : IsOpenedRun files size before after history faults
 
 -- The container wasn't touched, or it wasn't opened, and there is no history; or it was opened, and the history is legal from

@@ -6,7 +6,7 @@ use Rattle.esr_script.specs.declared.item.ScriptLine.{ScriptLine}
 use Rattle.esr_report.specs.Status.{ending, status_of, report_text}
 
 pub data RunEnd : Type 0 where
-  -- the words don't ask for the run of a script
+  -- the words ask for nothing that can be carried out
   BadWords : RunEnd
   -- a read of the script failed
   Unreadable : RunEnd

@@ -1,17 +1,18 @@
 -- How a run ends early, as the code says it.
-use Rattle.std.specs.Prelude.{◌≡◌, ℕ, true, List, Option, Some, None, Result, Ok, Err}
+use Rattle.std.specs.Prelude.{◌≡◌, ℕ, true, false, List, Option, Some, None, Result, Ok, Err}
 use Rattle.esr_model.specs.Values.{Bytes}
 use Rattle.esr_depot.specs.Calls.{HasCause}
 use Rattle.esr_script.specs.Jobs.{job_of}
+use Rattle.esr_script.specs.declared.item.Item.{Item}
 use Rattle.esr_script.specs.declared.item.ScriptLine.{ScriptLine}
 use Rattle.esr_script.specs.declared.refusal.ScriptRefusal.{ScriptRefusal}
 use Rattle.esr_script.specs.declared.refusal.ScriptRefusal.TheVariants.{TooLong}
 use Rattle.esr_run.specs.declared.stop.Stop.{Stop}
 use Rattle.esr_run.specs.declared.stop.Stop.TheVariants as stops
-use Rattle.esr_run.specs.Asked.{run_size}
-use Rattle.esr_run.specs.Script.{AreBytes, kept_of, first_bad, bad_line}
+use Rattle.esr_run.specs.Asked.{Wanted, NoRun, wanted_of}
+use Rattle.esr_run.specs.Script.{AreBytes, kept_of, is_carried, first_bad, bad_line}
 use Rattle.esr_run.specs.Ends.{RunEnd, BadWords, Unreadable, BadScript, BadLine, OpenFault, Damaged, NoTerm}
-use Rattle.esr_run.specs.Causes.{Given, IsStopped}
+use Rattle.esr_run.specs.Causes.{IsStoppedFor}
 
 abbrev pub end_of : Stop → Option RunEnd
 end_of stops.Memory = None
@@ -26,13 +27,24 @@ end_of stops.NoTerm = Some NoTerm
 -- the words ask for no run
 abbrev pub IsNoRun : List Bytes → Stop → Type 0
 IsNoRun words stops.Memory = Unit {0}
-IsNoRun words stops.BadWords = run_size (job_of words) ≡ None
+IsNoRun words stops.BadWords = wanted_of (job_of words) ≡ NoRun
 IsNoRun words stops.Unreadable = ⊥
 IsNoRun words stops.BadScript = ⊥
 IsNoRun words (stops.BadLine number) = ⊥
 IsNoRun words stops.OpenFault = ⊥
 IsNoRun words (stops.Damaged name) = ⊥
 IsNoRun words stops.NoTerm = ⊥
+
+-- the command is not there yet
+abbrev pub IsNoCommand : Item → Stop → Type 0
+IsNoCommand item stops.Memory = Unit {0}
+IsNoCommand item stops.BadWords = is_carried item ≡ false
+IsNoCommand item stops.Unreadable = ⊥
+IsNoCommand item stops.BadScript = ⊥
+IsNoCommand item (stops.BadLine number) = ⊥
+IsNoCommand item stops.OpenFault = ⊥
+IsNoCommand item (stops.Damaged name) = ⊥
+IsNoCommand item stops.NoTerm = ⊥
 
 -- the script can't be read
 abbrev pub IsNoRead : ℕ → ℕ → Stop → Type 0
@@ -67,7 +79,7 @@ pub record IsKept (told : Option Bytes) (kept : Bytes) : Type 0 where
   pub bytes_are : AreBytes told bytes
   pub kept_is : kept ≡ kept_of bytes
 
--- why it ended before the container was touched, if memory wasn't wanting
-abbrev pub StoppedBy : Given → ℕ → Option RunEnd → Type 0
-StoppedBy given faults None = Unit {0}
-StoppedBy given faults (Some end) = IsStopped given faults end
+-- why nothing was begun, if memory wasn't wanting
+abbrev pub StoppedBy : Wanted → Option Bytes → ℕ → ℕ → Option RunEnd → Type 0
+StoppedBy wanted script old new None = Unit {0}
+StoppedBy wanted script old new (Some end) = IsStoppedFor wanted script old new end

@@ -1,58 +1,103 @@
 //! What a run is asked for.
-ghost use Rattle.std.specs.Prelude.{◌≡◌, ◌≤◌, ◌^◌, Some, None, IfOk, IfErr, IfSome};
-ghost use Rattle.esr_script.specs.Jobs.{job_of};
-ghost use Rattle.esr_run.specs.Asked.{run_size};
-ghost use Rattle.esr_run.specs.Causes.{Given, IsScript};
-ghost use Rattle.esr_run.specs.Stops.{IsNoRun, end_of, StoppedBy};
+ghost use Rattle.std.specs.Prelude.{◌≡◌, ◌≤◌, ◌^◌, true, Some, Ok, IfOk, IfErr};
+ghost use Rattle.esr_script.specs.Jobs.{job_of, IsOptions};
+ghost use Rattle.esr_run.specs.Asked.{ReadScript, wanted_of, part_size_of, single_script};
+ghost use Rattle.esr_run.specs.Causes.{Given, IsScript, IsScriptFor, IsReadFor};
+ghost use Rattle.esr_run.specs.Script.{is_carried};
+ghost use Rattle.esr_run.specs.Stops.{IsNoRun, IsNoCommand, end_of, StoppedBy};
 
-use crate::line::lines_of;
+use crate::line::{is_carried, lines_of};
 use crate::read::read_all;
 use crate::stop::Stop;
-use esr_script::{Job, JobWork, Script, Words, WordsRefusal, words_read};
+use esr_script::{Item, Job, JobWork, Script, ScriptLine, Words, WordsRefusal, words_read};
 use esr_source::Lines;
-use std::alloc::Global;
+use std::alloc::{AllocError, Global};
 
-/// What a run is asked for: the lines of its script, and the greatest size of a part in bytes.
+/// What a run is asked for: its lines, and the greatest size of a part in bytes.
 #[derive(Debug, Drop)]
 pub(crate) struct Asked {
     pub part_size: u64,
     pub script: Script,
 }
 
-/// The greatest size of a part, where the words ask for the run of a script.
-fn run_size(alloc: Global, words: &Words) -> Result<u64, Stop>
-    ensures size { IfOk result (λ n. run_size (job_of words.now) ≡ Some n) }
-    ensures bound { IfOk result (λ n. (1 ≤ n) × (n ≤ 2 ^ 30)) }
+/// The job for which the words ask.
+fn job_for(alloc: Global, words: &Words) -> Result<Job, Stop>
+    ensures job { IfOk result (λ job. job_of words.now ≡ Ok job) }
+    ensures options { IfOk result (λ job. IsOptions job.options) }
     ensures err { IfErr result (IsNoRun words.now) }
 {
     match words_read(alloc, words) {
-        Ok(
-            Job {
-                options,
-                work: JobWork::Run,
-            },
-        ) => Ok(options.part_size),
-        Ok(_) => Err(Stop::BadWords),
+        Ok(job) => Ok(job),
         Err(WordsRefusal::BadWords) => Err(Stop::BadWords),
         Err(WordsRefusal::Memory) => Err(Stop::Memory),
     }
 }
 
-/// What the words ask for, with the script read to its end.
-pub(crate) fn asked_for<I: Lines>(
-    alloc: Global,
-    words: &Words,
-    script: &mut I,
-) -> Result<Asked, Stop>
-    ensures size { IfOk result (λ a. run_size (job_of words.now) ≡ Some a.part_size) }
-    ensures bound { IfOk result (λ a. (1 ≤ a.part_size) × (a.part_size ≤ 2 ^ 30)) }
-    ensures script { IfOk result (λ a. IsScript (record { words = words.now; script = I.left script.old; faults = I.faults script.old }) a.script) }
-    ensures err { IfErr result (λ e. StoppedBy (record { words = words.now; script = I.left script.old; faults = I.faults script.old }) (I.faults script.new) (end_of e)) }
+/// The lines of the script, which is read to its end.
+fn script_asked<I: Lines>(alloc: Global, part_size: u64, script: &mut I) -> Result<Asked, Stop>
+    ensures size { IfOk result (λ a. a.part_size ≡ part_size) }
+    ensures script { IfOk result (λ a. IsScriptFor (ReadScript part_size) (I.left script.old) a.script) }
+    ensures err { IfErr result (λ e. StoppedBy (ReadScript part_size) (I.left script.old) (I.faults script.old) (I.faults script.new) (end_of e)) }
 {
-    let part_size = run_size(alloc, words)?;
     let bytes = read_all(alloc, script)?;
     match lines_of(alloc, bytes.as_slice()) {
         Ok(script) => Ok(Asked { part_size, script }),
         Err(stop) => Err(stop),
     }
+}
+
+/// A script of that command alone, as its line 1.
+fn single_script(alloc: Global, item: Item) -> Result<Script, AllocError>
+    ensures { IfOk result (λ lines. lines ≡ single_script item) }
+{
+    let mut script = Script::new(alloc);
+    script.push(ScriptLine { number: 1, item })?;
+    Ok(script)
+}
+
+/// The command alone, where it is one that can be carried out.
+fn command_asked(alloc: Global, part_size: u64, item: Item) -> Result<Asked, Stop>
+    ensures size { IfOk result (λ a. a.part_size ≡ part_size) }
+    ensures script { IfOk result (λ a. a.script ≡ single_script item) }
+    ensures carried { IfOk result (λ _. is_carried item ≡ true) }
+    ensures err { IfErr result (IsNoCommand item) }
+{
+    if !is_carried(&item) {
+        return Err(Stop::BadWords);
+    }
+    let script = single_script(alloc, item)?;
+    Ok(Asked { part_size, script })
+}
+
+/// What a job asks for. The script is read where the job is to run one, and else left alone.
+fn asked_by<I: Lines>(alloc: Global, job: Job, script: &mut I) -> Result<Asked, Stop>
+    requires { IsOptions job.options }
+    ensures size { IfOk result (λ a. part_size_of (wanted_of (Ok job)) ≡ Some a.part_size) }
+    ensures bound { IfOk result (λ a. (1 ≤ a.part_size) × (a.part_size ≤ 2 ^ 30)) }
+    ensures script { IfOk result (λ a. IsScriptFor (wanted_of (Ok job)) (I.left script.old) a.script) }
+    ensures reader { IsReadFor (wanted_of (Ok job)) (I.left script.old) (I.left script.new) (I.faults script.old) (I.faults script.new) }
+    ensures err { IfErr result (λ e. StoppedBy (wanted_of (Ok job)) (I.left script.old) (I.faults script.old) (I.faults script.new) (end_of e)) }
+{
+    let Job { options, work } = job;
+    match work {
+        JobWork::Run => script_asked(alloc, options.part_size, script),
+        JobWork::Single(item) => command_asked(alloc, options.part_size, item),
+        JobWork::Generate { seed: _ } => Err(Stop::BadWords),
+    }
+}
+
+/// What the words ask for: the script, read to its end, or a command alone.
+pub(crate) fn asked_for<I: Lines>(
+    alloc: Global,
+    words: &Words,
+    script: &mut I,
+) -> Result<Asked, Stop>
+    ensures size { IfOk result (λ a. part_size_of (wanted_of (job_of words.now)) ≡ Some a.part_size) }
+    ensures bound { IfOk result (λ a. (1 ≤ a.part_size) × (a.part_size ≤ 2 ^ 30)) }
+    ensures script { IfOk result (λ a. IsScript (record { words = words.now; script = I.left script.old; faults = I.faults script.old }) a.script) }
+    ensures reader { IsReadFor (wanted_of (job_of words.now)) (I.left script.old) (I.left script.new) (I.faults script.old) (I.faults script.new) }
+    ensures err { IfErr result (λ e. StoppedBy (wanted_of (job_of words.now)) (I.left script.old) (I.faults script.old) (I.faults script.new) (end_of e)) }
+{
+    let job = job_for(alloc, words)?;
+    asked_by(alloc, job, script)
 }

@@ -1,4 +1,4 @@
-//! A whole run: the script of a command line, carried out on a container.
+//! A whole run: what a command line asks for, a script or one command, carried out on a container.
 #![tactic(auto)]
 
 mod asked;

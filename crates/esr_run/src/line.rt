@@ -66,7 +66,7 @@ fn is_askable(indices: &[AskedIndex]) -> bool
 }
 
 /// The line can be carried out: the other commands are not there yet.
-fn is_carried(item: &Item) -> bool
+pub(crate) fn is_carried(item: &Item) -> bool
     ensures { result ≡ is_carried item.now }
 {
     match item {

@@ -11,7 +11,7 @@ use std::alloc::{AllocError, Global};
 #[derive(Debug, Drop)]
 pub(crate) enum Stop {
     Memory,
-    /// The words don't ask for the run of a script.
+    /// The words ask for nothing that can be carried out.
     BadWords,
     /// A read of the script failed.
     Unreadable,

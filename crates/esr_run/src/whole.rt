@@ -3,10 +3,12 @@ ghost use Rattle.std.specs.Prelude.{◌≡◌, ◌⊎◌, ◌<◌, ◌≤◌, �
 ghost use Rattle.esr_desk.specs.Sources.{TellsFiles};
 ghost use Rattle.esr_repo.specs.Begun.{IsBegun};
 ghost use Rattle.esr_repo.specs.Past.{IsPast};
+ghost use Rattle.esr_script.specs.Jobs.{job_of};
+ghost use Rattle.esr_run.specs.Asked.{wanted_of};
 ghost use Rattle.esr_run.specs.Ends.{Carried};
 ghost use Rattle.esr_run.specs.Script.{first_bad};
 ghost use Rattle.esr_run.specs.Start.{LegalRun};
-ghost use Rattle.esr_run.specs.Causes.{Given, IsTold, IsVerdict, IsUnopened, IsOpenedRun, IsOpenCause, IsRunOf, IsCauseOf, IsEndOf};
+ghost use Rattle.esr_run.specs.Causes.{Given, IsReadFor, IsTold, IsVerdict, IsUnopened, IsOpenedRun, IsOpenCause, IsRunOf, IsCauseOf, IsEndOf};
 
 use crate::asked::{Asked, asked_for};
 use crate::carry::carry;
@@ -142,7 +144,7 @@ fn open_and_carry<D: Depot, S: Sources, T: Targets, G: Gate>(
     }
 }
 
-/// Carries out what the words and the script ask for.
+/// Carries out what the words ask for.
 fn carry_out<D: Depot, S: Sources, T: Targets, G: Gate, I: Lines>(
     alloc: Global,
     words: &Words,
@@ -157,6 +159,7 @@ fn carry_out<D: Depot, S: Sources, T: Targets, G: Gate, I: Lines>(
     ensures told { IsVerdict result.0.verdict.status result.0.verdict.text
         (IsCauseOf D.Fetch.faults (record { words = words.now; script = I.left script.old; faults = I.faults script.old }) (S.files sources.now) (I.faults script.new)
         (D.look depot) (D.look result.0.depot) (D.faults depot) (D.faults result.0.depot) result.0.history result.1) }
+    ensures reader { IsReadFor (wanted_of (job_of words.now)) (I.left script.old) (I.left script.new) (I.faults script.old) (I.faults script.new) }
 {
     only_now(&depot);
     let asked = match asked_for(alloc, words, script) {
@@ -169,9 +172,10 @@ fn carry_out<D: Depot, S: Sources, T: Targets, G: Gate, I: Lines>(
     }
 }
 
-/// Carries out the script for which the words ask on a container into which nothing was written, or one that an earlier run
-/// left, and prints what each of its lines was answered. `moment` is the time of its snapshots, in milliseconds. `targets` is
-/// for restores, which come later.
+/// Carries out the script for which the words ask, or the one command, as a script of that line, on a container into which
+/// nothing was written, or one that an earlier run left, and prints what each line was answered. The script is read to its
+/// end where the words ask for one, and else not at all. `moment` is the time of the snapshots, in milliseconds. `targets`
+/// is for restores, which come later.
 pub fn run<D: Depot, S: Sources, T: Targets, G: Gate, I: Lines, O: Out>(
     alloc: Global,
     words: &Words,
@@ -188,6 +192,7 @@ pub fn run<D: Depot, S: Sources, T: Targets, G: Gate, I: Lines, O: Out>(
     ensures end { IsEndOf result.status (O.contents out.old) (O.contents out.new) (O.faults out.old) (O.faults out.new)
         (IsCauseOf D.Fetch.faults (record { words = words.now; script = I.left script.old; faults = I.faults script.old }) (S.files sources.now) (I.faults script.new)
         (D.look depot) (D.look result.depot) (D.faults depot) (D.faults result.depot) result.history result.faults) }
+    ensures reader { IsReadFor (wanted_of (job_of words.now)) (I.left script.old) (I.left script.new) (I.faults script.old) (I.faults script.new) }
     ensures targets { result.targets ≡ [] }
 {
     let (done, faults) = carry_out::<D, S, T, G, I>(

@@ -73,7 +73,8 @@ fn bad_words_and_bad_lines_touch_nothing(rt: HostRuntime) -> Result<(), Fail> {
     let alloc = rt.alloc();
     let cases = [
         ("walk", SCRIPT, "bad words\n"),
-        ("list", SCRIPT, "bad words\n"),
+        ("check", SCRIPT, "bad words\n"),
+        ("wait", SCRIPT, "bad words\n"),
         ("run", "wait\nwalk\n", "bad line 2\n"),
         ("run", "\nwait\ncleanup\n", "bad line 3\n"),
     ];
@@ -84,6 +85,32 @@ fn bad_words_and_bad_lines_touch_nothing(rt: HostRuntime) -> Result<(), Fail> {
         assert_eq!(rt; ended.status, 2);
         assert!(rt; ended.depot.read_record(alloc)?.is_none());
     }
+    Ok(())
+}
+
+/// Whether a run of these words over an empty container ends with that status and prints that.
+fn prints(
+    alloc: Global,
+    words: &[&str],
+    reads: Plan,
+    status: u8,
+    printed: &str,
+) -> Result<bool, AllocError> {
+    let mut out = MemOut::new(alloc, 1000, Seq::new(alloc))?;
+    let ended = run_in_memory(alloc, words, SCRIPT, reads, &mut out)?;
+    Ok(ended.status == status && out.as_slice() == printed.as_bytes())
+}
+
+#[test]
+fn a_command_alone_reads_no_script(rt: HostRuntime) -> Result<(), Fail> {
+    let alloc = rt.alloc();
+    let snapshot = ["snapshot", "s1", "logs/1/src"];
+    let made = "1 snapshot s1 ok AAAAAAAAAAEAAAAAAAAAAA\n";
+    let unreadable = first_fails(alloc, Call::Read)?;
+    assert!(rt; prints(alloc, &["list"], Seq::new(alloc), 0, "1 list 0\n")?);
+    assert!(rt; prints(alloc, &snapshot, Seq::new(alloc), 0, made)?);
+    assert!(rt; prints(alloc, &snapshot, unreadable, 0, made)?);
+    assert!(rt; prints(alloc, &["generate", "7"], Seq::new(alloc), 2, "bad words\n")?);
     Ok(())
 }
 
