@@ -18,7 +18,9 @@ use Rattle.esr_opening.specs.declared.refusal.OpenRefusal.TheVariants as refusal
 use Rattle.esr_repo.specs.Past.{IsPast}
 use Rattle.esr_script.specs.Jobs.{job_of}
 use Rattle.esr_script.specs.declared.item.ScriptLine.{ScriptLine}
-use Rattle.esr_run.specs.declared.fault.Fault.{Fault}
+use Rattle.esr_desk.specs.declared.fault.Fault.{Fault}
+use Rattle.esr_desk.specs.Shown.{Counts, AreShown}
+use Rattle.esr_repo.specs.Log.{log_of}
 use Rattle.esr_run.specs.Asked.{wanted_of, part_size_of}
 use Rattle.esr_run.specs.Ends.{RunEnd, BadWords, Unreadable, BadScript, BadLine, OpenFault, Damaged, NoTerm, Carried}
 use Rattle.esr_run.specs.Faults.{of_opening, listed, fetch_of, HasFetch}
@@ -55,18 +57,18 @@ pub refused_at : {F : Type 0} (count : F → ℕ) (before mid after : Look) (old
 refused_at count before mid after old_faults mid_faults new_faults refusal same faults refused =
     subst (λ (l : Look). IsOpenRefused count before l old_faults new_faults refusal) (sym same) (subst (λ (n : ℕ). IsOpenRefused count before mid old_faults n refusal) (sym faults) refused)
 
-pub unopened : {S F H T : Type 0} (laws : Laws) (count : F → ℕ) (files : Telling) (before after : Look) (old_faults new_faults : ℕ) (history : List Entry) (faults : List (Fault S F H T)) (refusal : OpenRefusal F)
-    → IsOpenRefused count before after old_faults new_faults refusal → history ≡ [] → faults ≡ listed (fetch_of refusal) → IsUnopened count files before after old_faults new_faults history faults
+pub unopened : {S F H T : Type 0} (laws : Laws) (count : Counts S F H T) (files : Telling) (before after : Look) (old_faults new_faults : ℕ) (history : List Entry) (faults : List (Fault S F H T)) (refusal : OpenRefusal F)
+    → IsOpenRefused count.fetch before after old_faults new_faults refusal → history ≡ [] → faults ≡ listed (fetch_of refusal) → IsUnopened count files before after old_faults new_faults history faults
 unopened laws count files before after old_faults new_faults history faults refusal refused empty are =
-    record { refusal = refusal; refused = refused; every_image = refused_kept laws files count before after old_faults new_faults refusal refused; empty = empty; faults_are = are }
+    record { refusal = refusal; refused = refused; every_image = refused_kept laws files count.fetch before after old_faults new_faults refusal refused; empty = empty; faults_are = are }
 
 -- what is told of the history by the container alone, as the run tells it
 abbrev Begun : Telling → ℕ → Look → Kept → Start
 Begun files size mid k = start_of files size mid (begun_world (now mid) (cluster_of k.cluster) (root_of k.root))
 
-pub opened_run : {S F H T : Type 0} (laws : Laws) (files : Telling) (size : ℕ) (before mid after : Look) (k : Kept) (history : List Entry) (faults : List (Fault S F H T)) → IsOpening before mid k
-    → LegalRun (Begun files size mid k) mid.clock after history → IsPast (Begun files size mid k) mid.clock mid.since after history → faults ≡ [] → IsOpenedRun files size before after history faults
-opened_run laws files size before mid after k history faults o legal past none =
+pub opened_run : {S F H T : Type 0} (laws : Laws) (count : Counts S F H T) (files : Telling) (size : ℕ) (before mid after : Look) (k : Kept) (history : List Entry) (faults : List (Fault S F H T)) → IsOpening before mid k
+    → LegalRun (Begun files size mid k) mid.clock after history → IsPast (Begun files size mid k) mid.clock mid.since after history → AreShown count (Begun files size mid k) (log_of after mid.clock history) faults → IsOpenedRun count files size before after history faults
+opened_run {S} {F} {H} {T} laws count files size before mid after k history faults o legal past shown =
     let is = start_is files size before mid k o in
     let run = subst (λ (s : Start). LegalRun s mid.clock after history) is legal in
     let was = subst (λ (s : Start). IsPast s mid.clock mid.since after history) is past in
@@ -79,7 +81,7 @@ opened_run laws files size before mid after k history faults o legal past none =
       legal = run;
       every_image = every_image_kept laws files size before mid after k history o run was;
       answered = answers_stay laws files size before mid after k history o run was;
-      none = none;
+      shown = subst (λ (s : Start). AreShown {S = S} {F = F} {H = H} {T = T} count s (log_of after mid.clock history) faults) is shown;
     }
 
 -- ---- verdicts
@@ -88,8 +90,8 @@ pub verdict_carried : (status : ℕ) (text : Bytes) (lines : List ScriptLine) (h
 verdict_carried status text lines history Cause (inl wanting) cause = inl wanting
 verdict_carried status text lines history Cause (inr told) cause = inr (record { end = Carried lines history; status_is = told.0; text_is = told.1; cause = cause })
 
-pub verdict_opening : {S F H T : Type 0} (status : ℕ) (text : Bytes) (count : F → ℕ) (files : Telling) (size : ℕ) (before after : Look) (old_faults new_faults : ℕ) (lines : List ScriptLine) (history : List Entry) (faults : List (Fault S F H T))
-    → IsTold status text (Some (Carried lines history)) → IsOpenedRun files size before after history faults → IsVerdict status text (IsOpenCause count files size before after old_faults new_faults lines history faults)
+pub verdict_opening : {S F H T : Type 0} (status : ℕ) (text : Bytes) (count : Counts S F H T) (files : Telling) (size : ℕ) (before after : Look) (old_faults new_faults : ℕ) (lines : List ScriptLine) (history : List Entry) (faults : List (Fault S F H T))
+    → IsTold status text (Some (Carried lines history)) → IsOpenedRun count files size before after history faults → IsVerdict status text (IsOpenCause count files size before after old_faults new_faults lines history faults)
 verdict_opening status text count files size before after old_faults new_faults lines history faults told run =
     verdict_carried status text lines history (IsOpenCause count files size before after old_faults new_faults lines history faults) told (refl, refl, run)
 
@@ -102,21 +104,21 @@ told_none status text Cause (inl wanting) = inl wanting
 told_none status text Cause (inr told) = inl told.0
 
 -- the fetch of the opening is listed
-has_fetch : {S F H T : Type 0} (count : F → ℕ) (faults : List (Fault S F H T)) (old_faults new_faults : ℕ) (fetch : Option F) → faults ≡ listed fetch → IsFault count old_faults new_faults fetch
-    → HasCause old_faults new_faults true ⊎ HasFetch count faults
+has_fetch : {S F H T : Type 0} (count : Counts S F H T) (faults : List (Fault S F H T)) (old_faults new_faults : ℕ) (fetch : Option F) → faults ≡ listed fetch → IsFault count.fetch old_faults new_faults fetch
+    → HasCause old_faults new_faults true ⊎ HasFetch count.fetch faults
 has_fetch count faults old_faults new_faults fetch are (inl cause) = inl cause
 has_fetch count faults old_faults new_faults None are (inr failed) = absurd failed
-has_fetch count faults old_faults new_faults (Some fetch) are (inr failed) = inr (subst (λ fs. HasFetch count fs) (sym are) (record { fetch = fetch; listed_so = inl refl; failed = failed }))
+has_fetch count faults old_faults new_faults (Some fetch) are (inr failed) = inr (subst (λ fs. HasFetch count.fetch fs) (sym are) (record { fetch = fetch; listed_so = inl refl; failed = failed }))
 
-pub verdict_refused : {S F H T : Type 0} (status : ℕ) (text : Bytes) (count : F → ℕ) (files : Telling) (size : ℕ) (before after : Look) (old_faults new_faults : ℕ) (lines : List ScriptLine) (history : List Entry) (faults : List (Fault S F H T))
-    (refusal : OpenRefusal F) → IsTold status text (end_of_refusal refusal) → IsOpenRefused count before after old_faults new_faults refusal → history ≡ [] → faults ≡ listed (fetch_of refusal) → IsVerdict status text (IsOpenCause count files size before after old_faults new_faults lines history faults)
+pub verdict_refused : {S F H T : Type 0} (status : ℕ) (text : Bytes) (count : Counts S F H T) (files : Telling) (size : ℕ) (before after : Look) (old_faults new_faults : ℕ) (lines : List ScriptLine) (history : List Entry) (faults : List (Fault S F H T))
+    (refusal : OpenRefusal F) → IsTold status text (end_of_refusal refusal) → IsOpenRefused count.fetch before after old_faults new_faults refusal → history ≡ [] → faults ≡ listed (fetch_of refusal) → IsVerdict status text (IsOpenCause count files size before after old_faults new_faults lines history faults)
 verdict_refused status text count files size before after old_faults new_faults lines history faults refusals.Memory told refused empty are = told_none status text (IsOpenCause count files size before after old_faults new_faults lines history faults) told
 verdict_refused status text count files size before after old_faults new_faults lines history faults (refusals.DepotFault fetch) told refused empty are =
     told_end status text (IsOpenCause count files size before after old_faults new_faults lines history faults) OpenFault told (empty, record { fetch = fetch; refused = refused; shown = has_fetch count faults old_faults new_faults fetch are refused.0 })
 verdict_refused status text count files size before after old_faults new_faults lines history faults (refusals.Damaged name why) told refused empty are = told_end status text (IsOpenCause count files size before after old_faults new_faults lines history faults) (Damaged name) told (empty, (why, refused))
 verdict_refused status text count files size before after old_faults new_faults lines history faults (refusals.TermsSpent term) told refused empty are = told_end status text (IsOpenCause count files size before after old_faults new_faults lines history faults) NoTerm told (empty, (term, refused))
 
-pub verdict_stopped : {S F H T : Type 0} (status : ℕ) (text : Bytes) (count : F → ℕ) (given : Given) (files : Telling) (reader : ℕ) (before after : Look) (old_faults new_faults : ℕ) (history : List Entry) (faults : List (Fault S F H T)) (end : Option RunEnd)
+pub verdict_stopped : {S F H T : Type 0} (status : ℕ) (text : Bytes) (count : Counts S F H T) (given : Given) (files : Telling) (reader : ℕ) (before after : Look) (old_faults new_faults : ℕ) (history : List Entry) (faults : List (Fault S F H T)) (end : Option RunEnd)
     → IsTold status text end → StoppedBy (wanted_of (job_of given.words)) given.script given.faults reader end → IsUntouched files before after history faults → IsVerdict status text (IsCauseOf count given files reader before after old_faults new_faults history faults)
 verdict_stopped status text count given files reader before after old_faults new_faults history faults None told stop un = told_none status text (IsCauseOf count given files reader before after old_faults new_faults history faults) told
 verdict_stopped status text count given files reader before after old_faults new_faults history faults (Some BadWords) told stop un = told_end status text (IsCauseOf count given files reader before after old_faults new_faults history faults) BadWords told (un, stop)
@@ -129,7 +131,7 @@ verdict_stopped status text count given files reader before after old_faults new
 verdict_stopped status text count given files reader before after old_faults new_faults history faults (Some (Carried script entries)) told stop un = absurd stop
 
 -- from the opening on, with the words and the script
-with_script : {S F H T : Type 0} (count : F → ℕ) (given : Given) (files : Telling) (reader size : ℕ) (before after : Look) (old_faults new_faults : ℕ) (lines : List ScriptLine) (history : List Entry) (faults : List (Fault S F H T)) (end : RunEnd)
+with_script : {S F H T : Type 0} (count : Counts S F H T) (given : Given) (files : Telling) (reader size : ℕ) (before after : Look) (old_faults new_faults : ℕ) (lines : List ScriptLine) (history : List Entry) (faults : List (Fault S F H T)) (end : RunEnd)
     → part_size_of (wanted_of (job_of given.words)) ≡ Some size → IsScript given lines → IsOpenCause count files size before after old_faults new_faults lines history faults end → IsCauseOf count given files reader before after old_faults new_faults history faults end
 with_script count given files reader size before after old_faults new_faults lines history faults (Carried script entries) size_is is cause =
     (cause.1, subst (IsScript given) (sym cause.0) is, record { size = size; size_is = size_is; run = cause.2 })
@@ -141,15 +143,15 @@ with_script count given files reader size before after old_faults new_faults lin
 with_script count given files reader size before after old_faults new_faults lines history faults BadScript size_is is cause = absurd cause
 with_script count given files reader size before after old_faults new_faults lines history faults (BadLine number) size_is is cause = absurd cause
 
-pub verdict_opened : {S F H T : Type 0} (status : ℕ) (text : Bytes) (count : F → ℕ) (given : Given) (files : Telling) (reader size : ℕ) (before after : Look) (old_faults new_faults : ℕ) (lines : List ScriptLine) (history : List Entry) (faults : List (Fault S F H T))
+pub verdict_opened : {S F H T : Type 0} (status : ℕ) (text : Bytes) (count : Counts S F H T) (given : Given) (files : Telling) (reader size : ℕ) (before after : Look) (old_faults new_faults : ℕ) (lines : List ScriptLine) (history : List Entry) (faults : List (Fault S F H T))
     → part_size_of (wanted_of (job_of given.words)) ≡ Some size → IsScript given lines → IsVerdict status text (IsOpenCause count files size before after old_faults new_faults lines history faults)
     → IsVerdict status text (IsCauseOf count given files reader before after old_faults new_faults history faults)
 verdict_opened status text count given files reader size before after old_faults new_faults lines history faults size_is is (inl wanting) = inl wanting
 verdict_opened status text count given files reader size before after old_faults new_faults lines history faults size_is is (inr v) =
     inr (record { end = v.end; status_is = v.status_is; text_is = v.text_is; cause = with_script count given files reader size before after old_faults new_faults lines history faults v.end size_is is v.cause })
 
-pub run_opened : {S F H T : Type 0} (count : F → ℕ) (given : Given) (files : Telling) (size : ℕ) (before after : Look) (old_faults new_faults : ℕ) (history : List Entry) (faults : List (Fault S F H T))
-    → part_size_of (wanted_of (job_of given.words)) ≡ Some size → IsUnopened count files before after old_faults new_faults history faults ⊎ IsOpenedRun files size before after history faults → IsRunOf count given files before after old_faults new_faults history faults
+pub run_opened : {S F H T : Type 0} (count : Counts S F H T) (given : Given) (files : Telling) (size : ℕ) (before after : Look) (old_faults new_faults : ℕ) (history : List Entry) (faults : List (Fault S F H T))
+    → part_size_of (wanted_of (job_of given.words)) ≡ Some size → IsUnopened count files before after old_faults new_faults history faults ⊎ IsOpenedRun count files size before after history faults → IsRunOf count given files before after old_faults new_faults history faults
 run_opened count given files size before after old_faults new_faults history faults size_is (inl unopened) = inr (inl unopened)
 run_opened count given files size before after old_faults new_faults history faults size_is (inr run) = inr (inr (record { size = size; size_is = size_is; run = run }))
 

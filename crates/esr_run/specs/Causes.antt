@@ -16,7 +16,8 @@ use Rattle.esr_opening.specs.declared.refusal.OpenRefusal.TheVariants as refusal
 use Rattle.esr_opening.specs.declared.refusal.Why.{Why}
 use Rattle.esr_opening.specs.Opening.{image_of, IsInOrder, IsOpenRefused}
 use Rattle.esr_repo.specs.Log.{log_of}
-use Rattle.esr_run.specs.declared.fault.Fault.{Fault}
+use Rattle.esr_desk.specs.declared.fault.Fault.{Fault}
+use Rattle.esr_desk.specs.Shown.{Counts, AreShown}
 use Rattle.esr_run.specs.Asked.{Wanted, ReadScript, OneCommand, NoRun, AsksScript, wanted_of, part_size_of, single_script}
 use Rattle.esr_run.specs.Script.{AreBytes, first_bad, bad_line}
 use Rattle.esr_run.specs.Ends.{RunEnd, BadWords, Unreadable, BadScript, BadLine, OpenFault, Damaged, NoTerm, Carried, text_of, exit_of, exit_at, text_at}
@@ -88,16 +89,16 @@ pub record IsUntouched {S F H T : Type 0} (files : Telling) (before after : Look
   pub none : faults ≡ []
 
 -- It wasn't opened; it counts faults, and so does each of its fetches.
-pub record IsUnopened {S F H T : Type 0} (count : F → ℕ) (files : Telling) (before after : Look) (old_faults new_faults : ℕ) (history : List Entry) (faults : List (Fault S F H T)) : Type 0 where
+pub record IsUnopened {S F H T : Type 0} (count : Counts S F H T) (files : Telling) (before after : Look) (old_faults new_faults : ℕ) (history : List Entry) (faults : List (Fault S F H T)) : Type 0 where
   pub refusal : OpenRefusal F
-  pub refused : IsOpenRefused count before after old_faults new_faults refusal
+  pub refused : IsOpenRefused count.fetch before after old_faults new_faults refusal
   pub every_image : StaysKept (formats_by files) before after
   pub empty : history ≡ []
   -- the fetch of the opening whose reading failed, if one did
   pub faults_are : faults ≡ listed (fetch_of refusal)
 
 -- It was opened, as this world, and the history is legal from there to what it has now, over its moments from this clock on.
-pub record IsOpenedRun {S F H T : Type 0} (files : Telling) (size : ℕ) (before after : Look) (history : List Entry) (faults : List (Fault S F H T)) : Type 0 where
+pub record IsOpenedRun {S F H T : Type 0} (count : Counts S F H T) (files : Telling) (size : ℕ) (before after : Look) (history : List Entry) (faults : List (Fault S F H T)) : Type 0 where
   pub world : World
   pub clock : ℕ
   pub later : before.clock ≤ clock
@@ -106,34 +107,35 @@ pub record IsOpenedRun {S F H T : Type 0} (files : Telling) (size : ℕ) (before
   pub legal : LegalRun (start_of files size before world) clock after history
   pub every_image : EveryImageKept (formats_by files) world (log_of after clock history) before after
   pub answered : AnsweredStay (start_of files size before world) clock history before after
-  pub none : faults ≡ []
+  -- each failure of a unit that the history tells has its cause, and the objects that failed are listed
+  pub shown : AreShown count (start_of files size before world) (log_of after clock history) faults
 
 -- with parts of the size for which the words ask
-pub record IsCarried {S F H T : Type 0} (given : Given) (files : Telling) (before after : Look) (history : List Entry) (faults : List (Fault S F H T)) : Type 0 where
+pub record IsCarried {S F H T : Type 0} (count : Counts S F H T) (given : Given) (files : Telling) (before after : Look) (history : List Entry) (faults : List (Fault S F H T)) : Type 0 where
   pub size : ℕ
   pub size_is : part_size_of (wanted_of (job_of given.words)) ≡ Some size
-  pub run : IsOpenedRun files size before after history faults
+  pub run : IsOpenedRun count files size before after history faults
 
 -- The container wasn't touched, or it wasn't opened, and there is no history; or it was opened, and the history is legal from
 -- there on.
-abbrev pub IsRunOf : {S F H T : Type 0} → (F → ℕ) → Given → Telling → Look → Look → ℕ → ℕ → List Entry → List (Fault S F H T) → Type 0
+abbrev pub IsRunOf : {S F H T : Type 0} → Counts S F H T → Given → Telling → Look → Look → ℕ → ℕ → List Entry → List (Fault S F H T) → Type 0
 IsRunOf count given files before after old_faults new_faults history faults =
     IsUntouched files before after history faults
-    ⊎ (IsUnopened count files before after old_faults new_faults history faults ⊎ IsCarried given files before after history faults)
+    ⊎ (IsUnopened count files before after old_faults new_faults history faults ⊎ IsCarried count given files before after history faults)
 
 -- ---- why a run ended so
 
 -- The container failed as it was opened: its count of faults shows it, or that of a fetch of the opening which is listed.
-pub record FailedToOpen {S F H T : Type 0} (count : F → ℕ) (before after : Look) (old_faults new_faults : ℕ) (faults : List (Fault S F H T)) : Type 0 where
+pub record FailedToOpen {S F H T : Type 0} (count : Counts S F H T) (before after : Look) (old_faults new_faults : ℕ) (faults : List (Fault S F H T)) : Type 0 where
   pub fetch : Option F
-  pub refused : IsOpenRefused count before after old_faults new_faults (refusals.DepotFault fetch)
-  pub shown : HasCause old_faults new_faults true ⊎ HasFetch count faults
+  pub refused : IsOpenRefused count.fetch before after old_faults new_faults (refusals.DepotFault fetch)
+  pub shown : HasCause old_faults new_faults true ⊎ HasFetch count.fetch faults
 
 -- Why the container wasn't opened: it failed, or something in it is damaged, or its last term has come.
-abbrev pub IsRefused : {S F H T : Type 0} → (F → ℕ) → Look → Look → ℕ → ℕ → List (Fault S F H T) → RunEnd → Type 0
+abbrev pub IsRefused : {S F H T : Type 0} → Counts S F H T → Look → Look → ℕ → ℕ → List (Fault S F H T) → RunEnd → Type 0
 IsRefused count before after old_faults new_faults faults OpenFault = FailedToOpen count before after old_faults new_faults faults
-IsRefused count before after old_faults new_faults faults (Damaged name) = (why : Why) × IsOpenRefused count before after old_faults new_faults (refusals.Damaged name why)
-IsRefused count before after old_faults new_faults faults NoTerm = (term : ℕ) × IsOpenRefused count before after old_faults new_faults (refusals.TermsSpent term)
+IsRefused count before after old_faults new_faults faults (Damaged name) = (why : Why) × IsOpenRefused count.fetch before after old_faults new_faults (refusals.Damaged name why)
+IsRefused count before after old_faults new_faults faults NoTerm = (term : ℕ) × IsOpenRefused count.fetch before after old_faults new_faults (refusals.TermsSpent term)
 IsRefused count before after old_faults new_faults faults BadWords = ⊥
 IsRefused count before after old_faults new_faults faults Unreadable = ⊥
 IsRefused count before after old_faults new_faults faults BadScript = ⊥
@@ -141,11 +143,11 @@ IsRefused count before after old_faults new_faults faults (BadLine number) = ⊥
 IsRefused count before after old_faults new_faults faults (Carried script history) = ⊥
 
 -- there is no history, since the container wasn't opened
-abbrev pub EndedUnopened : {S F H T : Type 0} → (F → ℕ) → Look → Look → ℕ → ℕ → List Entry → List (Fault S F H T) → RunEnd → Type 0
+abbrev pub EndedUnopened : {S F H T : Type 0} → Counts S F H T → Look → Look → ℕ → ℕ → List Entry → List (Fault S F H T) → RunEnd → Type 0
 EndedUnopened count before after old_faults new_faults history faults end = (history ≡ []) × IsRefused count before after old_faults new_faults faults end
 
-abbrev pub IsCauseOf : {S F H T : Type 0} → (F → ℕ) → Given → Telling → ℕ → Look → Look → ℕ → ℕ → List Entry → List (Fault S F H T) → RunEnd → Type 0
-IsCauseOf count given files reader before after old_faults new_faults history faults (Carried script entries) = (entries ≡ history) × IsScript given script × IsCarried given files before after history faults
+abbrev pub IsCauseOf : {S F H T : Type 0} → Counts S F H T → Given → Telling → ℕ → Look → Look → ℕ → ℕ → List Entry → List (Fault S F H T) → RunEnd → Type 0
+IsCauseOf count given files reader before after old_faults new_faults history faults (Carried script entries) = (entries ≡ history) × IsScript given script × IsCarried count given files before after history faults
 IsCauseOf count given files reader before after old_faults new_faults history faults OpenFault = EndedUnopened count before after old_faults new_faults history faults OpenFault
 IsCauseOf count given files reader before after old_faults new_faults history faults (Damaged name) = EndedUnopened count before after old_faults new_faults history faults (Damaged name)
 IsCauseOf count given files reader before after old_faults new_faults history faults NoTerm = EndedUnopened count before after old_faults new_faults history faults NoTerm
@@ -185,8 +187,8 @@ abbrev pub IsPrinted : ℕ → ℕ → Bytes → Option Bytes → Option Bytes �
 IsPrinted status wanted text old new old_faults new_faults = ((status ≡ 5) × HasCause old_faults new_faults true) ⊎ ((status ≡ wanted) × Appends old new text)
 
 -- the same as why a run ended so, from the opening of the container on
-abbrev pub IsOpenCause : {S F H T : Type 0} → (F → ℕ) → Telling → ℕ → Look → Look → ℕ → ℕ → List ScriptLine → List Entry → List (Fault S F H T) → RunEnd → Type 0
-IsOpenCause count files size before after old_faults new_faults lines history faults (Carried script entries) = (script ≡ lines) × (entries ≡ history) × IsOpenedRun files size before after history faults
+abbrev pub IsOpenCause : {S F H T : Type 0} → Counts S F H T → Telling → ℕ → Look → Look → ℕ → ℕ → List ScriptLine → List Entry → List (Fault S F H T) → RunEnd → Type 0
+IsOpenCause count files size before after old_faults new_faults lines history faults (Carried script entries) = (script ≡ lines) × (entries ≡ history) × IsOpenedRun count files size before after history faults
 IsOpenCause count files size before after old_faults new_faults lines history faults OpenFault = EndedUnopened count before after old_faults new_faults history faults OpenFault
 IsOpenCause count files size before after old_faults new_faults lines history faults (Damaged name) = EndedUnopened count before after old_faults new_faults history faults (Damaged name)
 IsOpenCause count files size before after old_faults new_faults lines history faults NoTerm = EndedUnopened count before after old_faults new_faults history faults NoTerm

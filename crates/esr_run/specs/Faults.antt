@@ -3,8 +3,8 @@ use Rattle.std.specs.Prelude.{ℕ, ◌<◌, List, [], ◌∷◌, Option, Some, N
 use Rattle.esr_model.specs.Values.{Has}
 use Rattle.esr_opening.specs.declared.refusal.OpenRefusal.{OpenRefusal}
 use Rattle.esr_opening.specs.declared.refusal.OpenRefusal.TheVariants as refusals
-use Rattle.esr_run.specs.declared.fault.Fault.{Fault}
-use Rattle.esr_run.specs.declared.fault.FailedObject.TheVariants as objects
+use Rattle.esr_desk.specs.declared.fault.Fault.{Fault}
+use Rattle.esr_desk.specs.declared.fault.FailedObject.TheVariants as objects
 
 -- a fetch of the opening, which has no entry
 abbrev pub of_opening : {S F H T : Type 0} → F → Fault S F H T

@@ -36,7 +36,7 @@ fn list<Q: Desk>(alloc: Global, desk: &mut Q) -> Result<(), StepRefusal>
     Ok(())
 }
 
-fn carry_line<Q: Desk, S: Sources, G: Gate>(
+fn carry_line<Q: Desk<Shard = S::Shard>, S: Sources, G: Gate>(
     alloc: Global,
     desk: &mut Q,
     item: &Item,
@@ -61,7 +61,7 @@ fn carry_line<Q: Desk, S: Sources, G: Gate>(
 
 /// Carries out the lines. A refusal that the history tells is no reason to stop; none is carried out once the desk's turns
 /// are spent.
-fn carry_lines<Q: Desk, S: Sources, G: Gate>(
+fn carry_lines<Q: Desk<Shard = S::Shard>, S: Sources, G: Gate>(
     alloc: Global,
     desk: &mut Q,
     lines: &[ScriptLine],
@@ -89,7 +89,7 @@ fn carry_lines<Q: Desk, S: Sources, G: Gate>(
 }
 
 /// Carries out the lines, and works all units that are ready then.
-pub(crate) fn carry<Q: Desk, S: Sources, G: Gate>(
+pub(crate) fn carry<Q: Desk<Shard = S::Shard>, S: Sources, G: Gate>(
     alloc: Global,
     desk: &mut Q,
     lines: &[ScriptLine],

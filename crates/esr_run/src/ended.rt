@@ -1,8 +1,7 @@
 //! What a run leaves.
 
-use crate::Faults;
 use esr_depot::Depot;
-use esr_desk::History;
+use esr_desk::{Faults, History};
 use esr_names::IndexName;
 use esr_seq::Seq;
 

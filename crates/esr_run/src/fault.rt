@@ -1,28 +1,10 @@
-//! Objects of the outside that failed.
+//! The fetch of an opening that failed.
 ghost use Rattle.std.specs.Prelude.{◌≡◌, ◌<◌, [], vec_len, vec_capacity, IfOk};
 ghost use Rattle.esr_run.specs.Faults.{listed};
 
+use esr_desk::{FailedObject, Fault, Faults};
 use esr_seq::Seq;
 use std::alloc::{AllocError, Global};
-
-/// An object that failed.
-#[derive(Drop)]
-pub enum FailedObject<S, F, H, T> {
-    Stage { stage: S },
-    Fetch { fetch: F },
-    Shard { shard: H },
-    Target { target: T },
-}
-
-/// An object that failed, with the place of its `failed` entry in the history. A fetch of the opening has none.
-#[derive(Drop)]
-pub struct Fault<S, F, H, T> {
-    pub entry: Option<u64>,
-    pub object: FailedObject<S, F, H, T>,
-}
-
-/// The objects that failed, in order.
-pub type Faults<S, F, H, T> = Seq<Fault<S, F, H, T>>;
 
 /// Room for the fetch of an opening.
 pub(crate) fn room_for_one<S, F, H, T>(alloc: Global) -> Result<Vec<Fault<S, F, H, T>>, AllocError>

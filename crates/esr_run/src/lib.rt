@@ -15,5 +15,4 @@ mod verdict;
 mod whole;
 
 pub use ended::{Ended, Restored, TargetList};
-pub use fault::{FailedObject, Fault, Faults};
 pub use whole::run;

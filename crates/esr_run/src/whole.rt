@@ -2,6 +2,8 @@
 ghost use Rattle.std.specs.Prelude.{◌≡◌, ◌⊎◌, ◌<◌, ◌≤◌, ◌^◌, [], Some, None, vec_len, vec_capacity};
 ghost use Rattle.esr_desk.specs.Sources.{TellsFiles};
 ghost use Rattle.esr_repo.specs.Begun.{IsBegun};
+ghost use Rattle.esr_desk.specs.Shown.{AreShown};
+ghost use Rattle.esr_repo.specs.Log.{log_of};
 ghost use Rattle.esr_repo.specs.Past.{IsPast};
 ghost use Rattle.esr_script.specs.Jobs.{job_of};
 ghost use Rattle.esr_run.specs.Asked.{wanted_of};
@@ -13,13 +15,13 @@ ghost use Rattle.esr_run.specs.Causes.{Given, IsReadFor, IsTold, IsVerdict, IsUn
 use crate::asked::{Asked, asked_for};
 use crate::carry::carry;
 use crate::ended::Ended;
-use crate::fault::{Fault, Faults, faults_of, room_for_one};
+use crate::fault::{faults_of, room_for_one};
 use crate::law::{laws, only_now};
 use crate::stop::Stop;
 use crate::unopened::{ended_at, stop_of};
 use crate::verdict::{Verdict, print_verdict, reported, wanting};
 use esr_depot::Depot;
-use esr_desk::History;
+use esr_desk::{Fault, Faults, History};
 use esr_opening::{Opening, open_container};
 use esr_repo::{Repo, Told};
 use esr_script::{Script, Words};
@@ -53,21 +55,26 @@ fn verdict_after(
 }
 
 /// Carries out the script on a desk over the repository.
-fn carry_on<D: Depot, S: Sources, G: Gate, K: Told>(
+fn carry_on<D: Depot, S: Sources, T: Targets, G: Gate, K: Told>(
     alloc: Global,
     repo: Repo<D, K>,
     asked: &Asked,
     sources: &S,
     gate: &G,
     moment: u64,
-) -> (Repo<D, K>, Result<(), AllocError>)
+) -> (
+    Repo<D, K>,
+    Faults<D::Stage, D::Fetch, S::Shard, T::Target>,
+    Result<(), AllocError>,
+)
     requires fresh { repo ≡ [] }
     requires sources { TellsFiles K.start (S.files sources.now) (S.is_there sources.now) }
     requires size { asked.now.part_size ≡ K.start.part_size }
     requires sized { (1 ≤ asked.now.part_size) × (asked.now.part_size ≤ 2 ^ 30) }
     requires good { first_bad asked.now.script ≡ None }
+    ensures shown { AreShown (record { stage = D.Stage.faults; fetch = D.Fetch.faults; shard = S.Shard.faults; target = T.Target.faults; made_for = λ h. (S.Shard.origin h).address }) K.start result.0 result.1 }
 {
-    let mut desk = Solo::new(repo);
+    let mut desk = Solo::<D, K, S::Shard, T::Target>::new(alloc, repo);
     let lines = asked.script.as_slice();
     let carried = carry(
         alloc,
@@ -78,37 +85,42 @@ fn carry_on<D: Depot, S: Sources, G: Gate, K: Told>(
         asked.part_size,
         moment,
     );
-    (desk.into_repo(), carried)
+    let (repo, faults) = desk.into_parts();
+    (repo, faults, carried)
 }
 
 /// Carries out the script on a container that was opened.
-fn run_told<D: Depot, S: Sources, G: Gate, K: Told>(
+fn run_told<D: Depot, S: Sources, T: Targets, G: Gate, K: Told>(
     alloc: Global,
     opening: Opening<D>,
     asked: &Asked,
     sources: &S,
     gate: &G,
     moment: u64,
-) -> Done<D>
+) -> (Done<D>, Faults<D::Stage, D::Fetch, S::Shard, T::Target>)
     requires begun { IsBegun K.start K.clock K.past (D.look opening.depot)
         (record { cluster = opening.cluster; root = opening.root; plan = opening.progress; next = opening.next.number }) }
     requires sources { TellsFiles K.start (S.files sources.now) (S.is_there sources.now) }
     requires size { asked.now.part_size ≡ K.start.part_size }
     requires sized { (1 ≤ asked.now.part_size) × (asked.now.part_size ≤ 2 ^ 30) }
     requires good { first_bad asked.now.script ≡ None }
-    ensures legal { LegalRun K.start K.clock (D.look result.depot) result.history }
-    ensures past { IsPast K.start K.clock K.past (D.look result.depot) result.history }
-    ensures told { IsTold result.verdict.status result.verdict.text (Some (Carried asked.now.script result.history)) }
+    ensures legal { LegalRun K.start K.clock (D.look result.0.depot) result.0.history }
+    ensures past { IsPast K.start K.clock K.past (D.look result.0.depot) result.0.history }
+    ensures shown { AreShown (record { stage = D.Stage.faults; fetch = D.Fetch.faults; shard = S.Shard.faults; target = T.Target.faults; made_for = λ h. (S.Shard.origin h).address })
+        K.start (log_of (D.look result.0.depot) K.clock result.0.history) result.1 }
+    ensures told { IsTold result.0.verdict.status result.0.verdict.text (Some (Carried asked.now.script result.0.history)) }
 {
     let repo = Repo::<D, K>::from_opening(alloc, opening);
-    let (repo, carried) = carry_on(alloc, repo, asked, sources, gate, moment);
+    let (repo, faults, carried) =
+        carry_on::<D, S, T, G, K>(alloc, repo, asked, sources, gate, moment);
     let (depot, history) = repo.into_parts();
     let verdict = verdict_after(alloc, carried, &asked.script, &history);
-    Done {
+    let done = Done {
         verdict,
         depot,
         history,
-    }
+    };
+    (done, faults)
 }
 
 /// Opens the container, and carries out the script on it.
@@ -125,17 +137,16 @@ fn open_and_carry<D: Depot, S: Sources, T: Targets, G: Gate>(
     requires room { vec_len room < vec_capacity room }
     requires sized { (1 ≤ asked.now.part_size) × (asked.now.part_size ≤ 2 ^ 30) }
     requires good { first_bad asked.now.script ≡ None }
-    ensures run { IsUnopened D.Fetch.faults (S.files sources.now) (D.look depot) (D.look result.0.depot) (D.faults depot) (D.faults result.0.depot) result.0.history result.1
-        ⊎ IsOpenedRun (S.files sources.now) asked.now.part_size (D.look depot) (D.look result.0.depot) result.0.history result.1 }
+    ensures run { IsUnopened (record { stage = D.Stage.faults; fetch = D.Fetch.faults; shard = S.Shard.faults; target = T.Target.faults; made_for = λ h. (S.Shard.origin h).address }) (S.files sources.now) (D.look depot) (D.look result.0.depot) (D.faults depot) (D.faults result.0.depot) result.0.history result.1
+        ⊎ IsOpenedRun (record { stage = D.Stage.faults; fetch = D.Fetch.faults; shard = S.Shard.faults; target = T.Target.faults; made_for = λ h. (S.Shard.origin h).address }) (S.files sources.now) asked.now.part_size (D.look depot) (D.look result.0.depot) result.0.history result.1 }
     ensures told { IsVerdict result.0.verdict.status result.0.verdict.text
-        (IsOpenCause D.Fetch.faults (S.files sources.now) asked.now.part_size (D.look depot) (D.look result.0.depot) (D.faults depot) (D.faults result.0.depot) asked.now.script result.0.history result.1) }
+        (IsOpenCause (record { stage = D.Stage.faults; fetch = D.Fetch.faults; shard = S.Shard.faults; target = T.Target.faults; made_for = λ h. (S.Shard.origin h).address }) (S.files sources.now) asked.now.part_size (D.look depot) (D.look result.0.depot) (D.faults depot) (D.faults result.0.depot) asked.now.script result.0.history result.1) }
 {
     laws();
     match open_container(alloc, depot) {
         Ok(opening) => {
             only_now(&opening.depot);
-            let done = run_told::<D, S, G, Brand>(alloc, opening, asked, sources, gate, moment);
-            (done, faults_of(room, None))
+            run_told::<D, S, T, G, Brand>(alloc, opening, asked, sources, gate, moment)
         }
         Err((depot, refusal)) => {
             let (stop, fetch) = stop_of(refusal);
@@ -154,10 +165,10 @@ fn carry_out<D: Depot, S: Sources, T: Targets, G: Gate, I: Lines>(
     gate: &G,
     moment: u64,
 ) -> (Done<D>, Faults<D::Stage, D::Fetch, S::Shard, T::Target>)
-    ensures run { IsRunOf D.Fetch.faults (record { words = words.now; script = I.left script.old; faults = I.faults script.old }) (S.files sources.now)
+    ensures run { IsRunOf (record { stage = D.Stage.faults; fetch = D.Fetch.faults; shard = S.Shard.faults; target = T.Target.faults; made_for = λ h. (S.Shard.origin h).address }) (record { words = words.now; script = I.left script.old; faults = I.faults script.old }) (S.files sources.now)
         (D.look depot) (D.look result.0.depot) (D.faults depot) (D.faults result.0.depot) result.0.history result.1 }
     ensures told { IsVerdict result.0.verdict.status result.0.verdict.text
-        (IsCauseOf D.Fetch.faults (record { words = words.now; script = I.left script.old; faults = I.faults script.old }) (S.files sources.now) (I.faults script.new)
+        (IsCauseOf (record { stage = D.Stage.faults; fetch = D.Fetch.faults; shard = S.Shard.faults; target = T.Target.faults; made_for = λ h. (S.Shard.origin h).address }) (record { words = words.now; script = I.left script.old; faults = I.faults script.old }) (S.files sources.now) (I.faults script.new)
         (D.look depot) (D.look result.0.depot) (D.faults depot) (D.faults result.0.depot) result.0.history result.1) }
     ensures reader { IsReadFor (wanted_of (job_of words.now)) (I.left script.old) (I.left script.new) (I.faults script.old) (I.faults script.new) }
 {
@@ -187,10 +198,10 @@ pub fn run<D: Depot, S: Sources, T: Targets, G: Gate, I: Lines, O: Out>(
     moment: u64,
     out: &mut O,
 ) -> Ended<D, S::Shard, T::Target>
-    ensures legal { IsRunOf D.Fetch.faults (record { words = words.now; script = I.left script.old; faults = I.faults script.old }) (S.files sources.now)
+    ensures legal { IsRunOf (record { stage = D.Stage.faults; fetch = D.Fetch.faults; shard = S.Shard.faults; target = T.Target.faults; made_for = λ h. (S.Shard.origin h).address }) (record { words = words.now; script = I.left script.old; faults = I.faults script.old }) (S.files sources.now)
         (D.look depot) (D.look result.depot) (D.faults depot) (D.faults result.depot) result.history result.faults }
     ensures end { IsEndOf result.status (O.contents out.old) (O.contents out.new) (O.faults out.old) (O.faults out.new)
-        (IsCauseOf D.Fetch.faults (record { words = words.now; script = I.left script.old; faults = I.faults script.old }) (S.files sources.now) (I.faults script.new)
+        (IsCauseOf (record { stage = D.Stage.faults; fetch = D.Fetch.faults; shard = S.Shard.faults; target = T.Target.faults; made_for = λ h. (S.Shard.origin h).address }) (record { words = words.now; script = I.left script.old; faults = I.faults script.old }) (S.files sources.now) (I.faults script.new)
         (D.look depot) (D.look result.depot) (D.faults depot) (D.faults result.depot) result.history result.faults) }
     ensures reader { IsReadFor (wanted_of (job_of words.now)) (I.left script.old) (I.left script.new) (I.faults script.old) (I.faults script.new) }
     ensures targets { result.targets ≡ [] }

@@ -2,7 +2,7 @@
 use crate::setting::{RECORD, ROOT, SCRIPT, has_record, holds, run_on};
 use esr_depot::{CallError, Counted, Depot, Stage};
 use esr_memdepot::{Call, Failing, Leaves, MemDepot, Plan};
-use esr_run::{FailedObject, Fault};
+use esr_desk::{FailedObject, Fault};
 use esr_seq::Seq;
 use std::alloc::Global;
 use std::test::Fail;

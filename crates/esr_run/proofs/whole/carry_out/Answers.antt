@@ -10,7 +10,7 @@ returns-in-Err-clause-run g c = inl (untouched (g.S.Sources.files c.args.sources
 pub returns-in-Err-clause-told : goal.returns-in-Err-clause-told
 returns-in-Err-clause-told g c =
     let given : Given = record { words = c.args.words.now; script = g.I.Lines.left c.args.script.now; faults = g.I.Counted.faults c.args.script.now } in
-    verdict_stopped c.ended_at.result.verdict.status c.ended_at.result.verdict.text g.D.Fetch.Counted.faults given (g.S.Sources.files c.args.sources.now) (g.I.Counted.faults c.asked_for.new.script) (g.D.Depot.look c.args.depot) (g.D.Depot.look c.ended_at.result.depot)
+    verdict_stopped c.ended_at.result.verdict.status c.ended_at.result.verdict.text (record { stage = g.D.Stage.Counted.faults; fetch = g.D.Fetch.Counted.faults; shard = g.S.Shard.Counted.faults; target = g.T.Target.Counted.faults; made_for = λ h. (g.S.Shard.Shard.origin h).address }) given (g.S.Sources.files c.args.sources.now) (g.I.Counted.faults c.asked_for.new.script) (g.D.Depot.look c.args.depot) (g.D.Depot.look c.ended_at.result.depot)
     (g.D.Counted.faults c.args.depot) (g.D.Counted.faults c.ended_at.result.depot) c.ended_at.result.history c.new.result (end_of c.in-Err.stop) c.ended_at.ensures.told c.in-Err.ensures.err
     (untouched (g.S.Sources.files c.args.sources.now) (g.D.Depot.look c.args.depot) (g.D.Depot.look c.ended_at.result.depot) c.ended_at.result.history c.new.result (ap g.D.Depot.look c.ended_at.ensures.depot) c.only_now.ensures c.ended_at.ensures.history c.new.ensures)
 
@@ -20,6 +20,6 @@ returns-clause-run g c = inl (untouched (g.S.Sources.files c.args.sources.now) (
 pub returns-in-Ok-room_for_one-clause-told : goal.returns-in-Ok-room_for_one-clause-told
 returns-in-Ok-room_for_one-clause-told g c =
     let given : Given = record { words = c.args.words.now; script = g.I.Lines.left c.args.script.now; faults = g.I.Counted.faults c.args.script.now } in
-    verdict_opened c.open_and_carry.result.0.verdict.status c.open_and_carry.result.0.verdict.text g.D.Fetch.Counted.faults given (g.S.Sources.files c.args.sources.now) (g.I.Counted.faults c.asked_for.new.script) c.in-Ok.asked.part_size
+    verdict_opened c.open_and_carry.result.0.verdict.status c.open_and_carry.result.0.verdict.text (record { stage = g.D.Stage.Counted.faults; fetch = g.D.Fetch.Counted.faults; shard = g.S.Shard.Counted.faults; target = g.T.Target.Counted.faults; made_for = λ h. (g.S.Shard.Shard.origin h).address }) given (g.S.Sources.files c.args.sources.now) (g.I.Counted.faults c.asked_for.new.script) c.in-Ok.asked.part_size
     (g.D.Depot.look c.args.depot) (g.D.Depot.look c.open_and_carry.result.0.depot) (g.D.Counted.faults c.args.depot) (g.D.Counted.faults c.open_and_carry.result.0.depot) c.in-Ok.asked.script
     c.open_and_carry.result.0.history c.open_and_carry.result.1 c.in-Ok.ensures.size c.in-Ok.ensures.script c.open_and_carry.ensures.told

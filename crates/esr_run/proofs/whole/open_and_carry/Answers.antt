@@ -9,41 +9,41 @@ use Rattle.esr_run.proofs.Worlds.{begun_world, begins}
 use Rattle.esr_run.proofs.Ending.{tells_files, refused_at, unopened, opened_run, verdict_opening, verdict_refused}
 use Rattle.esr_run.proofs.whole.open_and_carry.Goals as goal
 
-pub run_told-done-requires-clause-begun : goal.run_told-done-requires-clause-begun
-run_told-done-requires-clause-begun g c κs within =
+pub run_told-requires-clause-begun : goal.run_told-requires-clause-begun
+run_told-requires-clause-begun g c κs within =
     let k : Kept = record { cluster = c.in-Ok.opening.cluster; root = c.in-Ok.opening.root; plan = c.in-Ok.opening.progress; next = c.in-Ok.opening.next.number } in
     begins (g.S.Sources.files c.args.sources.now) c.args.asked.now.part_size (g.D.Depot.look c.args.depot) (g.D.Depot.look c.in-Ok.opening.depot) k c.in-Ok.ensures.opened c.only_now.ensures
 
-pub run_told-done-requires-clause-sources : goal.run_told-done-requires-clause-sources
-run_told-done-requires-clause-sources g c κs within =
+pub run_told-requires-clause-sources : goal.run_told-requires-clause-sources
+run_told-requires-clause-sources g c κs within =
     tells_files (g.S.Sources.files c.args.sources.now) c.args.asked.now.part_size (g.D.Depot.look c.in-Ok.opening.depot) (begun_world (now (g.D.Depot.look c.in-Ok.opening.depot)) (cluster_of c.in-Ok.opening.cluster) (root_of c.in-Ok.opening.root)) (g.S.Sources.is_there c.args.sources.now)
 
 pub returns-in-Ok-clause-run : goal.returns-in-Ok-clause-run
 returns-in-Ok-clause-run g c =
     let k : Kept = record { cluster = c.in-Ok.opening.cluster; root = c.in-Ok.opening.root; plan = c.in-Ok.opening.progress; next = c.in-Ok.opening.next.number } in
-    inr (opened_run c.laws.ensures (g.S.Sources.files c.args.sources.now) c.args.asked.now.part_size (g.D.Depot.look c.args.depot) (g.D.Depot.look c.in-Ok.opening.depot) (g.D.Depot.look c.run_told-done.result.depot) k c.run_told-done.result.history c.faults_of.result
-    c.in-Ok.ensures.opened c.run_told-done.ensures.legal c.run_told-done.ensures.past c.faults_of.ensures)
+    inr (opened_run c.laws.ensures _ (g.S.Sources.files c.args.sources.now) c.args.asked.now.part_size (g.D.Depot.look c.args.depot) (g.D.Depot.look c.in-Ok.opening.depot) (g.D.Depot.look c.run_told.result.0.depot) k c.run_told.result.0.history c.run_told.result.1
+    c.in-Ok.ensures.opened c.run_told.ensures.legal c.run_told.ensures.past c.run_told.ensures.shown)
 
 pub returns-in-Ok-clause-told : goal.returns-in-Ok-clause-told
 returns-in-Ok-clause-told g c =
     let k : Kept = record { cluster = c.in-Ok.opening.cluster; root = c.in-Ok.opening.root; plan = c.in-Ok.opening.progress; next = c.in-Ok.opening.next.number } in
-    verdict_opening c.run_told-done.result.verdict.status c.run_told-done.result.verdict.text g.D.Fetch.Counted.faults (g.S.Sources.files c.args.sources.now) c.args.asked.now.part_size (g.D.Depot.look c.args.depot) (g.D.Depot.look c.run_told-done.result.depot) (g.D.Counted.faults c.args.depot) (g.D.Counted.faults c.run_told-done.result.depot)
-    c.args.asked.now.script c.run_told-done.result.history c.faults_of.result c.run_told-done.ensures.told
-    (opened_run c.laws.ensures (g.S.Sources.files c.args.sources.now) c.args.asked.now.part_size (g.D.Depot.look c.args.depot) (g.D.Depot.look c.in-Ok.opening.depot) (g.D.Depot.look c.run_told-done.result.depot) k c.run_told-done.result.history c.faults_of.result
-    c.in-Ok.ensures.opened c.run_told-done.ensures.legal c.run_told-done.ensures.past c.faults_of.ensures)
+    verdict_opening c.run_told.result.0.verdict.status c.run_told.result.0.verdict.text (record { stage = g.D.Stage.Counted.faults; fetch = g.D.Fetch.Counted.faults; shard = g.S.Shard.Counted.faults; target = g.T.Target.Counted.faults; made_for = λ h. (g.S.Shard.Shard.origin h).address }) (g.S.Sources.files c.args.sources.now) c.args.asked.now.part_size (g.D.Depot.look c.args.depot) (g.D.Depot.look c.run_told.result.0.depot) (g.D.Counted.faults c.args.depot) (g.D.Counted.faults c.run_told.result.0.depot)
+    c.args.asked.now.script c.run_told.result.0.history c.run_told.result.1 c.run_told.ensures.told
+    (opened_run c.laws.ensures _ (g.S.Sources.files c.args.sources.now) c.args.asked.now.part_size (g.D.Depot.look c.args.depot) (g.D.Depot.look c.in-Ok.opening.depot) (g.D.Depot.look c.run_told.result.0.depot) k c.run_told.result.0.history c.run_told.result.1
+    c.in-Ok.ensures.opened c.run_told.ensures.legal c.run_told.ensures.past c.run_told.ensures.shown)
 
 pub returns-in-Err-clause-run : goal.returns-in-Err-clause-run
 returns-in-Err-clause-run g c =
-    inl (unopened c.laws.ensures g.D.Fetch.Counted.faults (g.S.Sources.files c.args.sources.now) (g.D.Depot.look c.args.depot) (g.D.Depot.look c.ended_at.result.depot) (g.D.Counted.faults c.args.depot) (g.D.Counted.faults c.ended_at.result.depot) c.ended_at.result.history c.faults_of-in-Err.result c.in-Err.refusal
+    inl (unopened c.laws.ensures _ (g.S.Sources.files c.args.sources.now) (g.D.Depot.look c.args.depot) (g.D.Depot.look c.ended_at.result.depot) (g.D.Counted.faults c.args.depot) (g.D.Counted.faults c.ended_at.result.depot) c.ended_at.result.history c.faults_of.result c.in-Err.refusal
     (refused_at g.D.Fetch.Counted.faults (g.D.Depot.look c.args.depot) (g.D.Depot.look c.in-Err.depot) (g.D.Depot.look c.ended_at.result.depot) (g.D.Counted.faults c.args.depot) (g.D.Counted.faults c.in-Err.depot) (g.D.Counted.faults c.ended_at.result.depot) c.in-Err.refusal
     (ap g.D.Depot.look c.ended_at.ensures.depot) (ap g.D.Counted.faults c.ended_at.ensures.depot) c.in-Err.ensures.refused)
-    c.ended_at.ensures.history (c.faults_of-in-Err.ensures ∙ ap listed c.stop_of-stop.ensures.fetch))
+    c.ended_at.ensures.history (c.faults_of.ensures ∙ ap listed c.stop_of-stop.ensures.fetch))
 
 pub returns-in-Err-clause-told : goal.returns-in-Err-clause-told
 returns-in-Err-clause-told g c =
-    verdict_refused c.ended_at.result.verdict.status c.ended_at.result.verdict.text g.D.Fetch.Counted.faults (g.S.Sources.files c.args.sources.now) c.args.asked.now.part_size (g.D.Depot.look c.args.depot) (g.D.Depot.look c.ended_at.result.depot) (g.D.Counted.faults c.args.depot) (g.D.Counted.faults c.ended_at.result.depot)
-    c.args.asked.now.script c.ended_at.result.history c.faults_of-in-Err.result c.in-Err.refusal
+    verdict_refused c.ended_at.result.verdict.status c.ended_at.result.verdict.text (record { stage = g.D.Stage.Counted.faults; fetch = g.D.Fetch.Counted.faults; shard = g.S.Shard.Counted.faults; target = g.T.Target.Counted.faults; made_for = λ h. (g.S.Shard.Shard.origin h).address }) (g.S.Sources.files c.args.sources.now) c.args.asked.now.part_size (g.D.Depot.look c.args.depot) (g.D.Depot.look c.ended_at.result.depot) (g.D.Counted.faults c.args.depot) (g.D.Counted.faults c.ended_at.result.depot)
+    c.args.asked.now.script c.ended_at.result.history c.faults_of.result c.in-Err.refusal
     (subst (IsTold c.ended_at.result.verdict.status c.ended_at.result.verdict.text) c.stop_of-stop.ensures.stop c.ended_at.ensures.told)
     (refused_at g.D.Fetch.Counted.faults (g.D.Depot.look c.args.depot) (g.D.Depot.look c.in-Err.depot) (g.D.Depot.look c.ended_at.result.depot) (g.D.Counted.faults c.args.depot) (g.D.Counted.faults c.in-Err.depot) (g.D.Counted.faults c.ended_at.result.depot) c.in-Err.refusal
     (ap g.D.Depot.look c.ended_at.ensures.depot) (ap g.D.Counted.faults c.ended_at.ensures.depot) c.in-Err.ensures.refused)
-    c.ended_at.ensures.history (c.faults_of-in-Err.ensures ∙ ap listed c.stop_of-stop.ensures.fetch)
+    c.ended_at.ensures.history (c.faults_of.ensures ∙ ap listed c.stop_of-stop.ensures.fetch)
