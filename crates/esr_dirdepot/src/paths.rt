@@ -1,0 +1,71 @@
+//! Where the parts of a container stand in its folder.
+use crate::name::{LONGEST_NAME, is_inside};
+use esr_seq::Text;
+use std::alloc::{AllocError, Global};
+use std::io::{self, ErrorKind};
+
+/// The paths of a container in a folder. They are made once, so that no later call takes memory for a path.
+#[derive(Drop)]
+pub struct Paths {
+    /// The folder itself.
+    pub dir: Text,
+    /// The file whose lock says that a process uses the folder.
+    pub lock: Text,
+    /// The folder of blobs.
+    pub blobs: Text,
+    /// The folder of stages.
+    pub stages: Text,
+    /// The record.
+    pub record: Text,
+    /// The record's next text, until it is swapped in.
+    pub next_record: Text,
+    /// The path of the blob that was aimed at last.
+    aimed: String,
+}
+
+/// The folder's path with no slash at its end, so that it is that of an entry.
+fn trimmed(dir: &str) -> &str {
+    match dir.trim_end_matches('/') {
+        "" if dir.is_empty() => ".",
+        "" => "/",
+        path => path,
+    }
+}
+
+fn below(alloc: Global, dir: &str, entry: &str) -> Result<Text, AllocError> {
+    Ok(Text::from_string(format!(in alloc; "{dir}/{entry}")?))
+}
+
+impl Paths {
+    pub fn new(alloc: Global, dir: &str) -> Result<Paths, AllocError> {
+        let dir = trimmed(dir);
+        let blobs = below(alloc, dir, "blobs")?;
+        let longest = blobs.len().saturating_add(1 + LONGEST_NAME);
+        Ok(Paths {
+            dir: Text::from_str(alloc, dir)?,
+            lock: below(alloc, dir, "lock")?,
+            blobs,
+            stages: below(alloc, dir, "stage")?,
+            record: below(alloc, dir, "record")?,
+            next_record: below(alloc, dir, "stage/record")?,
+            aimed: String::with_capacity(alloc, longest)?,
+        })
+    }
+
+    /// Aims at the blob of that name, which has to stay inside the folder of blobs.
+    pub fn aim(&mut self, name: &str) -> io::Result<()> {
+        if !is_inside(name) {
+            return Err(ErrorKind::InvalidInput.into());
+        }
+        self.aimed.clear();
+        self.aimed.push_str(self.blobs.as_str())?;
+        self.aimed.push_str("/")?;
+        self.aimed.push_str(name)?;
+        Ok(())
+    }
+
+    /// The path of the blob that was aimed at last.
+    pub fn aimed(&self) -> &str {
+        self.aimed.as_str()
+    }
+}
