@@ -49,7 +49,7 @@ impl<'a, R> DirDepot<'a, R> {
         ensures faults { self.new.faults ≡ up self.old.faults }
         ensures more { self.old.faults ≤ self.new.faults }
     {
-        self.clock = self.clock.saturating_add(1);
+        self.pass();
         self.faults = self.faults.saturating_add(1);
     }
 }

@@ -161,13 +161,13 @@ impl<'a, R: Files<File = File> + Eprint> Folder<'a, R> {
         self.make()?;
         stage.sync()?;
         let start = self.paths.blobs.len().saturating_add(1);
-        make_way(self.files, self.paths.aimed(), start)
+        make_way(self.files, self.paths.aimed.as_str(), start)
     }
 
     /// Gives a stage's file that name, unless a blob has it.
     pub fn commit(&mut self, stage: &StageFile, name: &str) -> io::Result<Commit> {
         self.prepare(stage, name)?;
-        let (from, to) = (stage.path.as_str(), self.paths.aimed());
+        let (from, to) = (stage.path.as_str(), self.paths.aimed.as_str());
         let answer = match fs::hard_link(self.files, from, to) {
             Ok(()) => Commit::Done,
             Err(error)
@@ -185,7 +185,7 @@ impl<'a, R: Files<File = File> + Eprint> Folder<'a, R> {
     /// Gives a stage's file that name, in place of the blob that has it.
     pub fn replace(&mut self, stage: &StageFile, name: &str) -> io::Result<()> {
         self.prepare(stage, name)?;
-        let to = self.paths.aimed();
+        let to = self.paths.aimed.as_str();
         fs::rename(self.files, stage.path.as_str(), to)?;
         sync_folder(self.files, parent_of(to))
     }
@@ -196,7 +196,7 @@ impl<'a, R: Files<File = File> + Eprint> Folder<'a, R> {
         if !self.find()? {
             return Ok(None);
         }
-        open_file(self.files, self.paths.aimed())
+        open_file(self.files, self.paths.aimed.as_str())
     }
 
     /// All blobs, in the byte order of their names.
@@ -219,7 +219,7 @@ impl<'a, R: Files<File = File> + Eprint> Folder<'a, R> {
         }
         for name in names {
             self.paths.aim(name.as_str())?;
-            remove_file(self.files, self.paths.aimed())?;
+            remove_file(self.files, self.paths.aimed.as_str())?;
         }
         self.sync_folders_of(names)
     }
@@ -231,7 +231,7 @@ impl<'a, R: Files<File = File> + Eprint> Folder<'a, R> {
             let folder = parent_of(name.as_str());
             if synced != Some(folder) {
                 self.paths.aim(name.as_str())?;
-                sync_if_there(self.files, parent_of(self.paths.aimed()))?;
+                sync_if_there(self.files, parent_of(self.paths.aimed.as_str()))?;
                 synced = Some(folder);
             }
         }

@@ -1,4 +1,6 @@
 //! Where the parts of a container stand in its folder.
+ghost use Rattle.std.specs.Prelude.{◌≡◌, ◌+◌, ◌≤◌, ◌↔◌, IsOk, IsTrue, OnOk, length, string_bytes, string_capacity};
+
 use crate::name::{LONGEST_NAME, is_inside};
 use esr_seq::Text;
 use std::alloc::{AllocError, Global};
@@ -19,8 +21,9 @@ pub struct Paths {
     pub record: Text,
     /// The record's next text, until it is swapped in.
     pub next_record: Text,
-    /// The path of the blob that was aimed at last.
-    aimed: String,
+    /// The path of the blob that was aimed at last. Its room is reserved.
+    pub aimed: String,
+    ghost reserved: { length blobs + 129 ≤ string_capacity aimed },
 }
 
 /// The folder's path with no slash at its end, so that it is that of an entry.
@@ -37,10 +40,12 @@ fn below(alloc: Global, dir: &str, entry: &str) -> Result<Text, AllocError> {
 }
 
 impl Paths {
+    ghost use Rattle.esr_dirdepot.specs.Names.{leads_inside, path_below};
+
     pub fn new(alloc: Global, dir: &str) -> Result<Paths, AllocError> {
         let dir = trimmed(dir);
         let blobs = below(alloc, dir, "blobs")?;
-        let longest = blobs.len().saturating_add(1 + LONGEST_NAME);
+        let longest = blobs.len().checked_add(1 + LONGEST_NAME).ok_or(AllocError)?;
         Ok(Paths {
             dir: Text::from_str(alloc, dir)?,
             lock: below(alloc, dir, "lock")?,
@@ -52,20 +57,18 @@ impl Paths {
         })
     }
 
-    /// Aims at the blob of that name, which has to stay inside the folder of blobs.
-    pub fn aim(&mut self, name: &str) -> io::Result<()> {
+    /// Aims at the blob of that name, which has to lead inside the folder of blobs. It takes no memory.
+    pub fn aim(&mut self, name: &str) -> io::Result<()>
+        ensures inside { IsOk result ↔ IsTrue (leads_inside name.now) }
+        ensures path { OnOk result (string_bytes self.new.aimed ≡ path_below self.new.blobs name.now) }
+    {
         if !is_inside(name) {
             return Err(ErrorKind::InvalidInput.into());
         }
         self.aimed.clear();
-        self.aimed.push_str(self.blobs.as_str())?;
-        self.aimed.push_str("/")?;
-        self.aimed.push_str(name)?;
+        self.aimed.push_str(self.blobs.as_str()).unwrap();
+        self.aimed.push_str("/").unwrap();
+        self.aimed.push_str(name).unwrap();
         Ok(())
-    }
-
-    /// The path of the blob that was aimed at last.
-    pub fn aimed(&self) -> &str {
-        self.aimed.as_str()
     }
 }
