@@ -20,10 +20,16 @@ pub fn sync_folder<R: Files<File = File>>(files: &R, path: &str) -> io::Result<(
 /// Makes a folder, with its entry on the disk, unless something has its name.
 pub fn make_folder<R: Files<File = File>>(files: &R, path: &str) -> io::Result<()> {
     match fs::create_dir(files, path) {
-        Ok(()) => sync_folder(files, parent_of(path)),
-        Err(error) if error.kind() == ErrorKind::AlreadyExists => Ok(()),
-        Err(error) => Err(error),
+        Ok(()) => {}
+        Err(error) if error.kind() == ErrorKind::AlreadyExists => return Ok(()),
+        Err(error) => return Err(error),
     }
+    let synced = sync_folder(files, parent_of(path));
+    if synced.is_err() {
+        // Another call is to make it again, and then to sync it.
+        let _ = fs::remove_dir(files, path);
+    }
+    synced
 }
 
 /// Makes the absent folders on the way to an entry, beginning with the one that ends at `start` bytes of its path.

@@ -254,12 +254,13 @@ impl<'a, R: Files<File = File> + Eprint> Folder<'a, R> {
     /// Puts a text in place of the record's.
     pub fn swap_record(&mut self, text: &[u8]) -> io::Result<()> {
         self.make()?;
-        let next = self.paths.next_record.as_str();
-        let mut file = File::create(self.files, next)?;
+        let (files, paths) = (self.files, &self.paths);
+        let next = paths.next_record.as_str();
+        let mut file = File::create(files, next)?;
         file.write_all(text)?;
         file.sync_all()?;
-        fs::rename(self.files, next, self.paths.record.as_str())?;
-        sync_folder(self.files, self.paths.dir.as_str())
+        fs::rename(files, next, paths.record.as_str())?;
+        sync_folder(files, paths.dir.as_str())
     }
 }
 
