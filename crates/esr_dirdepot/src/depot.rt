@@ -21,9 +21,14 @@ pub struct DirDepot<'a, R> {
     faults: u64,
 }
 
-impl<'a, R: Files<File = File> + Eprint> DirDepot<'a, R> {
+impl<'a, R: Files<File = File> + Eprint + Drop> DirDepot<'a, R> {
+    ghost use Rattle.std.specs.Prelude.{IfOk};
+
     /// The container in that folder. Nothing on the disk is looked at, or made.
-    pub fn new(rt: &'a R, alloc: Global, dir: &str) -> Result<DirDepot<'a, R>, AllocError> {
+    pub fn new(rt: &'a R, alloc: Global, dir: &str) -> Result<DirDepot<'a, R>, AllocError>
+        ensures look { IfOk result (λ d. ⟦<DirDepot<'a, R> as Depot>⟧.look d ≡ untold 0) }
+        ensures count { IfOk result (λ d. ⟦<DirDepot<'a, R> as Counted>⟧.faults d ≡ 0) }
+    {
         Ok(DirDepot {
             folder: Folder::new(rt, alloc, dir)?,
             clock: 0,

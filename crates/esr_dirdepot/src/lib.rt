@@ -16,4 +16,6 @@ pub use fetch::DirFetch;
 pub use stage::DirStage;
 
 #[cfg(test)]
+mod failing;
+#[cfg(test)]
 mod tests;

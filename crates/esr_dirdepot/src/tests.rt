@@ -1,13 +1,13 @@
 //! On a folder of the disk: what each call answers, whom the lock keeps out, and what a failed write leaves.
 use crate::stage::{DirStage, StageFile};
-use crate::{DirDepot, DirFetch};
+use crate::DirDepot;
+use crate::failing::Failing;
 use esr_depot::{CallError, Counted, Depot, Fetch, Stage};
 use esr_seq::{Seq, Text};
 use std::alloc::Global;
+use std::cell::Cell;
 use std::fs::{self, OpenOptions};
 use std::test::Fail;
-
-type Tried<'a> = DirDepot<'a, HostRuntime>;
 
 /// A call of the suite.
 #[derive(Clone, Copy, Debug)]
@@ -22,9 +22,9 @@ enum Call {
 }
 
 /// Writes a blob in one piece, and commits it or puts it in place of the one that has its name.
-fn put(
+fn put<D: Depot>(
     alloc: Global,
-    depot: &mut Tried<'_>,
+    depot: &mut D,
     name: &str,
     text: &str,
     is_commit: bool,
@@ -39,14 +39,14 @@ fn put(
     Ok(String::from_str(alloc, "ok")?)
 }
 
-fn fetch(alloc: Global, depot: &mut Tried<'_>, name: &str) -> Result<String, CallError> {
+fn fetch<D: Depot>(alloc: Global, depot: &mut D, name: &str) -> Result<String, CallError> {
     match depot.fetch(alloc, name)? {
         Some(fetch) => read_all(alloc, fetch),
         None => Ok(String::from_str(alloc, "none")?),
     }
 }
 
-fn read_all(alloc: Global, mut fetch: DirFetch) -> Result<String, CallError> {
+fn read_all<F: Fetch>(alloc: Global, mut fetch: F) -> Result<String, CallError> {
     let mut text = String::new(alloc);
     let mut buf = [0u8; 3];
     for _ in 0..10 {
@@ -57,7 +57,7 @@ fn read_all(alloc: Global, mut fetch: DirFetch) -> Result<String, CallError> {
 }
 
 /// The names, each with its length.
-fn list(alloc: Global, depot: &mut Tried<'_>) -> Result<String, CallError> {
+fn list<D: Depot>(alloc: Global, depot: &mut D) -> Result<String, CallError> {
     let listing = depot.list(alloc)?;
     let mut text = String::new(alloc);
     for listed in listing.as_slice() {
@@ -67,7 +67,7 @@ fn list(alloc: Global, depot: &mut Tried<'_>) -> Result<String, CallError> {
     Ok(text)
 }
 
-fn remove(alloc: Global, depot: &mut Tried<'_>, name: &str) -> Result<String, CallError> {
+fn remove<D: Depot>(alloc: Global, depot: &mut D, name: &str) -> Result<String, CallError> {
     let names = Seq::from_vec(vec![in alloc; Text::from_str(alloc, name)?]?);
     if names.len() <= 1000 {
         depot.remove(&names)?;
@@ -75,22 +75,22 @@ fn remove(alloc: Global, depot: &mut Tried<'_>, name: &str) -> Result<String, Ca
     Ok(String::from_str(alloc, "ok")?)
 }
 
-fn record(alloc: Global, depot: &mut Tried<'_>) -> Result<String, CallError> {
+fn record<D: Depot>(alloc: Global, depot: &mut D) -> Result<String, CallError> {
     match depot.read_record(alloc)? {
         Some(text) => Ok(String::from_utf8_lossy(alloc, text.as_slice())?),
         None => Ok(String::from_str(alloc, "none")?),
     }
 }
 
-fn swap(alloc: Global, depot: &mut Tried<'_>, text: &str) -> Result<String, CallError> {
+fn swap<D: Depot>(alloc: Global, depot: &mut D, text: &str) -> Result<String, CallError> {
     depot.swap_record(alloc, text.as_bytes())?;
     Ok(String::from_str(alloc, "ok")?)
 }
 
 /// What a call answers, as a text.
-fn answer(
+fn answer<D: Depot>(
     alloc: Global,
-    depot: &mut Tried<'_>,
+    depot: &mut D,
     step: (Call, &str, &str),
 ) -> Result<String, CallError> {
     let (call, name, text) = step;
@@ -181,6 +181,54 @@ fn one_process_has_the_folder(rt: HostRuntime) -> Result<(), Fail> {
     assert_eq!(rt; record(alloc, &mut third)?.as_str(), "term 1");
     assert_eq!(rt; put(alloc, &mut third, "a", "A", true)?.as_str(), "Done");
     assert!(rt; !fs::exists(&rt, "esr_dirdepot_lock/stage/0")?);
+    fs::remove_dir_all(&rt, dir)?;
+    Ok(())
+}
+
+/// A run of calls, and how many of them fail.
+fn failures<D: Depot>(alloc: Global, depot: &mut D) -> Result<u64, CallError> {
+    let mut failed = 0u64;
+    for step in [
+        (Call::Record, "", ""),
+        (Call::Swap, "", "term"),
+        (Call::Commit, "a/b", "one"),
+        (Call::Commit, "a/b", "two"),
+        (Call::Replace, "index.latest", "1"),
+        (Call::Fetch, "index.latest", ""),
+        (Call::List, "", ""),
+        (Call::Record, "", ""),
+        (Call::Remove, "a/b", ""),
+    ] {
+        if answer(alloc, depot, step)?.as_str() == "failed" {
+            failed = failed.saturating_add(1);
+        }
+    }
+    Ok(failed)
+}
+
+#[test]
+fn each_failure_of_the_file_system_fails_one_call(rt: HostRuntime) -> Result<(), Fail> {
+    let (alloc, dir) = (rt.alloc(), "esr_dirdepot_failing");
+    let mut most = 0;
+    for nth in 0..1000 {
+        let _ = fs::remove_dir_all(&rt, dir);
+        let files = Failing {
+            rt: rt.clone()?,
+            left: Cell::new(nth),
+        };
+        let mut depot = DirDepot::new(&files, alloc, dir)?;
+        let failed = failures(alloc, &mut depot)?;
+        assert_eq!(rt; depot.fault_count(), failed);
+        if failed == 0 {
+            break;
+        }
+        assert_eq!(rt; failed, 1, "at call {nth}");
+        assert_eq!(rt; failures(alloc, &mut depot)?, 0, "after call {nth}");
+        assert_eq!(rt; list(alloc, &mut depot)?.as_str(), "index.latest:1 ");
+        assert_eq!(rt; record(alloc, &mut depot)?.as_str(), "term");
+        most = nth;
+    }
+    assert!(rt; 20 < most && most < 999, "{most}");
     fs::remove_dir_all(&rt, dir)?;
     Ok(())
 }
