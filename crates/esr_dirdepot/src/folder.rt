@@ -158,7 +158,9 @@ impl<'a, R: Files<File = File> + Eprint> Folder<'a, R> {
     /// Syncs a stage, and makes the folders on the way to the blob of that name.
     fn prepare(&mut self, stage: &StageFile, name: &str) -> io::Result<()> {
         self.paths.aim(name)?;
-        self.make()?;
+        if !self.find()? {
+            return Err(ErrorKind::NotFound.into());
+        }
         stage.sync()?;
         let start = self.paths.blobs.len().saturating_add(1);
         make_way(self.files, self.paths.aimed.as_str(), start)

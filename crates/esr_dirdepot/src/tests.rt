@@ -238,12 +238,14 @@ fn a_stage_that_failed_is_never_committed(rt: HostRuntime) -> Result<(), Fail> {
     let (alloc, dir) = (rt.alloc(), "esr_dirdepot_broken");
     let _ = fs::remove_dir_all(&rt, dir);
     let mut depot = DirDepot::new(&rt, alloc, dir)?;
+    assert_eq!(rt; put(alloc, &mut depot, "b", "B", true)?.as_str(), "Done");
+    fs::write(&rt, "esr_dirdepot_broken/stage/9", "ab")?;
     let mut stage = DirStage {
         name: Text::from_str(alloc, "a")?,
         room: 8,
         faults: 0,
         to: StageFile {
-            path: Text::from_str(alloc, "esr_dirdepot_broken/stage/0")?,
+            path: Text::from_str(alloc, "esr_dirdepot_broken/stage/9")?,
             file: OpenOptions::new().write(true).open(&rt, "/dev/full")?,
             is_broken: false,
         },
@@ -252,7 +254,7 @@ fn a_stage_that_failed_is_never_committed(rt: HostRuntime) -> Result<(), Fail> {
     assert_eq!(rt; (stage.fault_count(), stage.room), (1, 8));
     assert!(rt; stage.write(b"").is_err());
     assert!(rt; matches!(depot.commit(alloc, stage), Err(CallError::Failed)));
-    assert_eq!(rt; list(alloc, &mut depot)?.as_str(), "");
+    assert_eq!(rt; list(alloc, &mut depot)?.as_str(), "b:1 ");
     fs::remove_dir_all(&rt, dir)?;
     Ok(())
 }
