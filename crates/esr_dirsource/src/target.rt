@@ -1,0 +1,185 @@
+//! Targets in folders.
+ghost use Rattle.std.specs.Prelude.{◌≡◌, None, true, false, option_map, IfOk};
+ghost use Rattle.esr_dirsource.specs.Paths.{target_folder};
+
+use crate::begun::BegunFile;
+use crate::faults::Faults;
+use crate::folder;
+use crate::paths::{Folders, file_name, is_folder_name, path_in};
+use esr_depot::{CallError, Counted, Failed};
+use esr_seq::Text;
+use esr_source::{Address, Target, Targets};
+use std::alloc::{AllocError, Global};
+use std::fs::OpenOptions;
+use std::io::{self, ErrorKind};
+use std::rt::Files;
+
+/// Targets in folders: the files of a shard are written to the folder `PLACE/INDEX/S`, where `S` is its number.
+#[derive(Drop)]
+pub struct DirTargets<'a, R> {
+    rt: &'a R,
+}
+
+impl<'a, R> DirTargets<'a, R> {
+    /// Targets in the folders of `rt`, none of which is touched yet.
+    pub fn new(rt: &'a R) -> DirTargets<'a, R> {
+        DirTargets { rt }
+    }
+}
+
+/// The files of one shard, as they are being written.
+#[derive(Drop)]
+pub struct DirTarget<'a, R: Files> {
+    rt: &'a R,
+    address: Address,
+    folders: Folders,
+    is_made: bool,
+    begun: Option<BegunFile<R::File>>,
+    faults: Faults,
+    ghost in_place: { folders.shard ≡ target_folder address.place address.index address.number },
+}
+
+impl<'a, R: Files> DirTarget<'a, R> {
+    /// Makes the folder of the shard where it is absent, and makes its name and those of the folders above it outlast a
+    /// power cut.
+    fn make_folders(&self) -> io::Result<()> {
+        let place = self.address.place.as_str();
+        let index = self.folders.index.as_str();
+        if folder::make(self.rt, place)? {
+            folder::sync(self.rt, self.folders.above.as_str())?;
+        }
+        folder::make_in(self.rt, place, index)?;
+        folder::make_in(self.rt, index, self.folders.shard.as_str())
+    }
+
+    /// Makes the folder of the shard, once, if the names of the address allow it.
+    fn prepare(&mut self) -> io::Result<()>
+        ensures address { self.new.address ≡ self.old.address }
+        ensures begun { self.new.begun ≡ self.old.begun }
+        ensures faults { self.new.faults ≡ self.old.faults }
+    {
+        if self.is_made {
+            return Ok(());
+        }
+        if self.address.place.is_empty() || !is_folder_name(self.address.index.as_str()) {
+            return Err(io::Error::from(ErrorKind::InvalidFilename));
+        }
+        self.make_folders()?;
+        self.is_made = true;
+        Ok(())
+    }
+
+    /// Makes a file of that name, whose path has none yet.
+    fn begin(&mut self, name: Text, path: &str, room: u64) -> io::Result<BegunFile<R::File>>
+        ensures name { IfOk result (λ b. b.name ≡ name) }
+        ensures room { IfOk result (λ b. b.room ≡ room) }
+        ensures address { self.new.address ≡ self.old.address }
+        ensures begun { self.new.begun ≡ self.old.begun }
+        ensures faults { self.new.faults ≡ self.old.faults }
+    {
+        let Some(name) = file_name(name) else {
+            return Err(io::Error::from(ErrorKind::InvalidFilename));
+        };
+        self.prepare()?;
+        let file = OpenOptions::new()
+            .write(true)
+            .create_new(true)
+            .open(self.rt, path)?;
+        Ok(BegunFile::new(file, name, room))
+    }
+}
+
+impl<'a, R: Files> Counted for DirTarget<'a, R> {
+    ghost faults = { λ t. t.faults.count };
+
+    fn fault_count(&self) -> u64 {
+        self.faults.count
+    }
+}
+
+impl<'a, R: Files> Target for DirTarget<'a, R>
+where
+    R: Sync + Drop,
+    R::File: Send,
+{
+    ghost made_for = { λ t. t.address };
+
+    ghost files = { λ _. None };
+
+    ghost begun = { λ t. option_map (λ b. record { name = b.name; bytes = None; room = b.room }) t.begun };
+
+    ghost is_sure = { λ _. false };
+
+    fn create(&mut self, alloc: Global, name: &str, room: u64) -> Result<(), CallError> {
+        let name = Text::from_str(alloc, name)?;
+        let path = path_in(alloc, self.folders.shard.as_str(), name.as_str())?;
+        match self.begin(name, path.as_str(), room) {
+            Ok(begun) => {
+                self.begun = Some(begun);
+                Ok(())
+            }
+            Err(_) => {
+                self.faults.add();
+                Err(CallError::Failed)
+            }
+        }
+    }
+
+    fn write(&mut self, bytes: &[u8]) -> Result<(), Failed> {
+        let Some(begun) = &mut self.begun else {
+            unreachable!()
+        };
+        match begun.append(bytes) {
+            Ok(()) => Ok(()),
+            Err(_) => {
+                self.faults.add();
+                Err(Failed)
+            }
+        }
+    }
+
+    fn end(&mut self) -> Result<(), Failed> {
+        let Some(begun) = &mut self.begun else {
+            unreachable!()
+        };
+        match begun.finish(self.rt, self.folders.shard.as_str()) {
+            Ok(()) => {
+                self.begun = None;
+                Ok(())
+            }
+            Err(_) => {
+                self.faults.add();
+                Err(Failed)
+            }
+        }
+    }
+}
+
+impl<'a, R: Files> Targets for DirTargets<'a, R>
+where
+    R: Sync + Drop,
+    R::File: Send,
+{
+    type Target = DirTarget<'a, R>;
+
+    ghost is_told = { λ _. false };
+
+    ghost is_quiet = { λ _. false };
+
+    fn target(
+        &self,
+        alloc: Global,
+        place: &str,
+        index: &str,
+        number: u32,
+    ) -> Result<DirTarget<'a, R>, AllocError> {
+        Ok(DirTarget {
+            rt: self.rt,
+            address: Address::new(alloc, place, index, number)?,
+            folders: Folders::new(alloc, place, index, number)?,
+            is_made: false,
+            begun: None,
+            faults: Faults::new(),
+        })
+    }
+}
