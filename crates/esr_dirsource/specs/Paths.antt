@@ -1,7 +1,8 @@
 -- Where the files of shards lie.
-use Rattle.std.specs.Prelude.{ℕ, Bool, false, not, ◌==◌, ◌&&◌, List, ◌++◌, length, codes, decimal, if◌then◌else◌}
+use Rattle.std.specs.Prelude.{ℕ, Bool, false, not, ◌==◌, ◌&&◌, List, ◌++◌, length, slice_get, Option, Some, None, option_map, codes, decimal, if◌then◌else◌}
 use Rattle.std.specs.List.{list_all}
 use Rattle.esr_source.specs.Files.{is_dots}
+use Rattle.esr_source.specs.declared.files.ListedFile.{ListedFile}
 
 -- the path of what has this name in a folder
 abbrev pub path_in : List ℕ → List ℕ → List ℕ
@@ -14,6 +15,11 @@ source_folder place number = path_in place (decimal number)
 -- the folder of a shard's files where they are written
 abbrev pub target_folder : List ℕ → List ℕ → ℕ → List ℕ
 target_folder place index number = path_in (path_in place index) (decimal number)
+
+-- the path of the file at a place of a list
+abbrev pub file_path : List ℕ → Option (List ListedFile) → ℕ → Option (List ℕ)
+file_path folder None place = None
+file_path folder (Some files) place = option_map (λ f. path_in folder f.name) (slice_get files place)
 
 -- neither a slash nor NUL
 abbrev pub is_folder_byte : ℕ → Bool

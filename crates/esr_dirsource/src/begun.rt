@@ -1,6 +1,7 @@
 //! A file that is being written.
-ghost use Rattle.std.specs.Prelude.{◌≡◌, ◌+◌, ◌-◌, ◌^◌, ◌<◌, ◌≤◌, true, length, OnOk, OnErr};
+ghost use Rattle.std.specs.Prelude.{◌≡◌, ◌≢◌, ◌+◌, ◌-◌, ◌^◌, ◌<◌, ◌≤◌, true, length, OnOk, OnErr, IsErr};
 ghost use Rattle.esr_source.specs.Files.{is_file_name};
+ghost use Rattle.esr_dirsource.specs.declared.begun.State.TheVariants as State;
 
 use esr_seq::Text;
 use std::fs::{File, OpenFile};
@@ -36,6 +37,7 @@ impl<F> BegunFile<F> {
         requires { is_file_name name ≡ true }
         ensures name { result.name ≡ name }
         ensures room { result.room ≡ room }
+        ensures written { result.written ≡ 0 }
     {
         BegunFile {
             file,
@@ -51,9 +53,16 @@ impl<F: Write + Seek + OpenFile> BegunFile<F> {
     /// Appends the bytes, for which there is room, or fails and counts none of them.
     pub fn append(&mut self, bytes: &[u8]) -> io::Result<()>
         requires { length bytes.now ≤ self.old.room }
-        ensures ok { OnOk result (self.new.room ≡ self.old.room - length bytes.now) }
-        ensures err { OnErr result (self.new.room ≡ self.old.room) }
+        ensures room { OnOk result (self.new.room ≡ self.old.room - length bytes.now) }
+        ensures written { OnOk result (self.new.written ≡ self.old.written + length bytes.now) }
+        ensures room_kept { OnErr result (self.new.room ≡ self.old.room) }
+        ensures written_kept { OnErr result (self.new.written ≡ self.old.written) }
         ensures name { self.new.name ≡ self.old.name }
+
+        // What a failed write left is not taken for the bytes of the file, and a lost file stays lost.
+        ensures torn { OnErr result (self.new.state ≢ State.Whole) }
+        ensures lost { self.old.state ≡ State.Lost → IsErr result }
+        ensures stays_lost { self.old.state ≡ State.Lost → self.new.state ≡ State.Lost }
     {
         self.mend()?;
         self.state = State::Torn;
@@ -70,6 +79,10 @@ impl<F: Write + Seek + OpenFile> BegunFile<F> {
         ensures written { self.new.written ≡ self.old.written }
         ensures room { self.new.room ≡ self.old.room }
         ensures name { self.new.name ≡ self.old.name }
+        ensures whole { OnOk result (self.new.state ≡ State.Whole) }
+        ensures err { OnErr result (self.new.state ≡ self.old.state) }
+        ensures torn { OnErr result (self.new.state ≢ State.Whole) }
+        ensures lost { self.old.state ≡ State.Lost → IsErr result }
     {
         match self.state {
             State::Whole => return Ok(()),
@@ -85,7 +98,10 @@ impl<F: Write + Seek + OpenFile> BegunFile<F> {
     /// Syncs the file, and then its folder.
     pub fn finish<R: Files>(&mut self, rt: &R, folder: &str) -> io::Result<()>
         ensures room { self.new.room ≡ self.old.room }
+        ensures written { self.new.written ≡ self.old.written }
         ensures name { self.new.name ≡ self.old.name }
+        ensures lost { self.old.state ≡ State.Lost → IsErr result }
+        ensures stays_lost { self.old.state ≡ State.Lost → self.new.state ≡ State.Lost }
     {
         self.mend()?;
         let folder = File::open(rt, folder)?;

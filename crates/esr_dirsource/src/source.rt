@@ -1,7 +1,6 @@
 //! Sources in folders.
-ghost use Rattle.std.specs.Prelude.{◌≡◌, None, true, false, IfErr};
-ghost use Rattle.esr_depot.specs.Calls.{HasCause};
-ghost use Rattle.esr_dirsource.specs.Paths.{source_folder};
+ghost use Rattle.std.specs.Prelude.{◌≡◌, ◌<◌, None, Some, false, length, IfOk, IsSomeAnd};
+ghost use Rattle.esr_dirsource.specs.Paths.{source_folder, file_path};
 
 use crate::faults::Faults;
 use crate::folder::{copy_of, list, open_plain, read_some};
@@ -10,7 +9,7 @@ use esr_depot::{CallError, Counted, Failed};
 use esr_seq::Text;
 use esr_source::{Address, Files as FileList, Shard, Sources};
 use std::alloc::{AllocError, Global};
-use std::io::{self, ErrorKind};
+use std::io::ErrorKind;
 use std::rt::Files;
 
 /// Sources in folders: the files of a shard are those of the folder `PLACE/S`, where `S` is its number.
@@ -46,6 +45,23 @@ impl<'a, R: Files> Counted for DirShard<'a, R> {
     }
 }
 
+impl<'a, R: Files> DirShard<'a, R> {
+    /// The path of the file at that place of the last list, counted from 0.
+    fn path_of(&self, alloc: Global, file: usize) -> Result<Text, AllocError>
+        requires { IsSomeAnd self.now.listed (λ fs. file < length fs) }
+        ensures { IfOk result (λ path. Some path ≡ file_path self.now.folder self.now.listed file) }
+    {
+        let Some(files) = &self.listed else {
+            unreachable!()
+        };
+        path_in(
+            alloc,
+            self.folder.as_str(),
+            files.as_slice()[file].name.as_str(),
+        )
+    }
+}
+
 impl<'a, R: Files> Shard for DirShard<'a, R>
 where
     R: Sync + Drop,
@@ -71,11 +87,7 @@ where
     }
 
     fn start(&mut self, alloc: Global, file: usize) -> Result<(), CallError> {
-        let Some(files) = &self.listed else {
-            unreachable!()
-        };
-        let name = files.as_slice()[file].name.as_str();
-        let path = path_in(alloc, self.folder.as_str(), name)?;
+        let path = self.path_of(alloc, file)?;
         match open_plain(self.rt, path.as_str()) {
             Ok(started) => {
                 self.started = Some(started);

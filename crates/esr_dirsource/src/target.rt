@@ -1,6 +1,8 @@
 //! Targets in folders.
-ghost use Rattle.std.specs.Prelude.{◌≡◌, None, true, false, option_map, IfOk};
-ghost use Rattle.esr_dirsource.specs.Paths.{target_folder};
+ghost use Rattle.std.specs.Prelude.{◌≡◌, None, true, false, option_map, IfOk, IsTrue};
+ghost use Rattle.std.specs.Option.{ForSome};
+ghost use Rattle.std.specs.Fs.{asks_write, asks_create_new};
+ghost use Rattle.esr_dirsource.specs.Paths.{target_folder, path_in, is_folder_name};
 
 use crate::begun::BegunFile;
 use crate::faults::Faults;
@@ -37,6 +39,7 @@ pub struct DirTarget<'a, R: Files> {
     begun: Option<BegunFile<R::File>>,
     faults: Faults,
     ghost in_place: { folders.shard ≡ target_folder address.place address.index address.number },
+    ghost inside: { ForSome begun (λ _. is_folder_name address.index ≡ true) },
 }
 
 impl<'a, R: Files> DirTarget<'a, R> {
@@ -52,41 +55,56 @@ impl<'a, R: Files> DirTarget<'a, R> {
         folder::make_in(self.rt, index, self.folders.shard.as_str())
     }
 
-    /// Makes the folder of the shard, once, if the names of the address allow it.
+    /// Makes the folder of the shard, if it wasn't made yet.
     fn prepare(&mut self) -> io::Result<()>
         ensures address { self.new.address ≡ self.old.address }
         ensures begun { self.new.begun ≡ self.old.begun }
         ensures faults { self.new.faults ≡ self.old.faults }
     {
-        if self.is_made {
-            return Ok(());
+        if !self.is_made {
+            self.make_folders()?;
+            self.is_made = true;
         }
-        if self.address.place.is_empty() || !is_folder_name(self.address.index.as_str()) {
-            return Err(io::Error::from(ErrorKind::InvalidFilename));
-        }
-        self.make_folders()?;
-        self.is_made = true;
         Ok(())
     }
 
-    /// Makes a file of that name, whose path has none yet.
+    /// Whether the names of the address keep its folder in the place.
+    fn is_inside(&self) -> bool
+        ensures { IsTrue result → is_folder_name self.now.address.index ≡ true }
+    {
+        !self.address.place.is_empty() && is_folder_name(self.address.index.as_str())
+    }
+
+    /// Makes the file of that name, whose path has none yet.
     fn begin(&mut self, name: Text, path: &str, room: u64) -> io::Result<BegunFile<R::File>>
+        requires { path.now ≡ path_in self.old.folders.shard name }
+        ensures index { IfOk result (λ _. is_folder_name self.old.address.index ≡ true) }
         ensures name { IfOk result (λ b. b.name ≡ name) }
         ensures room { IfOk result (λ b. b.room ≡ room) }
         ensures address { self.new.address ≡ self.old.address }
         ensures begun { self.new.begun ≡ self.old.begun }
         ensures faults { self.new.faults ≡ self.old.faults }
     {
+        if !self.is_inside() {
+            return Err(io::Error::from(ErrorKind::InvalidFilename));
+        }
         let Some(name) = file_name(name) else {
             return Err(io::Error::from(ErrorKind::InvalidFilename));
         };
         self.prepare()?;
-        let file = OpenOptions::new()
-            .write(true)
-            .create_new(true)
-            .open(self.rt, path)?;
+        let file = new_file().open(self.rt, path)?;
         Ok(BegunFile::new(file, name, room))
     }
+}
+
+/// How a file is made: to be written, and only where its path has nothing yet.
+fn new_file() -> OpenOptions
+    ensures write { asks_write result ≡ true }
+    ensures new { asks_create_new result ≡ true }
+{
+    let mut options = OpenOptions::new();
+    options.write(true).create_new(true);
+    options
 }
 
 impl<'a, R: Files> Counted for DirTarget<'a, R> {
