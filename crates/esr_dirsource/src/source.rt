@@ -1,5 +1,6 @@
 //! Sources in folders.
 ghost use Rattle.std.specs.Prelude.{◌≡◌, ◌<◌, None, Some, false, length, IfOk, IsSomeAnd};
+ghost use Rattle.esr_source.specs.Files.{IsListing};
 ghost use Rattle.esr_dirsource.specs.Paths.{source_folder, file_path};
 
 use crate::faults::Faults;
@@ -9,7 +10,7 @@ use esr_depot::{CallError, Counted, Failed};
 use esr_seq::Text;
 use esr_source::{Address, Files as FileList, Shard, Sources};
 use std::alloc::{AllocError, Global};
-use std::io::ErrorKind;
+use std::io::{self, ErrorKind};
 use std::rt::Files;
 
 /// Sources in folders: the files of a shard are those of the folder `PLACE/S`, where `S` is its number.
@@ -46,6 +47,16 @@ impl<'a, R: Files> Counted for DirShard<'a, R> {
 }
 
 impl<'a, R: Files> DirShard<'a, R> {
+    /// The files of its folder. An empty place has none, since its folder would lie in the root.
+    fn files(&self, alloc: Global) -> io::Result<FileList>
+        ensures { IfOk result IsListing }
+    {
+        if self.address.place.is_empty() {
+            return Err(io::Error::from(ErrorKind::NotFound));
+        }
+        list(self.rt, alloc, self.folder.as_str())
+    }
+
     /// The path of the file at that place of the last list, counted from 0.
     fn path_of(&self, alloc: Global, file: usize) -> Result<Text, AllocError>
         requires { IsSomeAnd self.now.listed (λ fs. file < length fs) }
@@ -74,7 +85,7 @@ where
     ghost left = { λ _. None };
 
     fn list(&mut self, alloc: Global) -> Result<FileList, CallError> {
-        let files = match list(self.rt, alloc, self.folder.as_str()) {
+        let files = match self.files(alloc) {
             Ok(files) => files,
             Err(error) if error.kind() == ErrorKind::OutOfMemory => return Err(CallError::Memory),
             Err(_) => {
