@@ -1,0 +1,113 @@
+//! What a folder holds, and what is done to folders.
+ghost use Rattle.std.specs.Prelude.{◌≡◌, ◌++◌, drop, IfOk, length};
+ghost use Rattle.std.specs.Io.{ReadsAtMost};
+ghost use Rattle.esr_source.specs.Files.{IsListing};
+
+use esr_seq::{Seq, Text};
+use esr_source::{Files as FileList, ListedFile, is_listing};
+use std::alloc::{AllocError, Global};
+use std::fs::{self, DirEntry, File, OpenFile};
+use std::io::{self, ErrorKind, Read};
+use std::rt::Files;
+
+/// The files of a folder, in the byte order of their names. A folder fails that isn't there, that has anything but plain
+/// files, or whose files may not be listed.
+pub(crate) fn list<R: Files>(rt: &R, alloc: Global, folder: &str) -> io::Result<FileList>
+    ensures { IfOk result IsListing }
+{
+    let mut files = files_in(rt, alloc, folder)?;
+    files.sort_unstable_by(|a, b| a.name.cmp(&b.name));
+    if !is_listing(files.as_slice()) {
+        return Err(io::Error::from(ErrorKind::InvalidData));
+    }
+    Ok(Seq::from_vec(files))
+}
+
+/// The files of a folder, in any order.
+fn files_in<R: Files>(rt: &R, alloc: Global, folder: &str) -> io::Result<Vec<ListedFile>> {
+    let mut files = Vec::new(alloc);
+    for entry in fs::read_dir(&(rt, alloc), folder)? {
+        files.push(listed_file(alloc, &entry?)?)?;
+    }
+    Ok(files)
+}
+
+/// What is listed of an entry. One that isn't a plain file fails, a symbolic link too.
+fn listed_file<R: Files>(alloc: Global, entry: &DirEntry<R>) -> io::Result<ListedFile> {
+    let metadata = entry.metadata()?;
+    if !metadata.is_file() {
+        return Err(io::Error::from(ErrorKind::InvalidData));
+    }
+    Ok(ListedFile {
+        name: Text::from_str(alloc, entry.file_name())?,
+        length: metadata.len(),
+    })
+}
+
+/// A copy of the list.
+pub(crate) fn copy_of(alloc: Global, files: &[ListedFile]) -> Result<FileList, AllocError>
+    ensures { IfOk result (λ copy. copy ≡ files.now) }
+{
+    let mut copy = Seq::new(alloc);
+    for file in files {
+        copy.push(ListedFile {
+            name: file.name.try_clone(alloc)?,
+            length: file.length,
+        })?;
+    }
+    Ok(copy)
+}
+
+/// Opens a plain file for reading. Anything else fails, a symbolic link too.
+pub(crate) fn open_plain<R: Files>(rt: &R, path: &str) -> io::Result<R::File> {
+    if !fs::symlink_metadata(rt, path)?.is_file() {
+        return Err(io::Error::from(ErrorKind::InvalidInput));
+    }
+    File::open(rt, path)
+}
+
+/// Reads once, and again where a signal interrupted that.
+pub(crate) fn read_some<F: Read>(file: &mut F, buf: &mut [u8]) -> io::Result<usize>
+    ensures bound { ReadsAtMost result buf.new }
+    ensures length { length buf.new ≡ length buf.old }
+{
+    for _ in 0..u64::MAX {
+        match file.read(buf) {
+            Err(error) if error.kind() == ErrorKind::Interrupted => {}
+            answer => return answer,
+        }
+    }
+    Err(io::Error::from(ErrorKind::TimedOut))
+}
+
+/// Makes a folder where there is none, and answers whether it did.
+pub(crate) fn make<R: Files>(rt: &R, folder: &str) -> io::Result<bool> {
+    match fs::create_dir(rt, folder) {
+        Ok(()) => Ok(true),
+        Err(_) if is_folder(rt, folder) => Ok(false),
+        Err(error) => Err(error),
+    }
+}
+
+/// Whether there is such a folder, or a link to one.
+fn is_folder<R: Files>(rt: &R, path: &str) -> bool {
+    match fs::metadata(rt, path) {
+        Ok(metadata) => metadata.is_dir(),
+        Err(_) => false,
+    }
+}
+
+/// Makes a folder in another where there is none, and syncs the other, so that it outlasts a power cut. A symbolic link
+/// fails, since it could lead anywhere.
+pub(crate) fn make_in<R: Files>(rt: &R, parent: &str, folder: &str) -> io::Result<()> {
+    make(rt, folder)?;
+    if !fs::symlink_metadata(rt, folder)?.is_dir() {
+        return Err(io::Error::from(ErrorKind::NotADirectory));
+    }
+    sync(rt, parent)
+}
+
+/// Syncs the names that a folder holds.
+pub(crate) fn sync<R: Files>(rt: &R, folder: &str) -> io::Result<()> {
+    File::open(rt, folder)?.sync_all()
+}

@@ -1,0 +1,14 @@
+//! The files of shards in folders: sources that are read, and targets that are written.
+#![tactic(auto)]
+
+mod begun;
+mod faults;
+mod folder;
+mod paths;
+mod source;
+mod target;
+#[cfg(test)]
+mod tests;
+
+pub use source::{DirShard, DirSources};
+pub use target::{DirTarget, DirTargets};
