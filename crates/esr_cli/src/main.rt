@@ -1,12 +1,13 @@
-//! The program. For now its container is in memory, and so is the one shard that it knows: shard 0 of `logs` at `src`.
+//! The program: a repository in a folder, shards in folders, the script on standard input, the report on standard output.
 #![tactic(auto)]
 
-use esr_memdepot::MemDepot;
+use esr_dirdepot::DirDepot;
+use esr_dirsource::{DirSources, DirTargets};
 use esr_run::run;
-use esr_script::Words;
+use esr_script::{Words, repo_place};
 use esr_seq::{Seq, Text};
-use esr_source::{Address, MemFile, MemSource, MemSources, MemTargets, NoGate, StdLines, StdOut};
-use std::alloc::{AllocError, Global};
+use esr_source::{NoGate, StdLines, StdOut};
+use std::alloc::AllocError;
 use std::env;
 use std::process::ExitCode;
 use std::rt::Clock;
@@ -14,16 +15,6 @@ use std::time::{SystemTime, UNIX_EPOCH};
 
 /// The exit status where there is no memory.
 const WANTING: u8 = 8;
-
-/// The sources: one shard with one file.
-fn sources_of(alloc: Global) -> Result<MemSources, AllocError> {
-    let mut files = Seq::new(alloc);
-    files.push(MemFile::new(alloc, "_0.cfs", b"abc")?)?;
-    let address = Address::new(alloc, "src", "logs", 0)?;
-    let mut sources = Seq::new(alloc);
-    sources.push(MemSource { address, files })?;
-    Ok(MemSources::new(sources, Seq::new(alloc)))
-}
 
 /// The time in milliseconds since 1970, or 0 where the clock can't be read.
 fn moment_of(clock: &impl Clock) -> u64 {
@@ -48,18 +39,19 @@ fn words_of(rt: &HostRuntime) -> Result<Words, AllocError> {
     Ok(words)
 }
 
-/// Carries out the script on standard input, and answers the exit status.
+/// Carries out what the words ask for, and answers the exit status.
 fn status_of(rt: &HostRuntime) -> Result<u8, AllocError> {
     let alloc = rt.alloc();
     let words = words_of(rt)?;
-    let sources = sources_of(alloc)?;
+    let dir = repo_place(alloc, &words)?;
+    let depot = DirDepot::new(rt, alloc, dir.as_str())?;
     let ended = run(
         alloc,
         &words,
         &mut StdLines::new(rt.stdin()),
-        MemDepot::new(alloc, Seq::new(alloc)),
-        &sources,
-        &MemTargets::new(Seq::new(alloc)),
+        depot,
+        &DirSources::new(rt),
+        &DirTargets::new(rt),
         &NoGate,
         moment_of(rt),
         &mut StdOut::new(rt.stdout()),
