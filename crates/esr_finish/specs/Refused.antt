@@ -8,16 +8,22 @@ use Rattle.esr_desk.specs.declared.unit.UnitRefusal.TheVariants as units
 use Rattle.esr_desk.specs.Refusals.{told_refusal}
 use Rattle.esr_desk.specs.Start.{Start, formats_of, ticket_of}
 use Rattle.esr_desk.specs.Outcome.{Waited, Stepped, Refusing}
-use Rattle.esr_desk.specs.Last.{IsLast, WasRefused}
+use Rattle.esr_desk.specs.Last.{IsLast}
+use Rattle.esr_desk.specs.Shown.{is_of_latest}
 use Rattle.esr_finish.specs.declared.refusal.PutRefusal.{PutRefusal}
 use Rattle.esr_finish.specs.declared.refusal.PutRefusal.TheVariants as puts
 use Rattle.esr_finish.specs.Ticket.{HasSettled}
 use Rattle.esr_finish.specs.Went.{Worked}
 
--- Why a blob wasn't put: the ticket's last step was refused so, if the history tells it, or a stage of the desk has failed.
-abbrev pub IsPutRefused : {S : Type 0} → (S → ℕ) → List Moment → ℕ → PutRefusal → Type 0
-IsPutRefused {S} faults log who (puts.Step refusal) = WasRefused log who (told_refusal refusal)
-IsPutRefused {S} faults log who puts.Stage = (stage : S) × (0 < faults stage)
+-- the ticket's last step was refused so, if the history tells it, and the container failed in none on `index.latest`
+abbrev pub WasPutRefused : List Moment → ℕ → Option Refusal → Type 0
+WasPutRefused log who None = Unit {0}
+WasPutRefused log who (Some refusal) = (step : Step) × IsLast log who step (Refused refusal) × (refusal ≡ DepotFault → is_of_latest step ≡ false)
+
+-- why a blob wasn't put: a step was refused so, or a write to this stage has failed
+abbrev pub IsPutRefused : {S : Type 0} → (S → ℕ) → List Moment → ℕ → PutRefusal S → Type 0
+IsPutRefused faults log who (puts.Step refusal) = WasPutRefused log who (told_refusal refusal)
+IsPutRefused faults log who (puts.Stage stage) = 0 < faults stage
 
 -- a settle, or the end of a ticket
 abbrev pub IsEnding : Step → Type 0
@@ -26,7 +32,7 @@ IsEnding (FailedStep why) = Unit {0}
 IsEnding FinishStep = Unit {0}
 IsEnding step = ⊥
 
--- the same, and the container didn't fail in a step before the settle
+-- the ticket's last step was refused so, if the history tells it, and the container didn't fail in a step before the settle
 abbrev pub WasStopped : List Moment → ℕ → Option Refusal → Type 0
 WasStopped log who None = Unit {0}
 WasStopped log who (Some refusal) = (step : Step) × IsLast log who step (Refused refusal) × (refusal ≡ DepotFault → IsEnding step)
@@ -38,11 +44,12 @@ pub record HasFailed (old new : Ticket) : Type 0 where
   pub is : new ≡ record worked { out = false }
   pub unsettled : new.settled ≡ false
 
--- a step of the ticket was refused as the container failed in it, and the ticket has made none since
+-- a step of the ticket, none on `index.latest`, was refused as the container failed in it, and the ticket has made none since
 pub record HadFault (s : Start) (log : List Moment) (who : ℕ) : Type 0 where
   pub front : List Moment
   pub step : Step
   pub refused : IsLast front who step (Refused DepotFault)
+  pub matters : is_of_latest step ≡ false
   pub waited : Waited s front log who
 
 -- what failed before the ticket ended so: a stage of the desk, or a step

@@ -55,7 +55,7 @@ fn put_info<Q: Desk>(
     desk: &mut Q,
     ticket: u64,
     info: &SnapInfo,
-) -> Result<(), PutRefusal>
+) -> Result<(), PutRefusal<Q::Stage>>
     requires mine { Q.holds desk.old ticket }
     requires may { MayPut Q.start (ticket_of Q.start (Q.seen desk.old) ticket) (info_blob (formats_of Q.start) (info_of_code info.now) ∷ []) }
     ensures ok { OnOk result (Puts Q.start (Q.seen desk.old) (Q.seen desk.new) ticket (info_blob (formats_of Q.start) (info_of_code info.now) ∷ [])) }
@@ -78,7 +78,7 @@ fn put_global<Q: Desk>(
     desk: &mut Q,
     ticket: u64,
     info: &SnapInfo,
-) -> Result<(), PutRefusal>
+) -> Result<(), PutRefusal<Q::Stage>>
     requires mine { Q.holds desk.old ticket }
     requires may { MayPut Q.start (ticket_of Q.start (Q.seen desk.old) ticket) (global_blob (formats_of Q.start) (info_of_code info.now) ∷ []) }
     ensures ok { OnOk result (Puts Q.start (Q.seen desk.old) (Q.seen desk.new) ticket (global_blob (formats_of Q.start) (info_of_code info.now) ∷ [])) }
@@ -102,7 +102,7 @@ fn put_index<Q: Desk>(
     ticket: u64,
     index: &IndexRef,
     uuid: Id,
-) -> Result<(), PutRefusal>
+) -> Result<(), PutRefusal<Q::Stage>>
     requires mine { Q.holds desk.old ticket }
     requires some { 1 ≤ index.now.shards }
     requires most { index.now.shards ≤ 1024 }
@@ -127,7 +127,7 @@ fn put_indices<Q: Desk>(
     desk: &mut Q,
     ticket: u64,
     info: &SnapInfo,
-) -> Result<(), PutRefusal>
+) -> Result<(), PutRefusal<Q::Stage>>
     requires mine { Q.holds desk.old ticket }
     requires may { MayPut Q.start (ticket_of Q.start (Q.seen desk.old) ticket) (index_blobs (formats_of Q.start) (info_of_code info.now)) }
     ensures ok { OnOk result (Puts Q.start (Q.seen desk.old) (Q.seen desk.new) ticket (index_blobs (formats_of Q.start) (info_of_code info.now))) }
@@ -147,7 +147,7 @@ pub fn put_metadata<Q: Desk>(
     desk: &mut Q,
     ticket: u64,
     info: &SnapInfo,
-) -> Result<(), PutRefusal>
+) -> Result<(), PutRefusal<Q::Stage>>
     requires mine { Q.holds desk.old ticket }
     requires may { MayPut Q.start (ticket_of Q.start (Q.seen desk.old) ticket) (metadata (formats_of Q.start) (info_of_code info.now)) }
     ensures ok { OnOk result (Puts Q.start (Q.seen desk.old) (Q.seen desk.new) ticket (metadata (formats_of Q.start) (info_of_code info.now))) }

@@ -21,7 +21,7 @@ pub fn put<Q: Desk>(
     ticket: u64,
     name: BlobName,
     bytes: &[u8],
-) -> Result<(), PutRefusal>
+) -> Result<(), PutRefusal<Q::Stage>>
     requires mine { Q.holds desk.old ticket }
     requires layout { IsName name }
     requires may { CanCommit Q.start (ticket_of Q.start (Q.seen desk.old) ticket) (name_of name) bytes.now }
@@ -31,7 +31,9 @@ pub fn put<Q: Desk>(
     ensures holds { Q.holds desk.new ticket }
 {
     let mut named = desk.begin(alloc, ticket, name, bytes.len())?;
-    named.stage.write(bytes)?;
+    if named.stage.write(bytes).is_err() {
+        return Err(PutRefusal::Stage { stage: named.stage });
+    }
     let Named { name, stage } = named;
     desk.commit(alloc, ticket, name, stage)?;
     Ok(())

@@ -1,22 +1,21 @@
 //! Why a blob isn't put.
 ghost use Rattle.std.specs.Prelude.{◌≡◌};
 ghost use Rattle.esr_desk.specs.declared.refusal.StepRefusal.TheVariants.{Memory};
-ghost use Rattle.esr_finish.specs.declared.refusal.PutRefusal.TheVariants.{Step, Stage};
+ghost use Rattle.esr_finish.specs.declared.refusal.PutRefusal.TheVariants.{Step};
 
-use esr_depot::Failed;
 use esr_desk::StepRefusal;
 use std::alloc::AllocError;
 
-/// Why a blob isn't put.
-#[derive(Clone, Copy, Debug)]
-pub enum PutRefusal {
+/// Why a blob isn't put. `S` is the type of stages.
+#[derive(Drop)]
+pub enum PutRefusal<S> {
     /// A step was refused, or there was no memory for the text.
     Step(StepRefusal),
-    /// A write to its stage failed.
-    Stage,
+    /// A write to this stage failed.
+    Stage { stage: S },
 }
 
-impl From<StepRefusal> for PutRefusal {
+impl<S> From<StepRefusal> for PutRefusal<S> {
     ghost from_gives = { λ r e. e ≡ Step r };
 
     fn from(refusal: StepRefusal) -> Self {
@@ -24,18 +23,10 @@ impl From<StepRefusal> for PutRefusal {
     }
 }
 
-impl From<AllocError> for PutRefusal {
+impl<S> From<AllocError> for PutRefusal<S> {
     ghost from_gives = { λ _ e. e ≡ Step Memory };
 
     fn from(_: AllocError) -> Self {
         PutRefusal::Step(StepRefusal::Memory)
-    }
-}
-
-impl From<Failed> for PutRefusal {
-    ghost from_gives = { λ _ e. e ≡ Stage };
-
-    fn from(_: Failed) -> Self {
-        PutRefusal::Stage
     }
 }

@@ -26,7 +26,7 @@ fn put_root<Q: Desk>(
     desk: &mut Q,
     ticket: u64,
     root: &RootData,
-) -> Result<u64, PutRefusal>
+) -> Result<u64, PutRefusal<Q::Stage>>
     requires mine { Q.holds desk.old ticket }
     requires may { MayPutRoot Q.start (ticket_of Q.start (Q.seen desk.old) ticket) (root_of root.now) }
     ensures ok { IfOk result (λ n. PutsRoot Q.start (Q.seen desk.old) (Q.seen desk.new) ticket (root_of root.now) n) }
@@ -52,7 +52,7 @@ fn put_latest<Q: Desk>(
     desk: &mut Q,
     ticket: u64,
     generation: u64,
-) -> Result<(), PutRefusal>
+) -> Result<(), PutRefusal<Q::Stage>>
     requires mine { Q.holds desk.old ticket }
     requires may { CanPut Q.start (ticket_of Q.start (Q.seen desk.old) ticket) generation }
     ensures ok { OnOk result (ticket_of Q.start (Q.seen desk.new) ticket ≡ tried (ticket_of Q.start (Q.seen desk.old) ticket)) }
@@ -65,7 +65,9 @@ fn put_latest<Q: Desk>(
         Err(StepRefusal::Refused(EntryRefusal::DepotFault)) => return Ok(()),
         Err(refusal) => return Err(PutRefusal::Step(refusal)),
     };
-    named.stage.write(&generation.to_be_bytes())?;
+    if named.stage.write(&generation.to_be_bytes()).is_err() {
+        return Err(PutRefusal::Stage { stage: named.stage });
+    }
     let Named { name, stage } = named;
     match desk.latest(alloc, ticket, name, stage) {
         Ok(()) | Err(StepRefusal::Refused(EntryRefusal::DepotFault)) => Ok(()),
@@ -80,7 +82,7 @@ pub fn write_swap<Q: Desk>(
     ticket: u64,
     info: &SnapInfo,
     root: &RootData,
-) -> Result<(), PutRefusal>
+) -> Result<(), PutRefusal<Q::Stage>>
     requires mine { Q.holds desk.old ticket }
     requires may { MayWrite Q.start (ticket_of Q.start (Q.seen desk.old) ticket) (info_of_code info.now) (root_of root.now) }
     ensures ok { OnOk result (IsWritten (formats_of Q.start) (ticket_of Q.start (Q.seen desk.old) ticket) (ticket_of Q.start (Q.seen desk.new) ticket)) }

@@ -1,6 +1,8 @@
 //! The unit of a finalization.
 ghost use Rattle.std.specs.Prelude.{◌≡◌, IfErr, OnOk};
+ghost use Rattle.esr_core.specs.Entry.{OfDepot};
 ghost use Rattle.esr_desk.specs.Start.{ticket_of};
+ghost use Rattle.esr_desk.specs.Shown.{IsShown};
 ghost use Rattle.esr_desk.specs.Conditions.{CanFail};
 ghost use Rattle.esr_desk.specs.Taken.{Took};
 ghost use Rattle.esr_finish.specs.Work.{IsFinalize};
@@ -10,7 +12,7 @@ ghost use Rattle.esr_finish.specs.Refused.{IsUnitRefused, Reported};
 
 use crate::refusal::PutRefusal;
 use crate::root::write_swap;
-use esr_desk::{Desk, EntryRefusal, StepRefusal, Unit, UnitRefusal, Why};
+use esr_desk::{By, Desk, EntryRefusal, FailedObject, StepRefusal, Unit, UnitRefusal, Why};
 use esr_progress::Work;
 use std::alloc::Global;
 
@@ -38,23 +40,33 @@ pub fn run_unit<Q: Desk>(alloc: Global, desk: &mut Q, unit: &Unit) -> Result<(),
             desk.finish(alloc, ticket)?;
             Ok(())
         }
-        Err(PutRefusal::Stage) => Err(fail(alloc, desk, ticket)),
+        Err(PutRefusal::Stage { stage }) => {
+            let object = FailedObject::Stage { stage };
+            Err(fail(alloc, desk, ticket, By::Object { object }))
+        }
         Err(PutRefusal::Step(StepRefusal::Refused(EntryRefusal::DepotFault))) => {
-            Err(fail(alloc, desk, ticket))
+            Err(fail(alloc, desk, ticket, By::Entry))
         }
         Err(PutRefusal::Step(refusal)) => Err(UnitRefusal::Stopped(refusal)),
     }
 }
 
-/// Reports that the container failed, which ends the ticket.
-fn fail<Q: Desk>(alloc: Global, desk: &mut Q, ticket: u64) -> UnitRefusal
+/// Reports that the container failed, as `by` shows, which ends the ticket.
+fn fail<Q: Desk>(
+    alloc: Global,
+    desk: &mut Q,
+    ticket: u64,
+    by: By<Q::Stage, Q::Fetch, Q::Shard, Q::Target>,
+) -> UnitRefusal
     requires mine { Q.holds desk.old ticket }
     requires may { CanFail (ticket_of Q.start (Q.seen desk.old) ticket) }
+    requires shown { IsShown (record { stage = Q.Stage.faults; fetch = Q.Fetch.faults; shard = Q.Shard.faults; target = Q.Target.faults; made_for = λ h. (Q.Shard.origin h).address })
+        Q.start (Q.seen desk.old) ticket OfDepot by }
     ensures reported { Reported Q.start (Q.seen desk.old) (Q.seen desk.new) ticket result }
     ensures grew { Grew Q.start (Q.seen desk.old) (Q.seen desk.new) }
     ensures holds { Q.holds desk.new ticket }
 {
-    match desk.failed(alloc, ticket, Why::Depot) {
+    match desk.failed(alloc, ticket, Why::Depot, by) {
         Ok(()) => UnitRefusal::Failed(Why::Depot),
         Err(refusal) => UnitRefusal::Stopped(refusal),
     }

@@ -13,15 +13,15 @@ loop-index-init g c =
     record { puts = wrote_none (ticket_of s old c.args.ticket); went = went_not s old c.args.ticket; holds = c.requires.mine }
 
 pub put_index-requires-clause-some : goal.put_index-requires-clause-some
-put_index-requires-clause-some g c =
+put_index-requires-clause-some g c κs within =
     (ref_at c.info.inside.indices c.as_slice-index-items.result.now c.loop-index.index-index c.index-item.result c.info.invariant.indices c.as_slice-index-items.ensures c.loop-index-test.true c.index-item.is).least
 
 pub put_index-requires-clause-most : goal.put_index-requires-clause-most
-put_index-requires-clause-most g c =
+put_index-requires-clause-most g c κs within =
     (ref_at c.info.inside.indices c.as_slice-index-items.result.now c.loop-index.index-index c.index-item.result c.info.invariant.indices c.as_slice-index-items.ensures c.loop-index-test.true c.index-item.is).most
 
 pub put_index-requires-clause-may : goal.put_index-requires-clause-may
-put_index-requires-clause-may g c =
+put_index-requires-clause-may g c κs within =
     let s = g.Q.Desk.start in
     let who = c.args.ticket in
     let t0 = ticket_of s (g.Q.Desk.seen c.args.desk.now) who in

@@ -19,10 +19,10 @@ returns-in_err-text-clause-went g c = went_not g.Q.Desk.start (g.Q.Desk.seen c.a
 
 pub put-requires-clause-layout : goal.put-requires-clause-layout
 unfolding IsName
-put-requires-clause-layout g c = tt
+put-requires-clause-layout g c κs within = tt
 
 pub put-requires-clause-may : goal.put-requires-clause-may
-put-requires-clause-may g c =
+put-requires-clause-may g c κs within =
     let s = g.Q.Desk.start in
     let t = ticket_of s (g.Q.Desk.seen c.args.desk.now) c.args.ticket in
     let blob = info_blob (formats_of s) (info_of_code c.args.info.now) in

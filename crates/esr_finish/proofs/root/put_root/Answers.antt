@@ -14,10 +14,10 @@ use Rattle.esr_finish.proofs.root.put_root.Goals as goal
 
 pub put-requires-clause-layout : goal.put-requires-clause-layout
 unfolding IsName
-put-requires-clause-layout g c = c.in_ok-generation.ensures.range
+put-requires-clause-layout g c κs within = c.in_ok-generation.ensures.range
 
 pub put-requires-clause-may : goal.put-requires-clause-may
-put-requires-clause-may g c =
+put-requires-clause-may g c κs within =
     let s = g.Q.Desk.start in
     let root = root_of c.args.root.now in
     let n = c.in_ok-generation.generation in

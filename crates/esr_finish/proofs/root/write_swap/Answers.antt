@@ -5,7 +5,7 @@ use Rattle.esr_finish.proofs.Swaps.{root_next}
 use Rattle.esr_finish.proofs.root.write_swap.Goals as goal
 
 pub put_root-requires-clause-may : goal.put_root-requires-clause-may
-put_root-requires-clause-may g c =
+put_root-requires-clause-may g c κs within =
     let s = g.Q.Desk.start in
     let t0 = ticket_of s (g.Q.Desk.seen c.args.desk.now) c.args.ticket in
     let t1 = ticket_of s (g.Q.Desk.seen c.put_metadata.new.desk) c.args.ticket in

@@ -9,7 +9,7 @@ use Rattle.esr_finish.specs.Ticket.{MayWrite}
 use Rattle.esr_finish.specs.Refused.{IsUnitRefused}
 use Rattle.esr_finish.proofs.Runs.{grew_on, outcome_grew, left_cases}
 use Rattle.esr_finish.proofs.Swaps.{took_writes, settle_next}
-use Rattle.esr_finish.proofs.Ends.{stopped_err, settle_refused, finish_refused, fail_ends, by_stage, by_step}
+use Rattle.esr_finish.proofs.Ends.{stopped_err, settle_refused, finish_refused, fail_ends, by_stage, fault_was, by_step}
 use Rattle.esr_finish.proofs.unit.run_unit.Goals as goal
 use Rattle.esr_finish.proofs.unit.run_unit.Goals.{In-Some}
 
@@ -20,7 +20,7 @@ may_write g c =
     took_writes s (ticket_of s (g.Q.Desk.seen c.args.desk.now) unit.ready.ticket) unit.ready.work unit.new_root unit.ready.op unit.ready.copy c.in-Finalize.info c.in-Finalize.shards c.in-Some.root c.in-Finalize.is c.in-Some.is c.requires.fresh
 
 pub write_swap-requires-clause-may : goal.write_swap-requires-clause-may
-write_swap-requires-clause-may g c = may_write g (goal.at.write_swap-requires-clause-may g c).In-Some
+write_swap-requires-clause-may g c κs within = may_write g (goal.at.write_swap-requires-clause-may g c).In-Some
 
 pub settle-requires-clause-may : goal.settle-requires-clause-may
 settle-requires-clause-may g c =
@@ -73,7 +73,7 @@ returns-in-Err-Stage-clause-refused g c =
     let new = g.Q.Desk.seen c.fail.new.desk in
     let who = c.args.unit.now.ready.ticket in
     fail_ends s faults old mid new who (info_of_code c.in-Finalize.info) (root_of c.in-Some.root) c.fail.result (may_write g (goal.at.returns-in-Err-Stage-clause-refused g c).In-Some) c.write_swap.ensures.went
-    (by_stage s faults mid who c.in-Err-Stage.field-0 c.in-Err-Stage.field-0-is c.in-Err-Stage.ensures.refused)
+    (by_stage s faults mid who c.in-Err-Stage.field-0 c.in-Err-Stage.stage c.in-Err-Stage.field-0-is c.in-Err-Stage.ensures.refused)
     c.fail.ensures.reported
 
 pub returns-in-Err-Step-Refused-DepotFault-clause-refused : goal.returns-in-Err-Step-Refused-DepotFault-clause-refused
@@ -87,5 +87,5 @@ returns-in-Err-Step-Refused-DepotFault-clause-refused g c =
     let at = c.in-Err-Step-Refused-DepotFault in
     let step_is : at.field-0-0 ≡ steps.Refused at.field-0-0-0 = rw at.field-0-is at at.field-0-0-is in
     fail_ends s faults old mid new who (info_of_code c.in-Finalize.info) (root_of c.in-Some.root) c.fail-in-Err-Step-Refused-DepotFault.result (may_write g (goal.at.returns-in-Err-Step-Refused-DepotFault-clause-refused g c).In-Some) c.write_swap.ensures.went
-    (by_step s faults mid who at.field-0 at.field-0-0 at.field-0-0-0 at.field-0-is step_is (rw (at.field-0-is, step_is) at at.field-0-0-0-is) at.ensures.refused)
+    (by_step s faults mid who (fault_was faults mid who at.field-0 at.field-0-0 at.field-0-0-0 at.field-0-is step_is (rw (at.field-0-is, step_is) at at.field-0-0-0-is) at.ensures.refused))
     c.fail-in-Err-Step-Refused-DepotFault.ensures.reported
