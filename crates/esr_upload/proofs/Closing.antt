@@ -25,7 +25,7 @@ use Rattle.esr_desk.specs.Conditions.{CanEnd}
 use Rattle.esr_desk.specs.Taken.{after_writes}
 use Rattle.esr_upload.specs.Surveyed.{printed, TellsAll}
 use Rattle.esr_upload.specs.Stored.{IsAt}
-use Rattle.esr_upload.specs.Base.{IsAhead}
+use Rattle.esr_desk.specs.Damage.{IsAhead}
 use Rattle.esr_upload.specs.Trouble.{BadBase}
 use Rattle.esr_upload.specs.Entries.{new_count, entries_at, all_blobs, StoredAll}
 use Rattle.esr_upload.specs.Published.{HasDrawn, snap_blob, index_blob, last_blobs, sum_planned, outcome_of}

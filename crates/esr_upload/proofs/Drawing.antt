@@ -9,6 +9,8 @@ use Rattle.esr_core.specs.Entry.{Moment}
 use Rattle.esr_core.specs.Allowed.{Based}
 use Rattle.esr_source.specs.declared.files.ListedFile.{ListedFile}
 use Rattle.esr_source.specs.Origin.{Origin}
+use Rattle.esr_source.specs.declared.address.Address.{Address}
+use Rattle.esr_source.specs.Address.{address}
 use Rattle.esr_shardidx.specs.Indices.{IndexValue}
 use Rattle.esr_root.specs.Root.{Root}
 use Rattle.esr_formats.specs.Ids.{number_of}
@@ -21,6 +23,7 @@ use Rattle.esr_desk.specs.Start.{Start, formats_of, ticket_of}
 use Rattle.esr_desk.specs.Conditions.{CanDraw}
 use Rattle.esr_desk.specs.Taken.{TookWork}
 use Rattle.esr_desk.specs.Grew.{Grew}
+use Rattle.esr_desk.specs.Shown.{IsOf}
 use Rattle.esr_upload.specs.Surveyed.{TellsAll}
 use Rattle.esr_upload.specs.Stored.{IsAt}
 use Rattle.esr_upload.specs.Worked.{Went}
@@ -108,6 +111,18 @@ pub took_shard : (work : CodeWork) (root : Option Root) (op : ℕ) (copy : Copie
 took_shard work root op copy t uuid at name place is took =
     let took_it = subst (λ (w : CodeWork). TookWork w root op copy t) is took in
     (ap (λ (x : Ticket). x.work) took_it.1, ap (λ (x : Ticket). x.base) took_it.1)
+
+-- the ticket is that of the address that its shard was made for
+pub took_of : (work : CodeWork) (root : Option Root) (op : ℕ) (copy : Copied) (t : Ticket) (uuid : Id) (at : ShardId) (name place : Bytes) → work ≡ works.Shard uuid at name place → TookWork work root op copy t
+    → (a : Address) → a ≡ address place name at.number → IsOf t a
+took_of work root op copy t uuid at name place is took a made =
+    let took_it = subst (λ (w : CodeWork). TookWork w root op copy t) is took in
+    subst (λ (b : Address). IsOf t b) (sym made) (record {
+      index = at.index.number;
+      work = ap (λ (x : Ticket). x.work) took_it.1;
+      place = ap (λ (x : Ticket). x.place) took_it.1;
+      name = ap (λ (x : Ticket). x.name) took_it.1;
+    })
 
 pub drew_went : (s : Start) (old new : List Moment) (who first n : ℕ) → Grew s old new → ticket_of s new who ≡ record (ticket_of s old who) { first = first; drawn = n } → Went s old new who
 drew_went s old new who first n grew is =

@@ -16,7 +16,8 @@ use Rattle.esr_formats.specs.Formats.{formats}
 use Rattle.esr_formats.specs.Shards.{entry_of, snap_list_of, shard_index_of, shard_index_kind}
 use Rattle.esr_formats.proofs.ShardTexts.{shard_index_reads_back}
 use Rattle.esr_desk.specs.Start.{Start, formats_of, ticket_of}
-use Rattle.esr_upload.specs.Base.{HasBase, IsAhead, BaseFault}
+use Rattle.esr_desk.specs.Damage.{IsAhead, BaseFault}
+use Rattle.esr_upload.specs.Base.{HasBase}
 use Rattle.esr_upload.specs.Stored.{IsAt}
 use Rattle.esr_upload.specs.Trouble.{BadBase}
 use Rattle.esr_upload.specs.Published.{HasIndex}

@@ -17,3 +17,4 @@ pub mod Closing
 pub mod Drawing
 pub mod Refusing
 pub mod Shown
+pub mod Untold

@@ -81,7 +81,7 @@ told_append s bytes = by_tells s.tells bytes
     by_tells false bytes = refl
 
 -- an error that was made of a step's refusal
-pub step_err : {T : Type 0} (result : Result T Trouble) (P : Trouble → Type 0) (refusal : StepRefusal) → IsErrAnd result (λ e. e ≡ troubles.Step refusal) → P (troubles.Step refusal) → IfErr result P
+pub step_err : {T S F : Type 0} (result : Result T (Trouble S F)) (P : Trouble S F → Type 0) (refusal : StepRefusal) → IsErrAnd result (λ e. e ≡ troubles.Step refusal) → P (troubles.Step refusal) → IfErr result P
 step_err (Ok x) P refusal is holds = tt
 step_err (Err e) P refusal is holds = subst P (sym is) holds
 

@@ -8,7 +8,7 @@ use Rattle.esr_names.specs.Layout.{IsName}
 use Rattle.esr_model.specs.Names.{BlobName, ShardIndex}
 use Rattle.esr_model.specs.Values.{Bytes, Has, Kind, ShardFiles}
 use Rattle.esr_core.specs.World.{Ticket}
-use Rattle.esr_core.specs.Entry.{FetchStep, Moment}
+use Rattle.esr_core.specs.Entry.{FetchStep, WasAbsent, Moment}
 use Rattle.esr_core.specs.After.{fetching}
 use Rattle.esr_core.specs.Allowed.{Based}
 use Rattle.esr_json.specs.declared.refusal.Reason.{Reason}
@@ -24,7 +24,7 @@ use Rattle.esr_upload.specs.Base.{HasBase}
 use Rattle.esr_upload.specs.Stored.{IsAt}
 use Rattle.esr_upload.specs.Trouble.{BadBase}
 use Rattle.esr_upload.specs.Worked.{Worked}
-use Rattle.esr_upload.proofs.Going.{worked_none, grew_none}
+use Rattle.esr_upload.proofs.Going.{worked_none}
 
 -- ---- what a fetch makes of the ticket
 
@@ -48,7 +48,15 @@ absent_base left None s old new who index number base none at is step same = rec
   base = base;
   work = ap (λ (t : Ticket). t.work) same ∙ at.work;
   base_is = ap (λ (t : Ticket). t.base) same ∙ is;
-  fault = inl (new, record { front = step.front; image = step.image; is = step.is }, grew_none s new);
+  fault = inl (record {
+    front = step.front;
+    moment = record { entry = record { who = who; step = FetchStep (ShardIndex index number base); reply = WasAbsent }; image = step.image };
+    back = [];
+    is = step.is;
+    of = refl;
+    step = refl;
+    reply = refl;
+  });
 }
 absent_base left (Some f) s old new who index number base none at is step same = absurd cc
 

@@ -1,114 +1,200 @@
 -- How the unit of a shard ends where it isn't done.
-use Rattle.std.proofs.Common.{◌≡◌, inl, inr, ℕ, true, false, List, Option, Some, None, option_map, Result, Ok, Err, IfErr, sym, ap, ◌∙◌, subst}
+use Rattle.std.proofs.Common.{◌≡◌, ◌≢◌, inl, inr, ℕ, ◌<◌, true, false, List, [], ◌∷◌, ◌++◌, append_assoc, Option, Some, None, option_map, Result, Ok, Err, IfErr, refl, sym, ap, ◌∙◌, subst}
 use Rattle.std.specs.Result.{IsErrAnd}
+use Rattle.esr_hash.specs.declared.print.Print.{Print}
 use Rattle.esr_names.specs.declared.ids.Id.{Id}
 use Rattle.esr_names.specs.declared.blob.ShardId.{ShardId}
 use Rattle.esr_names.specs.declared.blob.BlobName.TheVariants as names
 use Rattle.esr_model.specs.Names.{BlobName, ShardIndex}
 use Rattle.esr_model.specs.Values.{Bytes, Has}
-use Rattle.esr_core.specs.World.{Ticket, Shard}
-use Rattle.esr_core.specs.Entry.{FailedStep, HasEnded, Moment}
+use Rattle.esr_core.specs.World.{Ticket, Work, Shard}
+use Rattle.esr_core.specs.Entry.{Why, OfDepot, OfSource, OfChange, OfDamage, FailedStep, HasEnded, Refused, DepotFault, Moment}
 use Rattle.esr_formats.specs.Ids.{number_of}
-use Rattle.esr_formats.specs.Names.{name_of}
-use Rattle.esr_desk.specs.declared.entry.Why.{Why}
+use Rattle.esr_source.specs.declared.address.Address.{Address}
 use Rattle.esr_desk.specs.declared.entry.Why.TheVariants as whys
 use Rattle.esr_desk.specs.declared.refusal.StepRefusal.{StepRefusal}
 use Rattle.esr_desk.specs.declared.refusal.StepRefusal.TheVariants as steps
 use Rattle.esr_desk.specs.declared.refusal.EntryRefusal.TheVariants as refusals
+use Rattle.esr_desk.specs.declared.fault.FailedObject.TheVariants as objects
+use Rattle.esr_desk.specs.declared.fault.By.{By}
+use Rattle.esr_desk.specs.declared.fault.By.TheVariants as shows
 use Rattle.esr_desk.specs.declared.unit.UnitRefusal.TheVariants as units
 use Rattle.esr_desk.specs.Entries.{why_of}
 use Rattle.esr_desk.specs.Refusals.{told_refusal}
 use Rattle.esr_desk.specs.Start.{Start, ticket_of}
-use Rattle.esr_desk.specs.Outcome.{Stepped}
+use Rattle.esr_desk.specs.Outcome.{Waited, Stepped}
 use Rattle.esr_desk.specs.Last.{WasRefused}
-use Rattle.esr_desk.specs.Grew.{Grew}
+use Rattle.esr_desk.specs.Damage.{IsBase, IsBad, WasMissing, BaseFault}
+use Rattle.esr_desk.specs.Shown.{Counts, Matters, HadFault, IsOf, IsUntold, DepotShown, SourceShown, ReadShown, IsShown}
+use Rattle.esr_upload.specs.declared.cause.Cause.{Cause}
 use Rattle.esr_upload.specs.declared.trouble.Trouble.{Trouble}
 use Rattle.esr_upload.specs.declared.trouble.Trouble.TheVariants as troubles
-use Rattle.esr_upload.specs.Base.{BaseFault, IsBad}
-use Rattle.esr_upload.specs.Refused.{ShowsWhy, IsUnitRefused}
-use Rattle.esr_upload.specs.Trouble.{Shown, BadBase}
-use Rattle.esr_upload.specs.Worked.{Went}
-use Rattle.esr_upload.specs.Published.{why_refused, damaged_by, why_by}
-use Rattle.esr_upload.proofs.Going.{grew_none, grew_on}
-use Rattle.esr_upload.proofs.Ending.{last_of}
+use Rattle.esr_upload.specs.Cause.{cause_refused, damaged_by, cause_by}
+use Rattle.esr_upload.specs.Refused.{IsChangeOfUntold, HasFailed, IsUnitRefused}
+use Rattle.esr_upload.specs.Trouble.{Shown, BadBase, IsChangeUntold}
+use Rattle.esr_upload.specs.Worked.{Worked, Went}
 
 pub passed : {T E : Type 0} (r : Result T E) (P : E → Type 0) (e : E) → IsErrAnd r (λ x. x ≡ e) → P e → IfErr r P
 passed (Ok x) P e is holds = tt
 passed (Err y) P e is holds = subst P (sym is) holds
 
--- ---- what shows a cause goes on
+-- ---- what shows a cause goes on while others step
 
-fault_on : (s : Start) (old new : List Moment) (who : ℕ) (name : BlobName) → Grew s old new → ticket_of s new who ≡ record (ticket_of s old who) { out = false } → BaseFault s old who name → BaseFault s new who name
-fault_on s old new who name grew own (inl absent) = inl (absent.0, absent.1, grew_on s absent.0 old new absent.2 grew)
-fault_on s old new who name grew own (inr bad) =
-    inr (bad.0, subst (λ (t : Ticket). s.tells ≡ true → Has t.read (name, bad.0)) (sym own) bad.1, subst (λ (t : Ticket). IsBad t bad.0) (sym own) bad.2)
+missing_on : (s : Start) (old new : List Moment) (who : ℕ) (name : BlobName) → Waited s old new who → WasMissing old who name → WasMissing new who name
+missing_on s old new who name waited h = record {
+  front = h.front;
+  moment = h.moment;
+  back = h.back ++ waited.others;
+  is = waited.grew ∙ ap (λ (log : List Moment). log ++ waited.others) h.is ∙ append_assoc h.front (h.moment ∷ h.back) waited.others;
+  of = h.of;
+  step = h.step;
+  reply = h.reply;
+}
 
-module _ {St F H : Type 0} (stage_faults : St → ℕ) (fetch_faults : F → ℕ) (shard_faults : H → ℕ) (files : Option (List (Bytes × Bytes))) (s : Start) where
-  shows_on : (old new : List Moment) (who : ℕ) (why : Why) → Grew s old new → ticket_of s new who ≡ record (ticket_of s old who) { out = false }
-      → ShowsWhy {St = St} {F = F} {H = H} stage_faults fetch_faults shard_faults files s old who why → ShowsWhy {St = St} {F = F} {H = H} stage_faults fetch_faults shard_faults files s new who why
-  shows_on old new who whys.Depot grew own (inl stage) = inl stage
-  shows_on old new who whys.Depot grew own (inr (inl fetch)) = inr (inl fetch)
-  shows_on old new who whys.Depot grew own (inr (inr had)) = inr (inr (had.0, had.1, had.2, grew_on s had.0 old new had.3 grew))
-  shows_on old new who whys.Source grew own shows = shows
-  shows_on old new who (whys.Changed first second) grew own shows = shows
-  shows_on old new who (whys.Damaged name) grew own shows = fault_on s old new who (name_of name) grew own shows
+had_on : (s : Start) (old new : List Moment) (who : ℕ) → Waited s old new who → HadFault s old who → HadFault s new who
+had_on s old new who waited h = record {
+  front = h.front;
+  moment = h.moment;
+  back = h.back ++ waited.others;
+  is = waited.grew ∙ ap (λ (log : List Moment). log ++ waited.others) h.is ∙ append_assoc h.front (h.moment ∷ h.back) waited.others;
+  of = h.of;
+  reply = h.reply;
+  matters = subst (λ (t : Ticket). Matters t.work h.moment.entry.step) (sym waited.alone) h.matters;
+}
 
-  refused_shows : (log : List Moment) (who : ℕ) (refusal : StepRefusal) (why : Why) → WasRefused log who (told_refusal refusal) → why_refused refusal ≡ Ok why
-      → ShowsWhy {St = St} {F = F} {H = H} stage_faults fetch_faults shard_faults files s log who why
-  refused_shows log who steps.Memory why was is = cc
-  refused_shows log who steps.TurnsSpent why was is = cc
-  refused_shows log who (steps.Refused refusals.DepotFault) why was is =
-      let same : whys.Depot ≡ why = cc in
-      subst (λ (w : Why). ShowsWhy {St = St} {F = F} {H = H} stage_faults fetch_faults shard_faults files s log who w) same (inr (inr (log, was.0, was.1, grew_none s log)))
-  refused_shows log who (steps.Refused (refusals.CleanupRunning op)) why was is = cc
-  refused_shows log who (steps.Refused (refusals.NameInUse uuid)) why was is = cc
-  refused_shows log who (steps.Refused (refusals.TooMany limit)) why was is = cc
-  refused_shows log who (steps.Refused (refusals.Deposed entry)) why was is = cc
-  refused_shows log who (steps.Refused (refusals.Aborted by)) why was is = cc
-  refused_shows log who (steps.Refused (refusals.StaleTerm own now)) why was is = cc
-  refused_shows log who (steps.Refused (refusals.GenerationsSpent number)) why was is = cc
-  refused_shows log who (steps.Refused (refusals.TermsSpent number)) why was is = cc
-  refused_shows log who (steps.Refused (refusals.IdsSpent next)) why was is = cc
-  refused_shows log who (steps.Refused (refusals.NameTaken name)) why was is = cc
+fault_on : (s : Start) (old new : List Moment) (who : ℕ) (name : BlobName) → Waited s old new who → BaseFault s old who name → BaseFault s new who name
+fault_on s old new who name waited (inl missing) = inl (missing_on s old new who name waited missing)
+fault_on s old new who name waited (inr bad) =
+    inr (bad.0, subst (λ (t : Ticket). s.tells ≡ true → Has t.read (name, bad.0)) (sym waited.alone) bad.1, subst (λ (t : Ticket). IsBad t bad.0) (sym waited.alone) bad.2)
+
+module _ {S F H T : Type 0} (c : Counts S F H T) (s : Start) (old new : List Moment) (who : ℕ) (waited : Waited s old new who) where
+  depot_on : (b : By S F H T) → DepotShown c s old who b → DepotShown c s new who b
+  depot_on (shows.Object (objects.Stage stage)) h = h
+  depot_on (shows.Object (objects.Fetch fetch)) h = h
+  depot_on (shows.Object (objects.Shard shard)) h = h
+  depot_on (shows.Object (objects.Target target)) h = h
+  depot_on shows.Entry h = had_on s old new who waited h
+  depot_on shows.Nothing h = h
+
+  damage_on : (b : By S F H T) (name : BlobName) → ReadShown b (IsBase (ticket_of s old who) name × BaseFault s old who name) → ReadShown b (IsBase (ticket_of s new who) name × BaseFault s new who name)
+  damage_on (shows.Object object) name h = h
+  damage_on shows.Entry name h = h
+  damage_on shows.Nothing name h = (subst (λ (t : Ticket). IsBase t name) (sym waited.alone) h.0, fault_on s old new who name waited h.1)
+
+  change_on : (b : By S F H T) (differ : Type 0) → ReadShown b (differ × IsUntold s (ticket_of s old who)) → ReadShown b (differ × IsUntold s (ticket_of s new who))
+  change_on (shows.Object object) differ h = h
+  change_on shows.Entry differ h = h
+  change_on shows.Nothing differ h = (h.0, subst (λ (t : Ticket). IsUntold s t) (sym waited.alone) h.1)
+
+  shown_on : (why : Why) (b : By S F H T) → IsShown c s old who why b → IsShown c s new who why b
+  shown_on OfDepot b h = depot_on b h
+  shown_on OfSource b h = subst (λ (t : Ticket). SourceShown c t b) (sym waited.alone) h
+  shown_on (OfChange first_len first_digest second_len second_digest) b h = change_on b ((first_len ≡ second_len) → (first_digest ≡ second_digest) → ⊥) h
+  shown_on (OfDamage name) b h = damage_on b name h
+
+-- ---- a trouble shows the cause that is made of it
+
+two_parts : (first second : Print) → first ≢ second → (first.len ≡ second.len) → (first.sha256 ≡ second.sha256) → ⊥
+two_parts first second differ len digest =
+    let made : ℕ → List ℕ → Print = λ n bytes. record { len = n; sha256 = bytes } in
+    differ (ap (λ (n : ℕ). made n first.sha256) len ∙ ap (λ (bytes : List ℕ). made second.len bytes) digest)
+
+module _ {S F H T : Type 0} (c : Counts S F H T) (files : Option (List (Bytes × Bytes))) (s : Start) (log : List Moment) (who : ℕ) where
+  -- the cause is shown
+  abbrev pub Caused : Cause S F H T → Type 0
+  Caused cause = IsShown c s log who (why_of cause.why) cause.by × IsChangeOfUntold files cause.why
+
+  refused_shows : (index number : ℕ) (refusal : StepRefusal) (cause : Cause S F H T) → (ticket_of s log who).work ≡ Shard index number → WasRefused log who (told_refusal refusal) → cause_refused {S = S} {F = F} {H = H} {T = T} refusal ≡ Ok cause → Caused cause
+  refused_shows index number steps.Memory cause work was is = cc
+  refused_shows index number steps.TurnsSpent cause work was is = cc
+  refused_shows index number (steps.Refused refusals.DepotFault) cause work was is =
+      let entry : Cause S F H T = record { why = whys.Depot; by = shows.Entry } in
+      let same : entry ≡ cause = cc in
+      subst Caused same (record {
+        front = was.1.front;
+        moment = record { entry = record { who = who; step = was.0; reply = Refused DepotFault }; image = was.1.image };
+        back = [];
+        is = was.1.is;
+        of = refl;
+        reply = refl;
+        matters = subst (λ (w : Work). Matters w was.0) (sym work) tt;
+      }, tt)
+  refused_shows index number (steps.Refused (refusals.CleanupRunning op)) cause work was is = cc
+  refused_shows index number (steps.Refused (refusals.NameInUse uuid)) cause work was is = cc
+  refused_shows index number (steps.Refused (refusals.TooMany limit)) cause work was is = cc
+  refused_shows index number (steps.Refused (refusals.Deposed entry)) cause work was is = cc
+  refused_shows index number (steps.Refused (refusals.Aborted by)) cause work was is = cc
+  refused_shows index number (steps.Refused (refusals.StaleTerm own now)) cause work was is = cc
+  refused_shows index number (steps.Refused (refusals.GenerationsSpent spent)) cause work was is = cc
+  refused_shows index number (steps.Refused (refusals.TermsSpent spent)) cause work was is = cc
+  refused_shows index number (steps.Refused (refusals.IdsSpent next)) cause work was is = cc
+  refused_shows index number (steps.Refused (refusals.NameTaken name)) cause work was is = cc
 
   -- the fault of the base, under its name
-  base_shows : (log : List Moment) (who : ℕ) (at : ShardId) (base : Option Id) (why : Why) → (ticket_of s log who).work ≡ Shard at.index.number at.number → (ticket_of s log who).base ≡ option_map number_of base → BadBase s log who → damaged_by at base ≡ Ok why
-      → ShowsWhy {St = St} {F = F} {H = H} stage_faults fetch_faults shard_faults files s log who why
-  base_shows log who at None why work base_is bad is = cc
-  base_shows log who at (Some b) why work base_is bad is =
-      let same : whys.Damaged (names.ShardIndex at b) ≡ why = cc in
+  base_shows : (at : ShardId) (base : Option Id) (cause : Cause S F H T) → (ticket_of s log who).work ≡ Shard at.index.number at.number → (ticket_of s log who).base ≡ option_map number_of base → BadBase s log who
+      → damaged_by {S = S} {F = F} {H = H} {T = T} at base ≡ Ok cause → Caused cause
+  base_shows at None cause work base_is bad is = cc
+  base_shows at (Some b) cause work base_is bad is =
+      let damaged : Cause S F H T = record { why = whys.Damaged (names.ShardIndex at b); by = shows.Nothing } in
+      let same : damaged ≡ cause = cc in
       let place : Shard bad.index bad.number ≡ Shard at.index.number at.number = sym bad.work ∙ work in
       let one : bad.index ≡ at.index.number = cc in
       let two : bad.number ≡ at.number = cc in
       let generation : ◌≡◌ {A = Option ℕ} (Some bad.base) (Some b.number) = sym bad.base_is ∙ base_is in
       let three : bad.base ≡ b.number = cc in
-      subst (λ (w : Why). ShowsWhy {St = St} {F = F} {H = H} stage_faults fetch_faults shard_faults files s log who w) same
-      (subst (λ (n : ℕ). BaseFault s log who (ShardIndex n at.number b.number)) one (subst (λ (n : ℕ). BaseFault s log who (ShardIndex bad.index n b.number)) two
-      (subst (λ (n : ℕ). BaseFault s log who (ShardIndex bad.index bad.number n)) three bad.fault)))
+      let fault : BaseFault s log who (ShardIndex at.index.number at.number b.number) =
+      subst (λ (n : ℕ). BaseFault s log who (ShardIndex n at.number b.number)) one (subst (λ (n : ℕ). BaseFault s log who (ShardIndex bad.index n b.number)) two
+      (subst (λ (n : ℕ). BaseFault s log who (ShardIndex bad.index bad.number n)) three bad.fault)) in
+      subst Caused same ((record { index = at.index.number; number = at.number; base = b.number; work = work; base_is = base_is; name_is = refl }, fault), tt)
 
-  shown_shows : (log : List Moment) (who : ℕ) (at : ShardId) (base : Option Id) (shard : H) (trouble : Trouble) (why : Why) → (ticket_of s log who).work ≡ Shard at.index.number at.number → (ticket_of s log who).base ≡ option_map number_of base
-      → Shown {St = St} {F = F} stage_faults fetch_faults (shard_faults shard) files s log who trouble → why_by at base trouble ≡ Ok why → ShowsWhy {St = St} {F = F} {H = H} stage_faults fetch_faults shard_faults files s log who why
-  shown_shows log who at base shard (troubles.Step refusal) why work base_is shown is = refused_shows log who refusal why shown is
-  shown_shows log who at base shard troubles.Source why work base_is shown is =
-      let same : whys.Source ≡ why = cc in subst (λ (w : Why). ShowsWhy {St = St} {F = F} {H = H} stage_faults fetch_faults shard_faults files s log who w) same (shard, shown)
-  shown_shows log who at base shard troubles.Stage why work base_is shown is =
-      let same : whys.Depot ≡ why = cc in subst (λ (w : Why). ShowsWhy {St = St} {F = F} {H = H} stage_faults fetch_faults shard_faults files s log who w) same (inl shown)
-  shown_shows log who at base shard troubles.Fetch why work base_is shown is =
-      let same : whys.Depot ≡ why = cc in subst (λ (w : Why). ShowsWhy {St = St} {F = F} {H = H} stage_faults fetch_faults shard_faults files s log who w) same (inr (inl shown))
-  shown_shows log who at base shard (troubles.Changed first second) why work base_is shown is =
-      let same : whys.Changed first second ≡ why = cc in subst (λ (w : Why). ShowsWhy {St = St} {F = F} {H = H} stage_faults fetch_faults shard_faults files s log who w) same shown
-  shown_shows log who at base shard troubles.Base why work base_is shown is = base_shows log who at base why work base_is shown is
+  caused : (at : ShardId) (base : Option Id) (shard : H) (trouble : Trouble S F) (cause : Cause S F H T) → (ticket_of s log who).work ≡ Shard at.index.number at.number → (ticket_of s log who).base ≡ option_map number_of base
+      → IsOf (ticket_of s log who) (c.made_for shard) → Shown c.stage c.fetch (c.shard shard) files s log who trouble → IsChangeUntold s (ticket_of s log who) trouble
+      → cause_by {S = S} {F = F} {H = H} {T = T} at base shard trouble ≡ Ok cause → Caused cause
+  caused at base shard (troubles.Step refusal) cause work base_is of shown untold is = refused_shows at.index.number at.number refusal cause work shown is
+  caused at base shard troubles.Source cause work base_is of shown untold is =
+      let made : Cause S F H T = record { why = whys.Source; by = shows.Object (objects.Shard shard) } in
+      let same : made ≡ cause = cc in subst Caused same ((shown, of), tt)
+  caused at base shard (troubles.Stage stage) cause work base_is of shown untold is =
+      let made : Cause S F H T = record { why = whys.Depot; by = shows.Object (objects.Stage stage) } in
+      let same : made ≡ cause = cc in subst Caused same (shown, tt)
+  caused at base shard (troubles.Fetch fetch) cause work base_is of shown untold is =
+      let made : Cause S F H T = record { why = whys.Depot; by = shows.Object (objects.Fetch fetch) } in
+      let same : made ≡ cause = cc in subst Caused same (shown, tt)
+  caused at base shard (troubles.Changed first second) cause work base_is of shown untold is =
+      let made : Cause S F H T = record { why = whys.Changed first second; by = shows.Nothing } in
+      let same : made ≡ cause = cc in subst Caused same ((two_parts first second shown.0, untold), shown.1)
+  caused at base shard troubles.Base cause work base_is of shown untold is = base_shows at base cause work base_is shown is
+
+-- ---- the end
+
+of_on : (old new : Ticket) (address : Address) → Worked old new → IsOf old address → IsOf new address
+of_on old new address worked of = record {
+  index = of.index;
+  work = ap (λ (t : Ticket). t.work) worked.is ∙ of.work;
+  place = ap (λ (t : Ticket). t.place) worked.is ∙ of.place;
+  name = ap (λ (t : Ticket). t.name) worked.is ∙ of.name;
+}
+
+module _ {S F H T : Type 0} (c : Counts S F H T) (files : Option (List (Bytes × Bytes))) (s : Start) (old mid : List Moment) (who : ℕ) (at : ShardId) (base : Option Id) (shard : H) (trouble : Trouble S F) (cause : Cause S F H T)
+    (went : Went s old mid who) (work : (ticket_of s old who).work ≡ Shard at.index.number at.number) (base_is : (ticket_of s old who).base ≡ option_map number_of base) (of : IsOf (ticket_of s old who) (c.made_for shard))
+    (shown : Shown c.stage c.fetch (c.shard shard) files s mid who trouble) (untold : IsChangeUntold s (ticket_of s mid who) trouble) (is : cause_by {S = S} {F = F} {H = H} {T = T} at base shard trouble ≡ Ok cause) where
+  -- before the report
+  pub cause_shown : Caused c files s mid who cause
+  cause_shown =
+      let work_mid : (ticket_of s mid who).work ≡ Shard at.index.number at.number = ap (λ (t : Ticket). t.work) went.worked.is ∙ work in
+      let base_mid : (ticket_of s mid who).base ≡ option_map number_of base = ap (λ (t : Ticket). t.base) went.worked.is ∙ base_is in
+      caused c files s mid who at base shard trouble cause work_mid base_mid (of_on (ticket_of s old who) (ticket_of s mid who) (c.made_for shard) went.worked of) shown untold is
 
   -- the ticket has ended as failed
-  pub failed_end : (old mid new : List Moment) (who : ℕ) (at : ShardId) (base : Option Id) (shard : H) (trouble : Trouble) (why : Why) → Went s old mid who
-      → (ticket_of s old who).work ≡ Shard at.index.number at.number → (ticket_of s old who).base ≡ option_map number_of base
-      → Shown {St = St} {F = F} stage_faults fetch_faults (shard_faults shard) files s mid who trouble → why_by at base trouble ≡ Ok why
-      → Stepped s mid new who (FailedStep (why_of why)) HasEnded → Grew s mid new → ticket_of s new who ≡ record (ticket_of s mid who) { out = false }
-      → IsUnitRefused {St = St} {F = F} {H = H} stage_faults fetch_faults shard_faults files s old new who (units.Failed why)
-  failed_end old mid new who at base shard trouble why went work base_is shown is step grew own =
-      let work_mid : (ticket_of s mid who).work ≡ Shard at.index.number at.number = ap (λ (t : Ticket). t.work) went.worked.is ∙ work in
-      let base_mid : (ticket_of s mid who).base ≡ option_map number_of base = ap (λ (t : Ticket). t.base) went.worked.is ∙ base_is in (
-        (ticket_of s mid who, went.worked, own),
-        last_of s mid new who (FailedStep (why_of why)) HasEnded step,
-        shows_on mid new who why grew own (shown_shows mid who at base shard trouble why work_mid base_mid shown is),
-      )
+  pub failed_end : (new : List Moment) → Stepped s mid new who (FailedStep (why_of cause.why)) HasEnded → ticket_of s new who ≡ record (ticket_of s mid who) { out = false } → IsUnitRefused c files s old new who (units.Failed cause.why)
+  failed_end new step own = (
+    (ticket_of s mid who, went.worked, own),
+    record {
+      front = step.front;
+      image = step.image;
+      is = step.is;
+      by = cause.by;
+      shown = shown_on c s mid step.front who step.waited (why_of cause.why) cause.by cause_shown.0;
+      untold = cause_shown.1;
+    },
+  )

@@ -4,6 +4,7 @@ pub mod Base
 pub mod Surveyed
 pub mod Stored
 pub mod Pieces
+pub mod Cause
 pub mod Refused
 pub mod Entries
 pub mod Published

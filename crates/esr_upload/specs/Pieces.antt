@@ -25,11 +25,11 @@ use Rattle.esr_upload.specs.declared.trouble.Trouble.{Trouble}
 use Rattle.esr_upload.specs.declared.trouble.Trouble.TheVariants as troubles
 
 -- there was no memory to start a file, or its source failed
-abbrev pub IsOfStart : ℕ → Trouble → Type 0
+abbrev pub IsOfStart : {S F : Type 0} → ℕ → Trouble S F → Type 0
 IsOfStart faults (troubles.Step refusal) = refusal ≡ Memory
 IsOfStart faults troubles.Source = 0 < faults
-IsOfStart faults troubles.Stage = ⊥
-IsOfStart faults troubles.Fetch = ⊥
+IsOfStart faults (troubles.Stage stage) = ⊥
+IsOfStart faults (troubles.Fetch fetch) = ⊥
 IsOfStart faults (troubles.Changed first second) = ⊥
 IsOfStart faults troubles.Base = ⊥
 

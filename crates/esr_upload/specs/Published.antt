@@ -1,9 +1,8 @@
--- What a shard's ticket is, and what ends it.
-use Rattle.std.specs.Prelude.{◌≡◌, ◌⊎◌, ℕ, ◌+◌, ◌-◌, ◌<◌, ◌^◌, min, sum_by, Bool, true, false, List, [], ◌∷◌, map, find, length, Option, Some, None, Result, Ok, Err}
+-- What a shard's ticket is, and what it has read and planned.
+use Rattle.std.specs.Prelude.{◌≡◌, ◌⊎◌, ℕ, ◌+◌, ◌-◌, ◌<◌, ◌^◌, min, sum_by, Bool, true, false, List, [], ◌∷◌, map, find, length, Option, Some, None}
 use Rattle.std.specs.List.{AllByRecursion}
 use Rattle.esr_names.specs.declared.ids.Id.{Id}
 use Rattle.esr_names.specs.declared.blob.ShardId.{ShardId}
-use Rattle.esr_names.specs.declared.blob.BlobName.TheVariants as names
 use Rattle.esr_model.specs.Names.{BlobName, ShardSnap, ShardIndex}
 use Rattle.esr_model.specs.Values.{Bytes}
 use Rattle.esr_core.specs.World.{Ticket}
@@ -17,11 +16,7 @@ use Rattle.esr_results.specs.declared.result.ShardResult.{ShardResult as CodeRes
 use Rattle.esr_formats.specs.Shards.{shard_snap_of, shard_snap_kind, shard_index_of, shard_index_kind}
 use Rattle.esr_reuse.specs.declared.reuse.Planned.{Planned}
 use Rattle.esr_reuse.specs.Plans.{file_planned, Reuses}
-use Rattle.esr_desk.specs.declared.entry.Why.{Why}
-use Rattle.esr_desk.specs.declared.entry.Why.TheVariants as whys
-use Rattle.esr_desk.specs.declared.refusal.StepRefusal.{StepRefusal}
 use Rattle.esr_desk.specs.declared.refusal.StepRefusal.TheVariants as steps
-use Rattle.esr_desk.specs.declared.refusal.EntryRefusal.TheVariants.{DepotFault}
 use Rattle.esr_desk.specs.Start.{Start, formats_of}
 use Rattle.esr_upload.specs.declared.trouble.Trouble.{Trouble}
 use Rattle.esr_upload.specs.declared.trouble.Trouble.TheVariants as troubles
@@ -59,35 +54,14 @@ index_blob at generation index = (ShardIndex at.index.number at.number generatio
 abbrev pub last_blobs : ShardId → Id → SnapValue → IndexValue → List (BlobName × Bytes)
 last_blobs at generation snap index = snap_blob at snap ∷ index_blob at generation index ∷ []
 
--- why a step's refusal ends the ticket, or that it leaves it out
-abbrev pub why_refused : StepRefusal → Result Why StepRefusal
-why_refused steps.Memory = Err steps.Memory
-why_refused steps.TurnsSpent = Err steps.TurnsSpent
-why_refused (steps.Refused DepotFault) = Ok whys.Depot
-why_refused (steps.Refused refusal) = Err (steps.Refused refusal)
-
--- the cause where the base is at fault
-abbrev pub damaged_by : ShardId → Option Id → Result Why StepRefusal
-damaged_by at None = Err steps.Memory
-damaged_by at (Some base) = Ok (whys.Damaged (names.ShardIndex at base))
-
--- why a trouble ends the ticket, or the refusal that leaves it out
-abbrev pub why_by : ShardId → Option Id → Trouble → Result Why StepRefusal
-why_by at base (troubles.Step refusal) = why_refused refusal
-why_by at base troubles.Source = Ok whys.Source
-why_by at base troubles.Stage = Ok whys.Depot
-why_by at base troubles.Fetch = Ok whys.Depot
-why_by at base (troubles.Changed first second) = Ok (whys.Changed first second)
-why_by at base troubles.Base = damaged_by at base
-
 -- what shows the trouble of a first reading
-abbrev pub ReadShown : ℕ → Trouble → Type 0
+abbrev pub ReadShown : {S F : Type 0} → ℕ → Trouble S F → Type 0
 ReadShown faults (troubles.Step steps.Memory) = Unit {0}
 ReadShown faults (troubles.Step steps.TurnsSpent) = ⊥
 ReadShown faults (troubles.Step (steps.Refused refusal)) = ⊥
 ReadShown faults troubles.Source = 0 < faults
-ReadShown faults troubles.Stage = ⊥
-ReadShown faults troubles.Fetch = ⊥
+ReadShown faults (troubles.Stage stage) = ⊥
+ReadShown faults (troubles.Fetch fetch) = ⊥
 ReadShown faults (troubles.Changed first second) = ⊥
 ReadShown faults troubles.Base = ⊥
 

@@ -45,7 +45,7 @@ fn fetch_bytes<Q: Desk>(
     ticket: u64,
     shard: ShardId,
     base: Id,
-) -> Result<Bytes, Trouble>
+) -> Result<Bytes, Trouble<Q::Stage, Q::Fetch>>
     requires mine { Q.holds desk.old ticket }
     requires at { IsAt (ticket_of Q.start (Q.seen desk.old) ticket) shard.index.number shard.number }
     requires base { (ticket_of Q.start (Q.seen desk.old) ticket).base ≡ Some base.number }
@@ -62,7 +62,7 @@ fn fetch_bytes<Q: Desk>(
     match read_all(alloc, &mut fetch) {
         Ok(bytes) => Ok(bytes),
         Err(CallError::Memory) => Err(Trouble::Step(StepRefusal::Memory)),
-        Err(CallError::Failed) => Err(Trouble::Fetch),
+        Err(CallError::Failed) => Err(Trouble::Fetch { fetch }),
     }
 }
 
@@ -73,7 +73,7 @@ fn fetch_index<Q: Desk>(
     ticket: u64,
     shard: ShardId,
     base: Id,
-) -> Result<ShardIndex, Trouble>
+) -> Result<ShardIndex, Trouble<Q::Stage, Q::Fetch>>
     requires mine { Q.holds desk.old ticket }
     requires at { IsAt (ticket_of Q.start (Q.seen desk.old) ticket) shard.index.number shard.number }
     requires base { (ticket_of Q.start (Q.seen desk.old) ticket).base ≡ Some base.number }
@@ -98,7 +98,7 @@ pub fn read_base<Q: Desk>(
     ticket: u64,
     shard: ShardId,
     base: Option<Id>,
-) -> Result<ShardIndex, Trouble>
+) -> Result<ShardIndex, Trouble<Q::Stage, Q::Fetch>>
     requires mine { Q.holds desk.old ticket }
     requires at { IsAt (ticket_of Q.start (Q.seen desk.old) ticket) shard.index.number shard.number }
     requires base { (ticket_of Q.start (Q.seen desk.old) ticket).base ≡ option_map number_of base }

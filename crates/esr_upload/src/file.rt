@@ -20,7 +20,11 @@ use esr_source::{Gate, Shard};
 use std::alloc::Global;
 
 /// Goes to the first byte of a file.
-fn start_file<S: Shard>(alloc: Global, shard: &mut S, file: usize) -> Result<(), Trouble>
+fn start_file<Q: Desk, S: Shard>(
+    alloc: Global,
+    shard: &mut S,
+    file: usize,
+) -> Result<(), Trouble<Q::Stage, Q::Fetch>>
     requires listed { IsSomeAnd (S.listed shard.old) (λ fs. file < length fs) }
     ensures started { OnOk result (S.left shard.new ≡ bytes_at (S.origin shard.old).files file) }
     ensures listed { S.listed shard.new ≡ S.listed shard.old }
@@ -46,7 +50,7 @@ fn put_part<Q: Desk, S: Shard, G: Gate>(
     hasher: &mut Hasher,
     gate: &G,
     buf: &mut [u8],
-) -> Result<bool, Trouble>
+) -> Result<bool, Trouble<Q::Stage, Q::Fetch>>
     requires mine { Q.holds desk.old ticket }
     requires may { CanStore Q.start (ticket_of Q.start (Q.seen desk.old) ticket) name }
     requires bound { fed_count hasher.old + size < 2 ^ 61 }
@@ -65,7 +69,7 @@ fn put_part<Q: Desk, S: Shard, G: Gate>(
         Ok(true) => {}
         Ok(false) => return Ok(false),
         Err(CopyError::Source) => return Err(Trouble::Source),
-        Err(CopyError::Stage) => return Err(Trouble::Stage),
+        Err(CopyError::Stage) => return Err(Trouble::Stage { stage: named.stage }),
     }
     let Named { name, stage } = named;
     desk.commit(alloc, ticket, name, stage)?;
@@ -84,7 +88,7 @@ fn put_parts<Q: Desk, S: Shard, G: Gate>(
     hasher: &mut Hasher,
     gate: &G,
     buf: &mut [u8],
-) -> Result<(), Trouble>
+) -> Result<(), Trouble<Q::Stage, Q::Fetch>>
     requires mine { Q.holds desk.old ticket }
     requires may { MayStore (ticket_of Q.start (Q.seen desk.old) ticket) at.index.number at.number entry.now.name.number }
     requires few { at.number < 1024 }
@@ -122,7 +126,7 @@ pub fn store_file<Q: Desk, S: Shard, G: Gate>(
     entry: &FileEntry,
     gate: &G,
     buf: &mut [u8],
-) -> Result<(), Trouble>
+) -> Result<(), Trouble<Q::Stage, Q::Fetch>>
     requires mine { Q.holds desk.old ticket }
     requires may { MayStore (ticket_of Q.start (Q.seen desk.old) ticket) at.index.number at.number entry.now.name.number }
     requires few { at.number < 1024 }
@@ -141,7 +145,7 @@ pub fn store_file<Q: Desk, S: Shard, G: Gate>(
     ensures went { Went Q.start (Q.seen desk.old) (Q.seen desk.new) ticket }
     ensures holds { Q.holds desk.new ticket }
 {
-    start_file(alloc, shard, file)?;
+    start_file::<Q, S>(alloc, shard, file)?;
     let mut hasher = Hasher::start();
     put_parts(
         alloc,

@@ -81,7 +81,7 @@ fn store_one<Q: Desk, S: Shard, G: Gate>(
     part_size: u64,
     gate: &G,
     buf: &mut [u8],
-) -> Result<FileEntry, Trouble>
+) -> Result<FileEntry, Trouble<Q::Stage, Q::Fetch>>
     requires mine { Q.holds desk.old ticket }
     requires work { IsAt (ticket_of Q.start (Q.seen desk.old) ticket) at.index.number at.number }
     requires drew { is_new plan.now.reused ≡ 1 → Drew (ticket_of Q.start (Q.seen desk.old) ticket) name.number }
@@ -124,7 +124,7 @@ pub fn store_files<Q: Desk, S: Shard, G: Gate>(
     part_size: u64,
     gate: &G,
     buf: &mut [u8],
-) -> Result<FileEntries, Trouble>
+) -> Result<FileEntries, Trouble<Q::Stage, Q::Fetch>>
     requires mine { Q.holds desk.old ticket }
     requires work { IsAt (ticket_of Q.start (Q.seen desk.old) ticket) at.index.number at.number }
     requires from { (ticket_of Q.start (Q.seen desk.old) ticket).first ≡ first.number }

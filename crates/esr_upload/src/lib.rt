@@ -2,6 +2,7 @@
 #![tactic(auto)]
 
 mod base;
+mod cause;
 mod file;
 mod files;
 mod publish;

@@ -32,7 +32,7 @@ fn put_snap<Q: Desk>(
     ticket: u64,
     at: ShardId,
     snap: &ShardSnap,
-) -> Result<(), Trouble>
+) -> Result<(), Trouble<Q::Stage, Q::Fetch>>
     requires mine { Q.holds desk.old ticket }
     requires work { IsAt (ticket_of Q.start (Q.seen desk.old) ticket) at.index.number at.number }
     requires few { at.number < 1024 }
@@ -57,7 +57,7 @@ fn put_index<Q: Desk>(
     at: ShardId,
     generation: Id,
     index: &ShardIndex,
-) -> Result<(), Trouble>
+) -> Result<(), Trouble<Q::Stage, Q::Fetch>>
     requires mine { Q.holds desk.old ticket }
     requires work { IsAt (ticket_of Q.start (Q.seen desk.old) ticket) at.index.number at.number }
     requires few { at.number < 1024 }
@@ -82,7 +82,7 @@ fn publish<Q: Desk>(
     snap: &ShardSnap,
     index: &ShardIndex,
     outcome: &ShardResult,
-) -> Result<(), Trouble>
+) -> Result<(), Trouble<Q::Stage, Q::Fetch>>
     requires mine { Q.holds desk.old ticket }
     requires work { IsAt (ticket_of Q.start (Q.seen desk.old) ticket) outcome.now.shard.index.number outcome.now.shard.number }
     requires few { outcome.now.shard.number < 1024 }
@@ -118,7 +118,7 @@ pub fn finish<Q: Desk>(
     entries: FileEntries,
     uuid: Id,
     outcome: &ShardResult,
-) -> Result<(), Trouble>
+) -> Result<(), Trouble<Q::Stage, Q::Fetch>>
     requires mine { Q.holds desk.old ticket }
     requires work { IsAt (ticket_of Q.start (Q.seen desk.old) ticket) outcome.now.shard.index.number outcome.now.shard.number }
     requires few { outcome.now.shard.number < 1024 }

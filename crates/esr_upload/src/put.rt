@@ -22,7 +22,7 @@ pub fn put<Q: Desk>(
     ticket: u64,
     name: BlobName,
     bytes: &[u8],
-) -> Result<(), Trouble>
+) -> Result<(), Trouble<Q::Stage, Q::Fetch>>
     requires mine { Q.holds desk.old ticket }
     requires layout { IsName name }
     requires data { IsMetadata (name_of name) → ⊥ }
@@ -34,7 +34,7 @@ pub fn put<Q: Desk>(
 {
     let mut named = desk.begin(alloc, ticket, name, bytes.len())?;
     if named.stage.write(bytes).is_err() {
-        return Err(Trouble::Stage);
+        return Err(Trouble::Stage { stage: named.stage });
     }
     let Named { name, stage } = named;
     desk.commit(alloc, ticket, name, stage)?;

@@ -7,24 +7,24 @@ use esr_desk::StepRefusal;
 use esr_hash::Print;
 use std::alloc::{AllocError, AllocFailed};
 
-/// What ends the unit of a shard before its time.
-#[derive(Clone, Copy, Debug)]
-pub enum Trouble {
+/// What ends the unit of a shard before its time. `S` is the type of stages, `F` that of fetches.
+#[derive(Drop)]
+pub enum Trouble<S, F> {
     /// A step was refused, or memory was wanting.
     Step(StepRefusal),
     /// A call of the shard's source failed.
     Source,
-    /// A write to a stage failed.
-    Stage,
-    /// A read of the base failed.
-    Fetch,
+    /// A write to this stage failed.
+    Stage { stage: S },
+    /// A read of the base failed, which is this fetch.
+    Fetch { fetch: F },
     /// A file had these two prints, one after the other.
     Changed { first: Print, second: Print },
     /// The base is absent, doesn't read, or has what it can't have.
     Base,
 }
 
-impl From<StepRefusal> for Trouble {
+impl<S: Drop, F: Drop> From<StepRefusal> for Trouble<S, F> {
     ghost from_gives = { λ r e. e ≡ Step r };
 
     fn from(refusal: StepRefusal) -> Self {
@@ -32,7 +32,7 @@ impl From<StepRefusal> for Trouble {
     }
 }
 
-impl From<AllocError> for Trouble {
+impl<S: Drop, F: Drop> From<AllocError> for Trouble<S, F> {
     ghost from_gives = { λ _ e. e ≡ Step Memory };
 
     fn from(_: AllocError) -> Self {
@@ -40,7 +40,7 @@ impl From<AllocError> for Trouble {
     }
 }
 
-impl<T: Drop> From<AllocFailed<T>> for Trouble {
+impl<S: Drop, F: Drop, T: Drop> From<AllocFailed<T>> for Trouble<S, F> {
     ghost from_gives = { λ _ e. e ≡ Step Memory };
 
     fn from(_: AllocFailed<T>) -> Self {

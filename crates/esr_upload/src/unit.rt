@@ -1,5 +1,5 @@
 //! The unit of a shard.
-ghost use Rattle.std.specs.Prelude.{◌≡◌, ◌+◌, ◌<◌, ◌≤◌, ◌^◌, ℕ, List, Option, None, Some, find, false, length, option_map, IfErr, IfOk, IsErr, IsSome, OnOk};
+ghost use Rattle.std.specs.Prelude.{◌≡◌, ◌+◌, ◌<◌, ◌≤◌, ◌^◌, ℕ, List, Option, None, Some, find, false, length, option_map, IfErr, IfOk, IsErr, OnOk};
 ghost use Rattle.esr_formats.specs.Ids.{number_of};
 ghost use Rattle.esr_formats.specs.Shards.{shard_index_of};
 ghost use Rattle.esr_shardidx.specs.Indices.{has_uuid};
@@ -8,21 +8,21 @@ ghost use Rattle.esr_desk.specs.Taken.{Took};
 ghost use Rattle.esr_desk.specs.Sources.{TellsFiles};
 ghost use Rattle.esr_desk.specs.Grew.{Grew};
 ghost use Rattle.esr_upload.specs.Entries.{new_count};
-ghost use Rattle.esr_upload.specs.Published.{IsUnit, IsPlanned, HasIndex, HasDrawn, ReadShown, why_by};
+ghost use Rattle.esr_upload.specs.Published.{IsUnit, IsPlanned, HasIndex, HasDrawn, ReadShown};
 ghost use Rattle.esr_upload.specs.Refused.{IsOfShard, told_of, HasDone, IsUnitRefused};
 ghost use Rattle.esr_upload.specs.Stored.{IsAt};
-ghost use Rattle.esr_upload.specs.Trouble.{Shown};
+ghost use Rattle.esr_upload.specs.Trouble.{Shown, IsChangeUntold};
 ghost use Rattle.esr_upload.specs.Worked.{Went};
-ghost use Rattle.esr_upload.specs.declared.trouble.Trouble.TheVariants.{Base};
 
 use crate::base::read_base;
+use crate::cause::{Cause, cause_of};
 use crate::files::{count_new, store_files, sum_of};
 use crate::publish::finish;
 use crate::survey::survey;
 use crate::trouble::Trouble;
 use esr_depot::CallError;
-use esr_desk::{Desk, EntryRefusal, StepRefusal, Unit, UnitRefusal, Why};
-use esr_names::{BlobName, Id, ShardId};
+use esr_desk::{Desk, StepRefusal, Unit, UnitRefusal};
+use esr_names::{Id, ShardId};
 use esr_progress::Work;
 use esr_results::ShardResult;
 use esr_reuse::{Planned, Plans, plan};
@@ -38,7 +38,7 @@ fn base_of<Q: Desk>(
     at: ShardId,
     uuid: Id,
     base: Option<Id>,
-) -> Result<ShardIndex, Trouble>
+) -> Result<ShardIndex, Trouble<Q::Stage, Q::Fetch>>
     requires mine { Q.holds desk.old ticket }
     requires at { IsAt (ticket_of Q.start (Q.seen desk.old) ticket) at.index.number at.number }
     requires undrawn { (ticket_of Q.start (Q.seen desk.old) ticket).drawn ≡ 0 }
@@ -61,12 +61,12 @@ fn base_of<Q: Desk>(
 }
 
 /// Reads the files for their prints, and plans what each reuses of the base.
-fn plan_files<S: Shard>(
+fn plan_files<Q: Desk, S: Shard>(
     alloc: Global,
     shard: &mut S,
     base: &ShardIndex,
     buf: &mut [u8],
-) -> Result<Plans, Trouble>
+) -> Result<Plans, Trouble<Q::Stage, Q::Fetch>>
     requires buffer { 0 < length buf.old }
     ensures buffer { length buf.new ≡ length buf.old }
     ensures origin { S.origin shard.new ≡ S.origin shard.old }
@@ -95,7 +95,7 @@ fn store<Q: Desk, S: Shard, G: Gate>(
     part_size: u64,
     gate: &G,
     buf: &mut [u8],
-) -> Result<(), Trouble>
+) -> Result<(), Trouble<Q::Stage, Q::Fetch>>
     requires mine { Q.holds desk.old ticket }
     requires drawn { HasDrawn Q.start (S.origin shard.old).files (S.listed shard.old) at.index.number at.number uuid base.now plans.now first.number (ticket_of Q.start (Q.seen desk.old) ticket) }
     requires room { first.number + (new_count plans.now + 1) < 2 ^ 128 }
@@ -105,6 +105,7 @@ fn store<Q: Desk, S: Shard, G: Gate>(
     requires buffer { 0 < length buf.old }
     ensures ok { OnOk result (HasDone Q.start (Q.seen desk.old) (Q.seen desk.new) ticket) }
     ensures trouble { IfErr result (Shown Q.Stage.faults Q.Fetch.faults (S.faults shard.new) (S.origin shard.old).files Q.start (Q.seen desk.new) ticket) }
+    ensures untold { IfErr result (IsChangeUntold Q.start (ticket_of Q.start (Q.seen desk.new) ticket)) }
     ensures origin { S.origin shard.new ≡ S.origin shard.old }
     ensures went { IfErr result (λ e. Went Q.start (Q.seen desk.old) (Q.seen desk.new) ticket) }
     ensures grew { Grew Q.start (Q.seen desk.old) (Q.seen desk.new) }
@@ -135,7 +136,7 @@ fn work<Q: Desk, S: Shard, G: Gate>(
     shard: &mut S,
     part_size: u64,
     gate: &G,
-) -> Result<(), Trouble>
+) -> Result<(), Trouble<Q::Stage, Q::Fetch>>
     requires mine { Q.holds desk.old ticket }
     requires unit { IsUnit Q.start (S.origin shard.old).files (S.origin shard.old).is_there at.index.number at.number uuid.number (option_map number_of base) (ticket_of Q.start (Q.seen desk.old) ticket) }
     requires few { at.number < 1024 }
@@ -143,13 +144,15 @@ fn work<Q: Desk, S: Shard, G: Gate>(
     requires sized { (1 ≤ part_size) × (part_size ≤ 2 ^ 30) }
     ensures ok { OnOk result (HasDone Q.start (Q.seen desk.old) (Q.seen desk.new) ticket) }
     ensures trouble { IfErr result (Shown Q.Stage.faults Q.Fetch.faults (S.faults shard.new) (S.origin shard.old).files Q.start (Q.seen desk.new) ticket) }
+    ensures untold { IfErr result (IsChangeUntold Q.start (ticket_of Q.start (Q.seen desk.new) ticket)) }
+    ensures origin { S.origin shard.new ≡ S.origin shard.old }
     ensures went { IfErr result (λ e. Went Q.start (Q.seen desk.old) (Q.seen desk.new) ticket) }
     ensures grew { Grew Q.start (Q.seen desk.old) (Q.seen desk.new) }
     ensures holds { Q.holds desk.new ticket }
 {
     let mut buf = [0; 65536];
     let index = base_of(alloc, desk, ticket, at, uuid, base)?;
-    let plans = plan_files(alloc, shard, &index, &mut buf)?;
+    let plans = plan_files::<Q, S>(alloc, shard, &index, &mut buf)?;
     let first = desk.draw(alloc, ticket, count_new(plans.as_slice()) + 1)?;
     store(
         alloc,
@@ -167,31 +170,9 @@ fn work<Q: Desk, S: Shard, G: Gate>(
     )
 }
 
-/// Why a trouble ends the ticket, or the refusal that leaves it out.
-fn why_of(at: ShardId, base: Option<Id>, trouble: Trouble) -> Result<Why, StepRefusal>
-    requires { trouble ≡ Base → IsSome base }
-    ensures { result ≡ why_by at base trouble }
-{
-    match trouble {
-        Trouble::Step(StepRefusal::Refused(EntryRefusal::DepotFault)) => Ok(Why::Depot),
-        Trouble::Step(refusal) => Err(refusal),
-        Trouble::Source => Ok(Why::Source),
-        Trouble::Stage | Trouble::Fetch => Ok(Why::Depot),
-        Trouble::Changed { first, second } => Ok(Why::Changed { first, second }),
-        Trouble::Base => {
-            let Some(base) = base else {
-                unreachable!();
-            };
-            Ok(Why::Damaged {
-                name: BlobName::ShardIndex(at, base),
-            })
-        }
-    }
-}
-
 /// Stores the files of a shard that its base doesn't have, the snapshot of the shard and its next index, and ends the ticket.
-/// Where an object failed, a file changed or the base is at fault, the ticket ends as failed.
-pub fn run_unit<Q: Desk, S: Sources, G: Gate>(
+/// Where an object failed, a file changed or the base is at fault, the ticket ends as failed, and the object is handed over.
+pub fn run_unit<Q: Desk<Shard = S::Shard>, S: Sources, G: Gate>(
     alloc: Global,
     desk: &mut Q,
     unit: &Unit,
@@ -206,7 +187,8 @@ pub fn run_unit<Q: Desk, S: Sources, G: Gate>(
     requires size { part_size ≡ Q.start.part_size }
     requires sized { (1 ≤ part_size) × (part_size ≤ 2 ^ 30) }
     ensures ok { OnOk result (HasDone Q.start (Q.seen desk.old) (Q.seen desk.new) unit.now.ready.ticket) }
-    ensures refused { IfErr result (IsUnitRefused Q.Stage.faults Q.Fetch.faults S.Shard.faults (told_of (S.files sources.now) unit.now.ready.work) Q.start (Q.seen desk.old) (Q.seen desk.new) unit.now.ready.ticket) }
+    ensures refused { IfErr result (IsUnitRefused (record { stage = Q.Stage.faults; fetch = Q.Fetch.faults; shard = Q.Shard.faults; target = Q.Target.faults; made_for = λ h. (Q.Shard.origin h).address })
+        (told_of (S.files sources.now) unit.now.ready.work) Q.start (Q.seen desk.old) (Q.seen desk.new) unit.now.ready.ticket) }
     ensures grew { Grew Q.start (Q.seen desk.old) (Q.seen desk.new) }
     ensures holds { Q.holds desk.new unit.now.ready.ticket }
 {
@@ -229,9 +211,9 @@ pub fn run_unit<Q: Desk, S: Sources, G: Gate>(
         alloc, desk, ticket, *at, *uuid, base, &mut shard, part_size, gate,
     ) {
         Ok(()) => Ok(()),
-        Err(trouble) => match why_of(*at, base, trouble) {
-            Ok(why) => {
-                desk.failed(alloc, ticket, why)?;
+        Err(trouble) => match cause_of(*at, base, shard, trouble) {
+            Ok(Cause { why, by }) => {
+                desk.failed(alloc, ticket, why, by)?;
                 Err(UnitRefusal::Failed(why))
             }
             Err(refusal) => Err(UnitRefusal::Stopped(refusal)),

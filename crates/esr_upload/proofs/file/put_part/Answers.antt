@@ -31,11 +31,9 @@ returns-in_err-named-clause-went g c =
     (begun_is s c.args.name c.begin.result (ticket_of s old c.args.ticket) (ticket_of s new c.args.ticket) c.requires.may c.begin.ensures.own)
 
 pub returns-in-Err-Stage-clause-trouble : goal.returns-in-Err-Stage-clause-trouble
-returns-in-Err-Stage-clause-trouble g c = (
-  c.copy_part.new.stage,
-  has_fault (g.Q.Stage.Counted.faults c.in_ok-named.named.stage) (g.Q.Stage.Counted.faults c.copy_part.new.stage) (is_of_stage {T = Bool} (Err c.in-Err-Stage.field-0)) c.in-Err-Stage.ensures.stage
-      (ap (λ (e : CopyError). is_of_stage {T = Bool} (Err e)) c.in-Err-Stage.field-0-is),
-)
+returns-in-Err-Stage-clause-trouble g c =
+    has_fault (g.Q.Stage.Counted.faults c.in_ok-named.named.stage) (g.Q.Stage.Counted.faults c.copy_part.new.stage) (is_of_stage {T = Bool} (Err c.in-Err-Stage.field-0)) c.in-Err-Stage.ensures.stage
+    (ap (λ (e : CopyError). is_of_stage {T = Bool} (Err e)) c.in-Err-Stage.field-0-is)
 
 pub commit-requires-clause-may : goal.commit-requires-clause-may
 commit-requires-clause-may g c =

@@ -27,7 +27,7 @@ returns-in_err-named-clause-went g c =
     begun_went s old new who (name_of c.args.name) c.begin.result c.requires.may.stored c.begin.ensures.step c.begin.ensures.own
 
 pub returns-then-is_err-clause-trouble : goal.returns-then-is_err-clause-trouble
-returns-then-is_err-clause-trouble g c = (c.write.new.self, has_risen _ _ _ c.write.ensures.cause (sym c.is_err.ensures.value ∙ c.if-is_err.true))
+returns-then-is_err-clause-trouble g c = has_risen _ _ _ c.write.ensures.cause (sym c.is_err.ensures.value ∙ c.if-is_err.true)
 
 pub returns-clause-ok : goal.returns-clause-ok
 returns-clause-ok g c =

@@ -1,10 +1,13 @@
-use Rattle.std.proofs.Common.{◌≡◌, ℕ, ◌+◌, ◌∙◌, refl, ap}
+use Rattle.std.proofs.Common.{◌≡◌, ℕ, ◌+◌, ◌∙◌, [], Some, refl, ap}
 use Rattle.esr_desk.specs.Start.{ticket_of}
 use Rattle.esr_upload.specs.Entries.{new_count}
 use Rattle.esr_upload.proofs.Ending.{done_on}
 use Rattle.esr_upload.proofs.Closing.{ready, drew_last, bad_end}
 use Rattle.esr_upload.specs.Refused.{HasDone}
+use Rattle.esr_upload.specs.Trouble.{Shown, IsChangeUntold}
 use Rattle.esr_upload.proofs.Shown.{shown_err, ok_on}
+use Rattle.esr_upload.proofs.Refusing.{passed}
+use Rattle.esr_upload.proofs.Untold.{on_err, no_change, change_untold}
 use Rattle.esr_upload.proofs.unit.store.Goals as goal
 
 pub finish-requires-clause-drew : goal.finish-requires-clause-drew
@@ -44,3 +47,22 @@ returns-clause-ok g c =
 pub returns-clause-trouble : goal.returns-clause-trouble
 returns-clause-trouble g c =
     shown_err c.finish.result g.Q.Stage.Counted.faults g.Q.Fetch.Counted.faults (g.S.Counted.faults c.store_files.new.shard) (g.S.Shard.origin c.args.shard.now).files g.Q.Desk.start (g.Q.Desk.seen c.finish.new.desk) c.args.ticket c.finish.ensures.trouble
+
+pub returns-in_err-entries-clause-untold : goal.returns-in_err-entries-clause-untold
+returns-in_err-entries-clause-untold g c =
+    let s = g.Q.Desk.start in
+    let who = c.args.ticket in
+    let old = g.Q.Desk.seen c.args.desk.now in
+    let new = g.Q.Desk.seen c.store_files.new.desk in
+    let refused = c.in_err-entries.ensures in
+    passed c.from_residual.result (IsChangeUntold s (ticket_of s new who)) c.in_err-entries.field-0.0 c.from_residual.ensures.1
+    (change_untold g.Q.Stage.Counted.faults g.Q.Fetch.Counted.faults (g.S.Counted.faults c.store_files.new.shard) (g.S.Shard.origin c.args.shard.now).files (g.S.Shard.listed c.args.shard.now) s old new who
+    c.args.at.index.number c.args.at.number c.args.uuid c.args.base.now c.args.plans.now c.args.first.number c.in_err-entries.field-0.0 c.requires.drawn refused.went refused.trouble)
+
+pub returns-clause-untold : goal.returns-clause-untold
+returns-clause-untold g c =
+    let s = g.Q.Desk.start in
+    let who = c.args.ticket in
+    let new = g.Q.Desk.seen c.finish.new.desk in
+    on_err c.finish.result (Shown g.Q.Stage.Counted.faults g.Q.Fetch.Counted.faults 0 (Some []) s new who) (IsChangeUntold s (ticket_of s new who))
+    (no_change g.Q.Stage.Counted.faults g.Q.Fetch.Counted.faults s new who (ticket_of s new who)) c.finish.ensures.trouble

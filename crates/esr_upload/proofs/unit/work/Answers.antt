@@ -1,14 +1,15 @@
-use Rattle.std.proofs.Common.{◌≡◌, ◌+◌, ◌∙◌, true, false, option_map, ap}
+use Rattle.std.proofs.Common.{◌≡◌, ◌+◌, ◌∙◌, [], true, false, Some, option_map, ap}
 use Rattle.esr_formats.specs.Ids.{number_of}
 use Rattle.esr_core.specs.Entry.{DrawStep, DrawnFrom}
 use Rattle.esr_names.specs.declared.ids.Id.{Id}
 use Rattle.esr_desk.specs.Start.{ticket_of}
 use Rattle.esr_upload.specs.Entries.{new_count}
-use Rattle.esr_upload.specs.Trouble.{Shown}
+use Rattle.esr_upload.specs.Trouble.{Shown, IsChangeUntold}
 use Rattle.esr_upload.proofs.Going.{went_on, grew_on, outcome_grew}
 use Rattle.esr_upload.proofs.Ending.{done_on, if_err, went_same}
 use Rattle.esr_upload.proofs.Drawing.{can_draw, has_drawn, drawn_for, drew_went, ok_on, err_on}
 use Rattle.esr_upload.proofs.Refusing.{passed}
+use Rattle.esr_upload.proofs.Untold.{no_change, read_once}
 use Rattle.esr_upload.proofs.unit.work.Goals as goal
 
 pub returns-in_err-index-clause-trouble : goal.returns-in_err-index-clause-trouble
@@ -87,3 +88,18 @@ store-requires-clause-drawn g c κs within =
     (has_drawn s origin.files origin.is_there listed i k c.args.uuid (option_map number_of c.args.base) index ps (ticket_of s (g.Q.Desk.seen c.args.desk.now) who) (ticket_of s (g.Q.Desk.seen c.base_of.new.desk) who)
     c.requires.unit c.in_ok-index.ensures.based c.in_ok-plans.ensures.planned (λ no_place. let failed : false ≡ true = c.in_ok-plans.ensures.absent no_place in cc)
     first c.count_new.result new (c.count_new.ensures.count ∙ ap new_count c.as_slice.ensures) c.in_ok-first.ensures.own)
+
+pub returns-in_err-index-clause-untold : goal.returns-in_err-index-clause-untold
+returns-in_err-index-clause-untold g c =
+    let s = g.Q.Desk.start in
+    let who = c.args.ticket in
+    let new = g.Q.Desk.seen c.base_of.new.desk in
+    passed c.from_residual.result (IsChangeUntold s (ticket_of s new who)) c.in_err-index.field-0.0 c.from_residual.ensures.1
+    (no_change g.Q.Stage.Counted.faults g.Q.Fetch.Counted.faults s new who (ticket_of s new who) c.in_err-index.field-0.0 (c.in_err-index.ensures.trouble 0 (Some [])))
+
+pub returns-in_err-plans-clause-untold : goal.returns-in_err-plans-clause-untold
+returns-in_err-plans-clause-untold g c =
+    let s = g.Q.Desk.start in
+    let t = ticket_of s (g.Q.Desk.seen c.base_of.new.desk) c.args.ticket in
+    passed c.from_residual-in_err-plans.result (IsChangeUntold s t) c.in_err-plans.field-0.0 c.from_residual-in_err-plans.ensures.1
+    (read_once (g.S.Counted.faults c.plan_files.new.shard) s t c.in_err-plans.field-0.0 c.in_err-plans.ensures.trouble)
