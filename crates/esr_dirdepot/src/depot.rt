@@ -26,7 +26,7 @@ impl<'a, R: Files<File = File> + Eprint + Drop> DirDepot<'a, R> {
 
     /// The container in that folder. Nothing on the disk is looked at, or made.
     pub fn new(rt: &'a R, alloc: Global, dir: &str) -> Result<DirDepot<'a, R>, AllocError>
-        ensures look { IfOk result (λ d. ⟦<DirDepot<'a, R> as Depot>⟧.look d ≡ untold 0) }
+        ensures clock { IfOk result (λ d. (⟦<DirDepot<'a, R> as Depot>⟧.look d).clock ≡ 0) }
         ensures count { IfOk result (λ d. ⟦<DirDepot<'a, R> as Counted>⟧.faults d ≡ 0) }
     {
         Ok(DirDepot {

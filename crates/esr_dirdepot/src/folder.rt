@@ -87,9 +87,11 @@ impl<'a, R: Files<File = File> + Eprint> Folder<'a, R> {
     }
 
     fn is_bare(&self) -> io::Result<bool> {
-        Ok(!fs::exists(self.files, self.paths.blobs.as_str())?
-            && !fs::exists(self.files, self.paths.stages.as_str())?
-            && !fs::exists(self.files, self.paths.record.as_str())?)
+        Ok(
+            !fs::exists(self.files, self.paths.blobs.as_str())?
+                && !fs::exists(self.files, self.paths.stages.as_str())?
+                && !fs::exists(self.files, self.paths.record.as_str())?,
+        )
     }
 
     /// Gives the folder up for good, and says so.
@@ -172,9 +174,7 @@ impl<'a, R: Files<File = File> + Eprint> Folder<'a, R> {
         let (from, to) = (stage.path.as_str(), self.paths.aimed.as_str());
         let answer = match fs::hard_link(self.files, from, to) {
             Ok(()) => Commit::Done,
-            Err(error)
-                if error.kind() == ErrorKind::AlreadyExists && has_file(self.files, to)? =>
-            {
+            Err(error) if error.kind() == ErrorKind::AlreadyExists && has_file(self.files, to)? => {
                 Commit::Exists
             }
             Err(error) => return Err(error),

@@ -1,7 +1,7 @@
 //! On a folder of the disk: what each call answers, whom the lock keeps out, and what a failed write leaves.
-use crate::stage::{DirStage, StageFile};
 use crate::DirDepot;
 use crate::failing::Failing;
+use crate::stage::{DirStage, StageFile};
 use esr_depot::{CallError, Counted, Depot, Fetch, Stage};
 use esr_seq::{Seq, Text};
 use std::alloc::Global;
@@ -109,49 +109,65 @@ fn answer<D: Depot>(
     }
 }
 
+/// A name of 133 bytes.
+const LONG: &str =
+    "esr_dirdepot_suite/a/b/esr_dirdepot_suite/a/b/esr_dirdepot_suite/a/b/esr_dirdepot_suite/a/b/esr_dirdepot_suite/a/b/esr_dirdepot_suite";
+
+/// Calls, with their names and texts, and what they are to answer.
+static SUITE: [(Call, &str, &str, &str); 33] = [
+    (Call::Record, "", "", "none"),
+    (Call::List, "", "", ""),
+    (Call::Fetch, "index-0", "", "none"),
+    (Call::Remove, "index-0", "", "ok"),
+    (Call::Commit, "indices/b/0/x", "bb", "Done"),
+    (Call::Commit, "indices/b/0/x", "other", "Exists"),
+    (Call::Fetch, "indices/b/0/x", "", "bb"),
+    (Call::Commit, "indices/a/1", "", "Done"),
+    (Call::Commit, "indices-0", "seven b", "Done"),
+    (Call::Replace, "index.latest", "1", "ok"),
+    (Call::Replace, "index.latest", "two", "ok"),
+    (Call::Fetch, "index.latest", "", "two"),
+    (Call::Fetch, "indices/a", "", "failed"),
+    (Call::Commit, "indices/a", "", "failed"),
+    (
+        Call::List,
+        "",
+        "",
+        "index.latest:3 indices-0:7 indices/a/1:0 indices/b/0/x:2 ",
+    ),
+    (Call::Record, "", "", "none"),
+    (Call::Swap, "", "term 1", "ok"),
+    (Call::Swap, "", "term 2", "ok"),
+    (Call::Record, "", "", "term 2"),
+    (Call::Remove, "indices/b/0/x", "", "ok"),
+    (Call::Remove, "indices/b/0/x", "", "ok"),
+    (Call::Fetch, "indices/b/0/x", "", "none"),
+    (Call::Remove, "indices/c/0/x", "", "ok"),
+    (Call::Commit, "../record", "", "failed"),
+    (Call::Replace, "a/../../record", "", "failed"),
+    (Call::Fetch, "/etc/passwd", "", "failed"),
+    (Call::Fetch, "indices//a/1", "", "failed"),
+    (Call::Remove, "indices/./a/1", "", "failed"),
+    (Call::Fetch, "indices-0\0", "", "failed"),
+    (Call::Fetch, "", "", "failed"),
+    (Call::Fetch, LONG, "", "failed"),
+    (Call::Record, "", "", "term 2"),
+    (
+        Call::List,
+        "",
+        "",
+        "index.latest:3 indices-0:7 indices/a/1:0 ",
+    ),
+];
+
 #[test]
 fn each_call_answers(rt: HostRuntime) -> Result<(), Fail> {
     let dir = "esr_dirdepot_suite/a/b/";
     let _ = fs::remove_dir_all(&rt, "esr_dirdepot_suite");
     let mut depot = DirDepot::new(&rt, rt.alloc(), dir)?;
-    let long = "esr_dirdepot_suite/a/b/esr_dirdepot_suite/a/b/esr_dirdepot_suite/a/b/esr_dirdepot_suite/a/b/esr_dirdepot_suite/a/b/esr_dirdepot_suite";
-    for (call, name, text, want) in [
-        (Call::Record, "", "", "none"),
-        (Call::List, "", "", ""),
-        (Call::Fetch, "index-0", "", "none"),
-        (Call::Remove, "index-0", "", "ok"),
-        (Call::Commit, "indices/b/0/x", "bb", "Done"),
-        (Call::Commit, "indices/b/0/x", "other", "Exists"),
-        (Call::Fetch, "indices/b/0/x", "", "bb"),
-        (Call::Commit, "indices/a/1", "", "Done"),
-        (Call::Commit, "indices-0", "seven b", "Done"),
-        (Call::Replace, "index.latest", "1", "ok"),
-        (Call::Replace, "index.latest", "two", "ok"),
-        (Call::Fetch, "index.latest", "", "two"),
-        (Call::Fetch, "indices/a", "", "failed"),
-        (Call::Commit, "indices/a", "", "failed"),
-        (Call::List, "", "", "index.latest:3 indices-0:7 indices/a/1:0 indices/b/0/x:2 "),
-        (Call::Record, "", "", "none"),
-        (Call::Swap, "", "term 1", "ok"),
-        (Call::Swap, "", "term 2", "ok"),
-        (Call::Record, "", "", "term 2"),
-        (Call::Remove, "indices/b/0/x", "", "ok"),
-        (Call::Remove, "indices/b/0/x", "", "ok"),
-        (Call::Fetch, "indices/b/0/x", "", "none"),
-        (Call::Remove, "indices/c/0/x", "", "ok"),
-        (Call::Commit, "../record", "", "failed"),
-        (Call::Replace, "a/../../record", "", "failed"),
-        (Call::Fetch, "/etc/passwd", "", "failed"),
-        (Call::Fetch, "indices//a/1", "", "failed"),
-        (Call::Remove, "indices/./a/1", "", "failed"),
-        (Call::Fetch, "indices-0\0", "", "failed"),
-        (Call::Fetch, "", "", "failed"),
-        (Call::Fetch, long, "", "failed"),
-        (Call::Record, "", "", "term 2"),
-        (Call::List, "", "", "index.latest:3 indices-0:7 indices/a/1:0 "),
-    ] {
-        let got = answer(rt.alloc(), &mut depot, (call, name, text))?;
-        assert_eq!(rt; got.as_str(), want, "{call:?} {name} {text}");
+    for (call, name, text, want) in &SUITE {
+        let got = answer(rt.alloc(), &mut depot, (*call, *name, *text))?;
+        assert_eq!(rt; got.as_str(), *want, "{call:?} {name} {text}");
     }
     assert_eq!(rt; depot.fault_count(), 10);
     fs::remove_dir_all(&rt, "esr_dirdepot_suite")?;
@@ -170,7 +186,12 @@ fn one_process_has_the_folder(rt: HostRuntime) -> Result<(), Fail> {
     let mut second = DirDepot::new(&rt, alloc, dir)?;
     for _ in 0..2 {
         assert!(rt; matches!(record(alloc, &mut second), Err(CallError::Failed)));
-        assert!(rt; matches!(put(alloc, &mut second, "a", "", true), Err(CallError::Failed)));
+        assert!(rt;
+            matches!(
+                put(alloc, &mut second, "a", "", true),
+                Err(CallError::Failed)
+            )
+        );
     }
     assert_eq!(rt; second.fault_count(), 4);
     drop(first);
@@ -185,21 +206,24 @@ fn one_process_has_the_folder(rt: HostRuntime) -> Result<(), Fail> {
     Ok(())
 }
 
-/// A run of calls, and how many of them fail.
+/// Calls that each go through, also if some of those before them have failed.
+static RUN: [(Call, &str, &str); 9] = [
+    (Call::Record, "", ""),
+    (Call::Swap, "", "term"),
+    (Call::Commit, "a/b", "one"),
+    (Call::Commit, "a/b", "two"),
+    (Call::Replace, "index.latest", "1"),
+    (Call::Fetch, "index.latest", ""),
+    (Call::List, "", ""),
+    (Call::Record, "", ""),
+    (Call::Remove, "a/b", ""),
+];
+
+/// Makes these calls, and tells how many of them fail.
 fn failures<D: Depot>(alloc: Global, depot: &mut D) -> Result<u64, CallError> {
     let mut failed = 0u64;
-    for step in [
-        (Call::Record, "", ""),
-        (Call::Swap, "", "term"),
-        (Call::Commit, "a/b", "one"),
-        (Call::Commit, "a/b", "two"),
-        (Call::Replace, "index.latest", "1"),
-        (Call::Fetch, "index.latest", ""),
-        (Call::List, "", ""),
-        (Call::Record, "", ""),
-        (Call::Remove, "a/b", ""),
-    ] {
-        if answer(alloc, depot, step)?.as_str() == "failed" {
+    for step in &RUN {
+        if answer(alloc, depot, *step)?.as_str() == "failed" {
             failed = failed.saturating_add(1);
         }
     }
