@@ -1,5 +1,5 @@
 -- What opening finds in a kept image.
-use Rattle.std.proofs.Common.{◌≡◌, ◌⊎◌, inl, inr, ℕ, suc, ◌-◌, ◌^◌, Bool, true, false, ◌==◌, ℤ, pos, negsuc, List, [], ◌∷◌, map, length, codes, Option, Some, None, option_map, Result, Ok, Err, refl, sym, ap, ◌∙◌, subst}
+use Rattle.std.proofs.Common.{◌≡◌, inl, inr, ℕ, suc, ◌-◌, ◌^◌, Bool, true, false, ◌==◌, ℤ, pos, negsuc, List, [], ◌∷◌, map, length, codes, Option, Some, None, option_map, Result, Ok, Err, refl, sym, ap, ◌∙◌, subst}
 use Rattle.std.specs.Prelude.{if◌then◌else◌, IfErr}
 use Rattle.std.specs.FinMap as fin
 use Rattle.std.specs.FinMap.{same_map, slice_cmp-IsAntisymmetric, nat_cmp-IsAntisymmetric}
@@ -11,7 +11,7 @@ use Rattle.esr_json.specs.declared.refusal.Reason.{Reason}
 use Rattle.esr_model.specs.Values.{Bytes, RootData, SnapInfo, ClusterRecord, IsOneEach}
 use Rattle.esr_model.specs.Shelf.{Shelved}
 use Rattle.esr_model.specs.Image.{AllPairs, At, SnapStands, RootStands, Picked, RootIs}
-use Rattle.esr_model.specs.Kept.{RootIds, first_id, IsEmpty, Recorded, Kept}
+use Rattle.esr_model.specs.Kept.{RootIds, first_id, IsEmpty, Recorded}
 use Rattle.esr_depot.specs.Image.{Image as Held, Blobs, sizes_of}
 use Rattle.esr_record.specs.Record.{Record}
 use Rattle.esr_record.specs.Reading.{record_from}
@@ -21,15 +21,14 @@ use Rattle.esr_root.specs.Reading.{root_from}
 use Rattle.esr_root.specs.declared.snaps.RootSnap.{RootSnap as CodeSnap}
 use Rattle.esr_meta.specs.Info.{Info, info_from}
 use Rattle.esr_formats.specs.Formats.{formats}
-use Rattle.esr_formats.specs.Names.{name_kind}
 use Rattle.esr_formats.specs.OneEach.{root_one_each}
 use Rattle.esr_formats.specs.Roots.{root_of, root_snap_of, root_kind}
 use Rattle.esr_formats.specs.Infos.{info_of_code, info_kind}
 use Rattle.esr_formats.specs.Clusters.{count_of, cluster_of, cluster_kind}
 use Rattle.esr_opening.specs.Agreement.{agrees, Agrees}
 use Rattle.esr_opening.specs.Foreign.{root_ids, first_from}
-use Rattle.esr_opening.specs.Found.{Obstacle, Damage, LastTerm, ◌>>=◌, readable, read_as, empty_record, without_record, record_in, root_name, root_in, safe_number, info_name, agreed, info_in, infos_in, known_by, known_ids, is_delete, no_delete, has_term, found}
-use Rattle.esr_opening.specs.Hindrances.{IsOpenDelete, IsNoDamage}
+use Rattle.esr_opening.specs.Found.{Obstacle, Damage, LastTerm, ◌>>=◌, readable, read_as, empty_record, without_record, record_in, root_name, safe_number, info_name, agreed, info_in, infos_in, known_by, known_ids, is_delete, no_delete, has_term, found}
+use Rattle.esr_opening.specs.Hindrances.{IsNoDamage}
 use Rattle.esr_opening.specs.KeptImages.{KeptImagesOpen}
 use Rattle.esr_opening.specs.Opening.{image_of}
 use Rattle.esr_opening.specs.Terms.{whole_root_in, own_checks}
