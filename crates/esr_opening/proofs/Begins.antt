@@ -1,5 +1,6 @@
 -- The next term begins, or its swap fails.
 use Rattle.std.proofs.Common.{◌≡◌, ◌⊎◌, inl, inr, ℕ, suc, ◌+◌, ◌-◌, ◌^◌, ◌<◌, ◌≤◌, true, Option, Some, None, option_map, Result, Ok, Err, refl, sym, ap, ◌∙◌, subst, ⊎_elim, arith, nat_cmp, List, length}
+use Rattle.std.specs.Prelude.{IfErr}
 use Rattle.std.specs.FinMap.{FinMap}
 use Rattle.std.specs.FinMap as fin
 use Rattle.esr_model.specs.Values.{Bytes, ReadsBack, ClusterRecord}
@@ -13,16 +14,19 @@ use Rattle.esr_record.specs.Record.{Record}
 use Rattle.esr_root.specs.Root.{Root}
 use Rattle.esr_formats.specs.Clusters.{cluster_of, cluster_kind}
 use Rattle.esr_progress.specs.Plan.{no_plan, seat_of, IsPlanOf}
-use Rattle.esr_opening.specs.Found.{found}
-use Rattle.esr_opening.specs.Opening.{Kept, IsKeptOf, world_in, opened_text, IsInOrder, IsLeftOf, IsOpening, IsAsBefore, SwapFailed, IsOpenRefused}
+use Rattle.esr_opening.specs.Found.{Obstacle, Damage, found}
+use Rattle.esr_opening.specs.Hindrances.{IsNoDamage}
+use Rattle.esr_opening.specs.Opening.{Kept, IsKeptOf, world_in, opened_text, IsInOrder, IsLeftOf, IsOpening, IsAsBefore, SwapFailed, SparesKept, IsOpenRefused}
 use Rattle.esr_opening.specs.Looked.{Looked, Refuses}
 use Rattle.esr_opening.specs.Terms.{IsFit, next_term, term_text, MayHave, NotBegun}
+use Rattle.esr_opening.specs.declared.refusal.Why.{Why}
 use Rattle.esr_opening.specs.declared.refusal.OpenRefusal.{OpenRefusal}
 use Rattle.esr_opening.specs.declared.refusal.OpenRefusal.TheVariants as refusals
 use Rattle.esr_opening.proofs.Answering.{fault_before}
 use Rattle.esr_opening.proofs.Looking.{looked_on}
 use Rattle.esr_opening.proofs.Fitting.{fit_kept, record_is, plus_one}
 use Rattle.esr_opening.proofs.Opens.{found_opens}
+use Rattle.esr_opening.proofs.KeptFinds.{kept_opens}
 
 -- ---- what is kept
 
@@ -79,11 +83,14 @@ begun before mid after x y cluster next root looked finds fit order is swapped b
       left = left_by before mid after cluster root fit looked.kept left;
     }
 
+spares_kept : (held : Option Held) (name : Bytes) (why : Why) → ((i : Held) → held ≡ Some i → found i ≡ Err (Damage name why)) → SparesKept held name why
+spares_kept held name why finds i known told shelf here kept = subst (λ (r : Result (Record × Root) Obstacle). IfErr r IsNoDamage) (finds i here) (kept_opens known told i shelf kept)
+
 -- what was found is refused
 pub find_refused : {F : Type 0} (faults : F → ℕ) (before after : Look) (x y : ℕ) (e : OpenRefusal F) → Looked before after x y → Refuses faults (now before) x y found e → IsOpenRefused faults before after x y e
 find_refused faults before after x y refusals.Memory looked h = looked.kept
 find_refused faults before after x y (refusals.DepotFault fetch) looked h = (h, inl looked.kept)
-find_refused faults before after x y (refusals.Damaged name why) looked h = (looked.kept, h)
+find_refused faults before after x y (refusals.Damaged name why) looked h = (looked.kept, h, spares_kept (now before) name why h)
 find_refused faults before after x y (refusals.TermsSpent term) looked h = (looked.kept, h)
 
 as_before_on : (a b c : Look) → IsAsBefore a b → IsAsBefore b c → IsAsBefore a c

@@ -1,18 +1,20 @@
 -- The ids of a root, and the first of them that isn't below a bound.
 use Rattle.std.proofs.Common.{◌≡◌, ◌⊎◌, inl, inr, ℕ, zero, suc, ◌<◌, Bool, true, false, ◌==◌, List, [], ◌∷◌, ◌++◌, map, Option, Some, None, option_map, length, drop, get_or, ◌+◌, refl, sym, ap, ◌∙◌, subst, ⊎_elim, nat_lt}
 use Rattle.std.specs.Prelude.{if◌then◌else◌}
-use Rattle.std.proofs.lemmas.Bool.{cases_Bool, ltb-true}
+use Rattle.std.proofs.lemmas.Bool.{cases_Bool, ltb-true, lt-ltb}
 use Rattle.esr_names.specs.declared.ids.Id.{Id}
 use Rattle.esr_root.specs.declared.snaps.RootSnap.{RootSnap as CodeSnap}
 use Rattle.esr_root.specs.declared.indices.RootIndex.{RootIndex as CodeIndex}
-use Rattle.esr_model.specs.Values.{Has, RootSnap, RootIndex}
+use Rattle.esr_model.specs.Values.{Has, RootSnap, RootIndex, RootData, IsOneEach}
 use Rattle.esr_model.specs.Image.{index_at, at_shard, at_shard_of}
+use Rattle.esr_model.specs.Kept.{RootIds}
 use Rattle.esr_formats.specs.Ids.{number_of}
 use Rattle.std.proofs.lemmas.List.{drop_more}
 use Rattle.esr_root.specs.Root.{Root}
 use Rattle.esr_formats.specs.Roots.{root_of, root_snap_of, root_index_of}
 use Rattle.esr_opening.specs.Foreign.{generation_ids, index_ids, snapshot_ids, root_ids, first_from}
-use Rattle.esr_opening.proofs.Members.{in_left, in_right}
+use Rattle.esr_opening.proofs.Members.{in_left, in_right, in_either}
+use Rattle.esr_opening.proofs.Served.{index_found}
 
 -- ---- none is at the bound or above it
 
@@ -25,6 +27,10 @@ all_below bound [] none id h = absurd h
 all_below bound (x ∷ ids) none id h =
     let first = split_first (nat_lt x bound) (first_from bound ids) x none in
     ⊎_elim (λ here. subst (λ n. n < bound) here (ltb-true x bound first.0)) (λ later. all_below bound ids first.1 id later) h
+
+pub first_none : (bound : ℕ) (ids : List ℕ) → ((id : ℕ) → Has ids id → id < bound) → first_from bound ids ≡ None
+first_none bound [] below = refl
+first_none bound (x ∷ ids) below = ap (λ (b : Bool). if b then first_from bound ids else Some x) (lt-ltb x bound (below x (inl refl))) ∙ first_none bound ids (λ id has. below id (inr has))
 
 -- ---- which ids there are
 
@@ -56,6 +62,46 @@ generation_in_indices (x ∷ xs) i k g h =
           let later : at_shard_of (index_at xs i) k ≡ Some g = sym (ap (λ (b : Bool). at_shard_of (if b then Some x else index_at xs i) k) other) ∙ h in
           inr (in_right (generation_ids x.generations) (index_ids xs) g (generation_in_indices xs i k g later))
     ]
+
+-- ---- whose they are
+
+uuid_of : (snaps : List RootSnap) (id : ℕ) → Has (snapshot_ids snaps) id → (s : RootSnap) × Has snaps s × (s.uuid ≡ id)
+uuid_of [] id none = absurd none
+uuid_of (x ∷ xs) id (inl here) = (x, inl refl, here)
+uuid_of (x ∷ xs) id (inr later) = let s = uuid_of xs id later in (s.0, inr s.1, s.2)
+
+generation_of : (gs : List (Option ℕ)) (id : ℕ) → Has (generation_ids gs) id → (k : ℕ) × (at_shard gs k ≡ Some id)
+generation_of [] id none = absurd none
+generation_of (None ∷ gs) id has = let k = generation_of gs id has in (suc k.0, k.1)
+generation_of (Some g ∷ gs) id (inl here) = (zero, ap (λ (n : ℕ). Some n) here)
+generation_of (Some g ∷ gs) id (inr later) = let k = generation_of gs id later in (suc k.0, k.1)
+
+-- the id of an index, or a generation of it
+index_of : (xs : List RootIndex) (id : ℕ) → Has (index_ids xs) id → (x : RootIndex) × Has xs x × ((x.id ≡ id) ⊎ Has (generation_ids x.generations) id)
+index_of [] id none = absurd none
+index_of (x ∷ xs) id (inl here) = (x, inl refl, inl here)
+index_of (x ∷ xs) id (inr later) = elim (in_either (generation_ids x.generations) (index_ids xs) id later) [
+  | inl own ↦ (x, inl refl, inr own)
+  | inr rest ↦ let i = index_of xs id rest in (i.0, inr i.1, i.2)
+]
+
+index_id_below : (root : RootData) (bound : ℕ) → IsOneEach root.indices → RootIds root bound → (id : ℕ) (x : RootIndex) → Has root.indices x → (x.id ≡ id) ⊎ Has (generation_ids x.generations) id → id < bound
+index_id_below root bound one ids id x has (inl own) = subst (λ n. n < bound) own (ids.ids x has)
+index_id_below root bound one ids id x has (inr generation) =
+    let k = generation_of x.generations id generation in
+    let y = index_found root.indices x has in
+    let same : y.0 ≡ x = one y.0 x y.2 has y.3 in
+    ids.generations x.id k.0 id (ap (λ (o : Option RootIndex). at_shard_of o k.0) (y.1 ∙ ap (λ (z : RootIndex). Some z) same) ∙ k.1)
+
+id_below : (root : RootData) (bound : ℕ) → IsOneEach root.indices → RootIds root bound → (id : ℕ) → Has (root_ids root) id → id < bound
+id_below root bound one ids id has = elim (in_either (snapshot_ids root.snapshots) (index_ids root.indices) id has) [
+  | inl uuid ↦ let s = uuid_of root.snapshots id uuid in subst (λ n. n < bound) s.2 (ids.snapshots s.0 s.1)
+  | inr index ↦ let x = index_of root.indices id index in index_id_below root bound one ids id x.0 x.1 x.2
+]
+
+-- a root with one index to each id, all of whose ids lie below a bound
+pub none_foreign : (root : RootData) (bound : ℕ) → IsOneEach root.indices → RootIds root bound → first_from bound (root_ids root) ≡ None
+none_foreign root bound one ids = first_none bound (root_ids root) (id_below root bound one ids)
 
 -- ---- the first of two lists
 

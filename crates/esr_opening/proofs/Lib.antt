@@ -9,3 +9,5 @@ pub mod Steps
 pub mod Opens
 pub mod Begins
 pub mod Finding
+pub mod Shards
+pub mod KeptFinds

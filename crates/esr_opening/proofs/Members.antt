@@ -26,6 +26,11 @@ pub in_right : {A : Type 0} (xs ys : List A) (x : A) → Has ys x → Has (xs ++
 in_right [] ys x there = there
 in_right (y ∷ xs) ys x there = inr (in_right xs ys x there)
 
+pub in_either : {A : Type 0} (xs ys : List A) (x : A) → Has (xs ++ ys) x → Has xs x ⊎ Has ys x
+in_either [] ys x has = inr has
+in_either (y ∷ xs) ys x (inl here) = inl (inl here)
+in_either (y ∷ xs) ys x (inr later) = elim (in_either xs ys x later) [ inl left ↦ inl (inr left) | inr right ↦ inr right ]
+
 -- ---- what holds of each
 
 pub both : (a b : Bool) → (a && b) ≡ true → (a ≡ true) × (b ≡ true)

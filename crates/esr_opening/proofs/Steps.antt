@@ -82,7 +82,7 @@ no_whole_root blobs safe o fails = then_err (root_in blobs safe) (λ (r : Root).
 
 -- ---- all of it
 
-abbrev both_of : Record → Root → Unit {0} → Result (Record × Root) Obstacle
+abbrev pub both_of : Record → Root → Unit {0} → Result (Record × Root) Obstacle
 both_of c r x = Ok (c, r)
 
 by_term : (cluster : Record) (root : Root) (ids ops : Result (Unit {0}) Obstacle)
@@ -120,7 +120,7 @@ found_record i cluster there = found_is i ∙ then_ok (record_in i.blobs i.text)
 pub no_found_root : (i : Held) (cluster : Record) (o : Obstacle) → record_in i.blobs i.text ≡ Ok cluster → whole_root_in i.blobs cluster.safe ≡ Err o → found i ≡ Err o
 no_found_root i cluster o there root_fails = found_record i cluster there ∙ then_err (whole_root_in i.blobs cluster.safe) (λ (r : Root). own_checks cluster r >>= both_of cluster r) o root_fails
 
-found_root : (i : Held) (cluster : Record) (root : Root) → record_in i.blobs i.text ≡ Ok cluster → whole_root_in i.blobs cluster.safe ≡ Ok root → found i ≡ (own_checks cluster root >>= both_of cluster root)
+pub found_root : (i : Held) (cluster : Record) (root : Root) → record_in i.blobs i.text ≡ Ok cluster → whole_root_in i.blobs cluster.safe ≡ Ok root → found i ≡ (own_checks cluster root >>= both_of cluster root)
 found_root i cluster root there root_there = found_record i cluster there ∙ then_ok (whole_root_in i.blobs cluster.safe) (λ (r : Root). own_checks cluster r >>= both_of cluster r) root root_there
 
 pub no_found_own : (i : Held) (cluster : Record) (root : Root) (o : Obstacle) → record_in i.blobs i.text ≡ Ok cluster → whole_root_in i.blobs cluster.safe ≡ Ok root → own_checks cluster root ≡ Err o → found i ≡ Err o

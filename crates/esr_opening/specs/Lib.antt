@@ -1,7 +1,9 @@
 pub mod Agreement
 pub mod Foreign
 pub mod Found
+pub mod Hindrances
 pub mod Opening
+pub mod KeptImages
 pub mod Refusals
 pub mod Looked
 pub mod Terms

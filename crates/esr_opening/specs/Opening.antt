@@ -2,7 +2,9 @@
 use Rattle.std.specs.Prelude.{◌≡◌, ◌⊎◌, ℕ, ◌-◌, ◌^◌, ◌<◌, ◌≤◌, Bool, true, List, Option, Some, None, Ok, Err}
 use Rattle.std.specs.FinMap as fin
 use Rattle.esr_model.specs.Values.{Bytes, ReadsBack, RootData, ClusterRecord}
+use Rattle.esr_model.specs.Shelf.{Shelved}
 use Rattle.esr_model.specs.Image.{Blobs, Image}
+use Rattle.esr_model.specs.Kept.{Kept as IsKept}
 use Rattle.esr_core.specs.World.{World, record_of, opened, Opened}
 use Rattle.esr_core.specs.Tracked.{Tracked}
 use Rattle.esr_core.specs.Ranked.{Ranked}
@@ -17,6 +19,8 @@ use Rattle.esr_formats.specs.Roots.{root_of}
 use Rattle.esr_formats.specs.Clusters.{cluster_of, cluster_kind}
 use Rattle.esr_progress.specs.Plan.{Plan, IsPlanOf}
 use Rattle.esr_opening.specs.Found.{Damage, LastTerm, found}
+use Rattle.esr_opening.specs.Hindrances.{IsOpenDelete}
+use Rattle.esr_opening.specs.declared.refusal.Why.{Why}
 use Rattle.esr_opening.specs.declared.refusal.OpenRefusal.{OpenRefusal}
 use Rattle.esr_opening.specs.declared.refusal.OpenRefusal.TheVariants as refusals
 
@@ -104,9 +108,16 @@ HasFailed faults (Some fetch) = 0 < faults fetch
 abbrev pub IsFault : {F : Type 0} → (F → ℕ) → ℕ → ℕ → Option F → Type 0
 IsFault faults old_faults new_faults fetch = HasCause old_faults new_faults true ⊎ HasFailed faults fetch
 
--- Why a container wasn't opened; it counts faults. Where it tells, a refusal is what opening finds.
+-- In an image that is kept for a shelf nothing is damaged: a delete is open.
+abbrev pub SparesKept : Option Held → Bytes → Why → Type 0
+SparesKept held name why =
+    (i : Held) (known : Bytes → Bytes → ℕ → Bool) (told : Bytes → Bytes → ℕ → List (Bytes × Bytes)) (shelf : List Shelved) → held ≡ Some i
+    → IsKept (formats known told) (image_of i) shelf → IsOpenDelete name why
+
+-- Why a container wasn't opened; it counts faults. Where it tells, a refusal is what opening finds, and no kept image is damaged.
 abbrev pub IsOpenRefused : {F : Type 0} → (F → ℕ) → Look → Look → ℕ → ℕ → OpenRefusal F → Type 0
 IsOpenRefused faults before after old_faults new_faults refusals.Memory = IsAsBefore before after
 IsOpenRefused faults before after old_faults new_faults (refusals.DepotFault fetch) = IsFault faults old_faults new_faults fetch × (IsAsBefore before after ⊎ SwapFailed before after)
-IsOpenRefused faults before after old_faults new_faults (refusals.Damaged name why) = IsAsBefore before after × ((i : Held) → now before ≡ Some i → found i ≡ Err (Damage name why))
+IsOpenRefused faults before after old_faults new_faults (refusals.Damaged name why) =
+    IsAsBefore before after × ((i : Held) → now before ≡ Some i → found i ≡ Err (Damage name why)) × SparesKept (now before) name why
 IsOpenRefused faults before after old_faults new_faults (refusals.TermsSpent term) = IsAsBefore before after × ((i : Held) → now before ≡ Some i → found i ≡ Err (LastTerm term))

@@ -1,8 +1,18 @@
 use Rattle.esr_depot.specs.Look.{now}
 use Rattle.esr_opening.specs.Opening.{IsOpenRefused}
 use Rattle.esr_opening.proofs.Answering.{err_passed}
-use Rattle.esr_opening.proofs.Begins.{begun, not_begun}
+use Rattle.esr_opening.proofs.Begins.{begun, find_refused, not_begun}
 use Rattle.esr_opening.proofs.opening.open_in_place.Goals as goal
+
+pub returns-in_err-cluster-clause-refused : goal.returns-in_err-cluster-clause-refused
+returns-in_err-cluster-clause-refused g c =
+    let faults = g.D.Fetch.Counted.faults in
+    let before = g.D.Depot.look c.args.depot.now in
+    let mid = g.D.Depot.look c.find.new.depot in
+    let x = g.D.Counted.faults c.args.depot.now in
+    let y = g.D.Counted.faults c.find.new.depot in
+    err_passed c.from_residual.result (IsOpenRefused faults before mid x y) c.in_err-cluster.field-0.0 c.from_residual.ensures.1
+    (find_refused faults before mid x y c.in_err-cluster.field-0.0 c.find.ensures.looked c.in_err-cluster.ensures.answer)
 
 pub returns-in_err-next-clause-refused : goal.returns-in_err-next-clause-refused
 returns-in_err-next-clause-refused g c =
