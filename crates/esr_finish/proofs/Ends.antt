@@ -90,9 +90,10 @@ by_stage s faults mid who e stage is refused log waited = inl (stage, subst (IsP
 -- the ticket's last step, in which the container failed
 pub fault_was : {S : Type 0} (faults : S → ℕ) (mid : List Moment) (who : ℕ) (e : PutRefusal S) (r : StepRefusal) (x : EntryRefusal) → e ≡ puts.Step r → r ≡ steps.Refused x → x ≡ refusals.DepotFault
     → IsPutRefused faults mid who e → WasPutRefused mid who (Some DepotFault)
-fault_was {S} faults mid who e r x e_is r_is x_is refused =
-    let is : e ≡ puts.Step {S = S} (steps.Refused refusals.DepotFault) = e_is ∙ ap (λ (q : StepRefusal). puts.Step {S = S} q) (r_is ∙ ap steps.Refused x_is) in
-    subst (IsPutRefused faults mid who) is refused
+fault_was faults mid who e r x e_is r_is x_is refused =
+    let r_was : r ≡ steps.Refused refusals.DepotFault = r_is ∙ ap steps.Refused x_is in
+    let was : WasPutRefused mid who (told_refusal r) = subst (IsPutRefused faults mid who) e_is refused in
+    subst (λ (q : StepRefusal). WasPutRefused mid who (told_refusal q)) r_was was
 
 pub by_step : {S : Type 0} (s : Start) (faults : S → ℕ) (mid : List Moment) (who : ℕ) → WasPutRefused mid who (Some DepotFault) → (log : List Moment) → Waited s mid log who → HasFault s faults log who
 by_step s faults mid who was log waited = inr (record { front = mid; step = was.0; refused = was.1; matters = was.2 refl; waited = waited })
@@ -105,7 +106,7 @@ matters_of (Finalize info shards made) step h = h
 matters_of (Deleting uuids plan) step h = h
 matters_of Drop step h = h
 
-pub step_shown : {S F H T : Type 0} (c : Counts S F H T) (s : Start) (log : List Moment) (who : ℕ) → WasPutRefused log who (Some DepotFault) → IsShown c s log who OfDepot (by.Entry {S = S} {F = F} {H = H} {T = T})
+pub step_shown : {S F H T : Type 0} (c : Counts S F H T) (s : Start) (log : List Moment) (who : ℕ) → WasPutRefused log who (Some DepotFault) → IsShown c s log who OfDepot by.Entry
 step_shown c s log who was = record {
   front = was.1.front;
   moment = record { entry = record { who = who; step = was.0; reply = Refused DepotFault }; image = was.1.image };
