@@ -19,7 +19,7 @@ invariant_of-self-in-Ok g c =
       made_whole b g.K.Told.past c.self.invariant.0.past (g.met.D.Depot.only_now c.begin.new.self)
       (begin_ok b (g.D.Depot.look c.begin.new.self) c.args.who (name_of c.args.name) c.requires.may c.write_name.ensures.reads c.in-Ok.stage c.in-Ok.ensures.call c.reserve.new.self.items c.push_reserved.new.self.items
       (record { reserved = c.reserve.ensures.items; pushed = c.push_reserved.ensures.items })),
-      unfailed_faults c.self.invariant.1 p (g.D.Counted.faults c.begin.new.self) (g.D.Counted.faults c.begin.new.self) refl c.in-Ok.ensures.cause.later,
+      unfailed_faults c.self.invariant.1 p (g.D.Counted.faults c.begin.new.self) refl c.in-Ok.ensures.cause.later,
     )
 
 pub returns-in-Ok-clause-step : goal.returns-in-Ok-clause-step

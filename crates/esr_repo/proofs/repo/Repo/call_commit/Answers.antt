@@ -21,7 +21,7 @@ invariant_of-self-in-Ok-Done g c =
     (
       made_whole b g.K.Told.past c.self.invariant.0.past (g.met.D.Depot.only_now c.commit.new.self)
       (commit_done b (g.D.Depot.look c.commit.new.self) c.args.who (name_of c.args.stage.name) (g.D.Stage.Stage.contents c.args.stage.stage) c.requires.may.0 c.requires.may.1 c.requires.may.2 c.reads_back.ensures (g.D.Stage.Stage.name c.args.stage.stage) c.args.stage.named c.in-Ok-Done.field-0 c.in-Ok-Done.field-0-is c.in-Ok-Done.ensures.call c.reserve.new.self.items c.push_reserved.new.self.items (record { reserved = c.reserve.ensures.items; pushed = c.push_reserved.ensures.items })).0,
-      unfailed_faults c.self.invariant.1 p (g.D.Counted.faults c.commit.new.self) (g.D.Counted.faults c.commit.new.self) refl c.in-Ok-Done.ensures.cause.later,
+      unfailed_faults c.self.invariant.1 p (g.D.Counted.faults c.commit.new.self) refl c.in-Ok-Done.ensures.cause.later,
     )
 
 pub returns-in-Ok-Done-clause-step : goal.returns-in-Ok-Done-clause-step
@@ -42,7 +42,7 @@ invariant_of-self-then-is_metadata g c =
     (
       made_whole b g.K.Told.past c.self.invariant.0.past (g.met.D.Depot.only_now c.commit.new.self)
       (commit_found b (g.D.Depot.look c.commit.new.self) c.args.who (name_of c.args.stage.name) (g.D.Stage.Stage.contents c.args.stage.stage) c.requires.may.0 c.requires.may.1 c.requires.may.2 c.reads_back.ensures (g.D.Stage.Stage.name c.args.stage.stage) c.args.stage.named c.in-Ok-Exists.field-0 c.in-Ok-Exists.field-0-is c.in-Ok-Exists.ensures.call (c.is_metadata.ensures.yes_it_is c.if-is_metadata.true) c.reserve.new.self.items c.push_reserved-then-is_metadata.new.self.items (record { reserved = c.reserve.ensures.items; pushed = c.push_reserved-then-is_metadata.ensures.items })),
-      unfailed_faults c.self.invariant.1 p (g.D.Counted.faults c.commit.new.self) (g.D.Counted.faults c.commit.new.self) refl c.in-Ok-Exists.ensures.cause.later,
+      unfailed_faults c.self.invariant.1 p (g.D.Counted.faults c.commit.new.self) refl c.in-Ok-Exists.ensures.cause.later,
     )
 
 pub returns-then-is_metadata-clause-step : goal.returns-then-is_metadata-clause-step
@@ -62,7 +62,7 @@ invariant_of-self-in-Ok-Exists g c =
     (
       made_whole b g.K.Told.past c.self.invariant.0.past (g.met.D.Depot.only_now c.commit.new.self)
       (commit_taken b (g.D.Depot.look c.commit.new.self) c.args.who (name_of c.args.stage.name) (g.D.Stage.Stage.contents c.args.stage.stage) c.requires.may.0 c.requires.may.1 c.requires.may.2 c.reads_back.ensures (g.D.Stage.Stage.name c.args.stage.stage) c.args.stage.named c.in-Ok-Exists.field-0 c.in-Ok-Exists.field-0-is c.in-Ok-Exists.ensures.call (c.is_metadata.ensures.it_is_not c.if-is_metadata.false) c.reserve.new.self.items c.push_reserved-in-Ok-Exists.new.self.items (record { reserved = c.reserve.ensures.items; pushed = c.push_reserved-in-Ok-Exists.ensures.items })),
-      unfailed_faults c.self.invariant.1 p (g.D.Counted.faults c.commit.new.self) (g.D.Counted.faults c.commit.new.self) refl c.in-Ok-Exists.ensures.cause.later,
+      unfailed_faults c.self.invariant.1 p (g.D.Counted.faults c.commit.new.self) refl c.in-Ok-Exists.ensures.cause.later,
     )
 
 pub returns-else-is_metadata-clause-step : goal.returns-else-is_metadata-clause-step

@@ -21,7 +21,7 @@ invariant_of-self-in-Ok-Some g c =
     (
       made_whole b g.K.Told.past c.self.invariant.0.past (g.met.D.Depot.only_now c.fetch.new.self)
       (fetch_found b (g.D.Depot.look c.fetch.new.self) c.args.who (name_of c.args.name) c.requires.may c.write_name.ensures.reads c.as_str.result.now (c.as_str.ensures.text ∙ c.in_ok-text.ensures.text) c.in-Ok-Some.field-0 c.in-Ok-Some.fetch c.in-Ok-Some.field-0-is c.in-Ok-Some.ensures.present c.in-Ok-Some.ensures.call c.reserve.new.self.items c.push_reserved.new.self.items (record { reserved = c.reserve.ensures.items; pushed = c.push_reserved.ensures.items })),
-      unfailed_faults c.self.invariant.1 p (g.D.Counted.faults c.fetch.new.self) (g.D.Counted.faults c.fetch.new.self) refl c.in-Ok-Some.ensures.cause.later,
+      unfailed_faults c.self.invariant.1 p (g.D.Counted.faults c.fetch.new.self) refl c.in-Ok-Some.ensures.cause.later,
     )
 
 pub returns-in-Ok-Some-clause-step : goal.returns-in-Ok-Some-clause-step
@@ -46,7 +46,7 @@ invariant_of-self-in-Ok-None g c =
     (
       made_whole b g.K.Told.past c.self.invariant.0.past (g.met.D.Depot.only_now c.fetch.new.self)
       (fetch_absent b (g.D.Depot.look c.fetch.new.self) c.args.who (name_of c.args.name) c.requires.may c.write_name.ensures.reads c.as_str.result.now (c.as_str.ensures.text ∙ c.in_ok-text.ensures.text) c.in-Ok-None.field-0 c.in-Ok-None.field-0-is (c.in-Ok-None.ensures.absent (ap Ok c.in-Ok-None.field-0-is)) c.in-Ok-None.ensures.call c.reserve.new.self.items c.push_reserved-in-Ok-None.new.self.items (record { reserved = c.reserve.ensures.items; pushed = c.push_reserved-in-Ok-None.ensures.items })),
-      unfailed_faults c.self.invariant.1 p (g.D.Counted.faults c.fetch.new.self) (g.D.Counted.faults c.fetch.new.self) refl c.in-Ok-None.ensures.cause.later,
+      unfailed_faults c.self.invariant.1 p (g.D.Counted.faults c.fetch.new.self) refl c.in-Ok-None.ensures.cause.later,
     )
 
 pub returns-in-Ok-None-clause-step : goal.returns-in-Ok-None-clause-step

@@ -17,7 +17,7 @@ invariant_of-self-in-Ok g c =
     (
       made_whole b g.K.Told.past c.self.invariant.0.past (g.met.D.Depot.only_now c.replace.new.self)
       (replace_ok b (g.D.Depot.look c.replace.new.self) c.args.who (g.D.Stage.Stage.contents c.args.stage.stage) c.requires.may.0 c.requires.may.1 c.requires.may.2 latest_back (g.D.Stage.Stage.name c.args.stage.stage) (latest_named c.args.stage.name (g.D.Stage.Stage.name c.args.stage.stage) c.args.stage.named c.requires.name) c.in-Ok.field-0 c.in-Ok.ensures.call c.reserve.new.self.items c.push_reserved.new.self.items (record { reserved = c.reserve.ensures.items; pushed = c.push_reserved.ensures.items })),
-      unfailed_faults c.self.invariant.1 p (g.D.Counted.faults c.replace.new.self) (g.D.Counted.faults c.replace.new.self) refl c.in-Ok.ensures.cause.later,
+      unfailed_faults c.self.invariant.1 p (g.D.Counted.faults c.replace.new.self) refl c.in-Ok.ensures.cause.later,
     )
 
 pub returns-in-Ok-clause-step : goal.returns-in-Ok-clause-step

@@ -26,7 +26,7 @@ invariant_of-self g c =
       c.in-Ok.field-0 c.in-Ok.ensures.call c.put_record.new.history.items c.push_reserved.new.self.items (record { reserved = c.in-Ok.ensures.entries; pushed = c.push_reserved.ensures.items })
       (record { cluster = c.keep.new.cluster; root = c.keep.new.root; plan = c.keep.new.progress; next = c.keep.new.next.number })
       (record { cluster_new = c.keep.ensures.cluster; root_new = c.keep.ensures.root; plan_new = c.keep.ensures.progress; next_new = ap (λ (n : Id). n.number) c.keep.ensures.next })),
-      unfailed_faults c.self.invariant.1 p (g.D.Counted.faults c.put_record.new.depot) (g.D.Counted.faults c.put_record.new.depot) (told_none (answer_of c.args.answer) c.requires.may.answers) c.in-Ok.ensures.cause.later,
+      unfailed_faults c.self.invariant.1 p (g.D.Counted.faults c.put_record.new.depot) (told_none (answer_of c.args.answer) c.requires.may.answers) c.in-Ok.ensures.cause.later,
     )
 
 pub returns-in-Ok-clause-step : goal.returns-in-Ok-clause-step
