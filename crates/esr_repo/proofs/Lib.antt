@@ -14,3 +14,4 @@ pub mod Swapping
 pub mod Accepts
 pub mod Taken
 pub mod Doing
+pub mod Failing

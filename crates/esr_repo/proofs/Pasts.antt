@@ -37,14 +37,14 @@ tails : {A : Type 0} (x y : A) (xs ys : List A) → x ∷ xs ≡ y ∷ ys → (x
 tails x y xs ys e = (cc, cc)
 
 -- a list with one more entry is cut behind that entry, or before it
-abbrev IsCut : List Entry → Entry → List Entry → List Entry → Type 0
+abbrev pub IsCut : List Entry → Entry → List Entry → List Entry → Type 0
 IsCut es e front back = ((front ≡ es ++ e ∷ []) × (back ≡ [])) ⊎ ((rest : List Entry) × (es ≡ front ++ rest) × (back ≡ rest ++ e ∷ []))
 
 cut_longer : (y x : Entry) (es : List Entry) (e : Entry) (front back : List Entry) → y ≡ x → IsCut es e front back → IsCut (y ∷ es) e (x ∷ front) back
 cut_longer y x es e front back same (inl end) = inl (ap (λ (z : Entry). z ∷ front) (sym same) ∙ ap (λ (l : List Entry). y ∷ l) end.0, end.1)
 cut_longer y x es e front back same (inr c) = inr (c.0, ap (λ (l : List Entry). y ∷ l) c.1 ∙ ap (λ (z : Entry). z ∷ (front ++ c.0)) same, c.2)
 
-cut_is : (es : List Entry) (e : Entry) (front back : List Entry) → es ++ e ∷ [] ≡ front ++ back → IsCut es e front back
+pub cut_is : (es : List Entry) (e : Entry) (front back : List Entry) → es ++ e ∷ [] ≡ front ++ back → IsCut es e front back
 cut_is es e [] back q = inr (es, refl, sym q)
 cut_is [] e (x ∷ front) back q =
     let t = tails e x [] (front ++ back) q in

@@ -9,3 +9,6 @@ pub mod Begun
 pub mod Past
 pub mod Whole
 pub mod Given
+pub mod Counted
+pub mod Deposed
+pub mod KeptFaults

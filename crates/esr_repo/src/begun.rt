@@ -1,5 +1,5 @@
 //! A repository of a container that was opened.
-ghost use Rattle.std.specs.Prelude.{◌≡◌, []};
+ghost use Rattle.std.specs.Prelude.{◌≡◌, ◌≤◌, []};
 ghost use Rattle.esr_repo.specs.Begun.{IsBegun};
 
 use crate::{Repo, Told};
@@ -10,8 +10,9 @@ use std::alloc::Global;
 impl<D: Depot, K: Told> Repo<D, K> {
     /// The repository of a container that was opened.
     pub fn from_opening(alloc: Global, opening: Opening<D>) -> Repo<D, K>
-        requires { IsBegun K.start K.clock K.past (D.look opening.depot)
+        requires begun { IsBegun K.start K.clock K.past (D.look opening.depot)
             (record { cluster = opening.cluster; root = opening.root; plan = opening.progress; next = opening.next.number }) }
+        requires counted { K.faults ≤ D.faults opening.depot }
         ensures { result ≡ [] }
     {
         Repo::new(

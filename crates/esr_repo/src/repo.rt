@@ -1,6 +1,9 @@
 //! A container beside the history of its steps, and what is kept of the world that they lead to.
 ghost use Rattle.std.specs.Prelude.{◌≡◌, ℕ, [], List, Option, None};
 ghost use Rattle.esr_desk.specs.Start.{Legal};
+ghost use Rattle.esr_repo.specs.Counted.{IsCounted};
+ghost use Rattle.esr_repo.specs.Deposed.{AreDeposedSo};
+ghost use Rattle.esr_repo.specs.KeptFaults.{IsKeptOfFaults};
 ghost use Rattle.esr_repo.specs.Laws.{Laws};
 ghost use Rattle.esr_repo.specs.Log.{log_of};
 ghost use Rattle.esr_repo.specs.Past.{IsPast};
@@ -42,12 +45,14 @@ impl<D: Depot, K: Told> Model for Repo<D, K> {
     ghost coded = { Prim.hlevel (codes, blobs_code) };
 
     ghost use Rattle.esr_repo.specs.Log.{log_of};
+    ghost use Rattle.esr_repo.specs.KeptFaults.{IsKeptOfFaults};
     ghost use Rattle.esr_repo.specs.Whole.{IsWhole};
 
     ghost view = { λ r. log_of (D.look r.depot) K.clock r.history.items };
 
     ghost invariant = { λ r. IsWhole (D.look r.depot) K.start K.clock K.past r.history.items
-        (record { cluster = r.cluster; root = r.root; plan = r.progress; next = r.next.number }) r.deposed };
+        (record { cluster = r.cluster; root = r.root; plan = r.progress; next = r.next.number }) r.deposed
+        × IsKeptOfFaults K.faults (D.faults r.depot) r.history.items r.deposed };
 }
 
 impl<D: Depot, K: Told> Repo<D, K> {
@@ -60,8 +65,9 @@ impl<D: Depot, K: Told> Repo<D, K> {
         next: Id,
         progress: Progress,
     ) -> Repo<D, K>
-        requires { IsWhole (D.look depot) K.start K.clock K.past []
+        requires whole { IsWhole (D.look depot) K.start K.clock K.past []
             (record { cluster = cluster; root = root; plan = progress; next = next.number }) None }
+        requires faults { IsKeptOfFaults K.faults (D.faults depot) [] None }
         ensures { result ≡ [] }
     {
         Repo {
@@ -81,6 +87,11 @@ impl<D: Depot, K: Told> Repo<D, K> {
         ensures repo { (k : Kept) × (deposed : Option ℕ) × IsRepo (D.look result.0) K.start K.clock result.1 k deposed }
         ensures past { IsPast K.start K.clock K.past (D.look result.0) result.1 }
         ensures log { log_of (D.look result.0) K.clock result.1 ≡ self }
+
+        // The container counted each failure that the history tells, and each refusal as deposed names the record swap
+        // that failed.
+        ensures counted { IsCounted K.faults (D.faults result.0) result.1 }
+        ensures named { AreDeposedSo result.1 }
     {
         let Repo {
             depot,

@@ -14,6 +14,9 @@ pub trait Told {
     /// The clock of the container at the start.
     ghost clock: { ℕ };
 
+    /// The container's count of faults at the start.
+    ghost faults: { ℕ };
+
     /// What a crash before the start might have left, since a moment.
     ghost past: { ℕ → Image → Type 0 };
 }
@@ -22,6 +25,8 @@ impl Told for Brand {
     ghost start = { record { known = λ _ _ _. false; told = λ _ _ _. []; part_size = 1; tells = false; world = opened fin.empty no_record no_root } };
 
     ghost clock = { 0 };
+
+    ghost faults = { 0 };
 
     ghost past = { λ _ _. ⊥ };
 }

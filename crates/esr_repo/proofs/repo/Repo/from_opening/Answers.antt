@@ -1,5 +1,9 @@
 use Rattle.esr_repo.proofs.Pasts.{begun_whole}
+use Rattle.esr_repo.proofs.Failing.{begun_faults}
 use Rattle.esr_repo.proofs.repo.Repo.from_opening.Goals as goal
 
-pub new-requires : goal.new-requires
-new-requires g c = begun_whole (g.D.Depot.look c.args.opening.depot) g.K.Told.start g.K.Told.clock g.K.Told.past _ c.requires
+pub new-requires-clause-whole : goal.new-requires-clause-whole
+new-requires-clause-whole g c = begun_whole (g.D.Depot.look c.args.opening.depot) g.K.Told.start g.K.Told.clock g.K.Told.past _ c.requires.begun
+
+pub new-requires-clause-faults : goal.new-requires-clause-faults
+new-requires-clause-faults g c = begun_faults g.K.Told.faults (g.D.Counted.faults c.args.opening.depot) c.requires.counted
