@@ -1,5 +1,5 @@
 //! A container is opened.
-ghost use Rattle.std.specs.Prelude.{◌≡◌, IfOk, IfErr};
+ghost use Rattle.std.specs.Prelude.{◌≡◌, ◌≤◌, IfOk, IfErr};
 ghost use Rattle.esr_model.specs.Kept.{first_id};
 ghost use Rattle.esr_depot.specs.Look.{now};
 ghost use Rattle.esr_progress.specs.Plan.{no_plan};
@@ -41,6 +41,8 @@ pub fn open_container<D: Depot>(
 ) -> Result<Opening<D>, (D, OpenRefusal<D::Fetch>)>
     ensures opened { IfOk result (λ o. IsOpening (D.look depot) (D.look o.depot) (record { cluster = o.cluster; root = o.root; plan = o.progress; next = o.next.number })) }
     ensures refused { IfErr result (λ e. IsOpenRefused D.Fetch.faults (D.look depot) (D.look e.0) (D.faults depot) (D.faults e.0) e.1) }
+    ensures counted { IfOk result (λ o. D.faults depot ≤ D.faults o.depot) }
+    ensures recounted { IfErr result (λ e. D.faults depot ≤ D.faults e.0) }
 {
     match open_in_place(alloc, &mut depot) {
         Ok((cluster, root)) => {
@@ -79,6 +81,7 @@ fn open_in_place<D: Depot>(
 ) -> Result<(ClusterRecord, RootData), OpenRefusal<D::Fetch>>
     ensures opened { IfOk result (λ o. IsOpening (D.look depot.old) (D.look depot.new) (record { cluster = o.0; root = o.1; plan = no_plan; next = first_id o.0.term })) }
     ensures refused { IfErr result (λ e. IsOpenRefused D.Fetch.faults (D.look depot.old) (D.look depot.new) (D.faults depot.old) (D.faults depot.new) e) }
+    ensures counted { D.faults depot.old ≤ D.faults depot.new }
 {
     opened_worlds_are_in_order();
     let (cluster, root) = find(alloc, depot)?;

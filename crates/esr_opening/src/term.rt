@@ -42,6 +42,7 @@ pub(crate) fn begin_term<D: Depot>(
     ensures bounded { OnOk result ((D.look depot.new).clock ≤ 2 ^ 64 - 1) }
     ensures left { LeavesOnly (D.look depot.old) (D.look depot.new) (MayHave (now (D.look depot.old)) (term_text cluster.now)) }
     ensures refused { IfErr result (λ e. NotBegun (D.look depot.old) (D.look depot.new) (D.faults depot.old) (D.faults depot.new) e) }
+    ensures counted { D.faults depot.old ≤ D.faults depot.new }
 {
     let next = next_record(alloc, cluster);
     let text = write_cluster(alloc, &next)?;

@@ -6,3 +6,4 @@ pub mod Wanting
 pub mod Worlds
 pub mod Keeping
 pub mod Ending
+pub mod Counting

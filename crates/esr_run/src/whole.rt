@@ -4,6 +4,8 @@ ghost use Rattle.esr_desk.specs.Sources.{TellsFiles};
 ghost use Rattle.esr_repo.specs.Begun.{IsBegun};
 ghost use Rattle.esr_desk.specs.Shown.{AreShown};
 ghost use Rattle.esr_repo.specs.Log.{log_of};
+ghost use Rattle.esr_repo.specs.Counted.{IsCounted};
+ghost use Rattle.esr_repo.specs.Deposed.{AreDeposedSo};
 ghost use Rattle.esr_repo.specs.Past.{IsPast};
 ghost use Rattle.esr_script.specs.Jobs.{job_of};
 ghost use Rattle.esr_run.specs.Asked.{wanted_of};
@@ -100,6 +102,7 @@ fn run_told<D: Depot, S: Sources, T: Targets, G: Gate, K: Told>(
 ) -> (Done<D>, Faults<D::Stage, D::Fetch, S::Shard, T::Target>)
     requires begun { IsBegun K.start K.clock K.past (D.look opening.depot)
         (record { cluster = opening.cluster; root = opening.root; plan = opening.progress; next = opening.next.number }) }
+    requires counted { K.faults ≤ D.faults opening.depot }
     requires sources { TellsFiles K.start (S.files sources.now) (S.is_there sources.now) }
     requires size { asked.now.part_size ≡ K.start.part_size }
     requires sized { (1 ≤ asked.now.part_size) × (asked.now.part_size ≤ 2 ^ 30) }
@@ -108,6 +111,8 @@ fn run_told<D: Depot, S: Sources, T: Targets, G: Gate, K: Told>(
     ensures past { IsPast K.start K.clock K.past (D.look result.0.depot) result.0.history }
     ensures shown { AreShown (record { stage = D.Stage.faults; fetch = D.Fetch.faults; shard = S.Shard.faults; target = T.Target.faults; made_for = λ h. (S.Shard.origin h).address })
         K.start (log_of (D.look result.0.depot) K.clock result.0.history) result.1 }
+    ensures counted { IsCounted K.faults (D.faults result.0.depot) result.0.history }
+    ensures named { AreDeposedSo result.0.history }
     ensures told { IsTold result.0.verdict.status result.0.verdict.text (Some (Carried asked.now.script result.0.history)) }
 {
     let repo = Repo::<D, K>::from_opening(alloc, opening);
@@ -141,6 +146,8 @@ fn open_and_carry<D: Depot, S: Sources, T: Targets, G: Gate>(
         ⊎ IsOpenedRun (record { stage = D.Stage.faults; fetch = D.Fetch.faults; shard = S.Shard.faults; target = T.Target.faults; made_for = λ h. (S.Shard.origin h).address }) (S.files sources.now) asked.now.part_size (D.look depot) (D.look result.0.depot) result.0.history result.1 }
     ensures told { IsVerdict result.0.verdict.status result.0.verdict.text
         (IsOpenCause (record { stage = D.Stage.faults; fetch = D.Fetch.faults; shard = S.Shard.faults; target = T.Target.faults; made_for = λ h. (S.Shard.origin h).address }) (S.files sources.now) asked.now.part_size (D.look depot) (D.look result.0.depot) (D.faults depot) (D.faults result.0.depot) asked.now.script result.0.history result.1) }
+    ensures counted { IsCounted (D.faults depot) (D.faults result.0.depot) result.0.history }
+    ensures named { AreDeposedSo result.0.history }
 {
     laws();
     match open_container(alloc, depot) {
@@ -171,6 +178,8 @@ fn carry_out<D: Depot, S: Sources, T: Targets, G: Gate, I: Lines>(
         (IsCauseOf (record { stage = D.Stage.faults; fetch = D.Fetch.faults; shard = S.Shard.faults; target = T.Target.faults; made_for = λ h. (S.Shard.origin h).address }) (record { words = words.now; script = I.left script.old; faults = I.faults script.old }) (S.files sources.now) (I.faults script.new)
         (D.look depot) (D.look result.0.depot) (D.faults depot) (D.faults result.0.depot) result.0.history result.1) }
     ensures reader { IsReadFor (wanted_of (job_of words.now)) (I.left script.old) (I.left script.new) (I.faults script.old) (I.faults script.new) }
+    ensures counted { IsCounted (D.faults depot) (D.faults result.0.depot) result.0.history }
+    ensures named { AreDeposedSo result.0.history }
 {
     only_now(&depot);
     let asked = match asked_for(alloc, words, script) {
@@ -204,6 +213,8 @@ pub fn run<D: Depot, S: Sources, T: Targets, G: Gate, I: Lines, O: Out>(
         (IsCauseOf (record { stage = D.Stage.faults; fetch = D.Fetch.faults; shard = S.Shard.faults; target = T.Target.faults; made_for = λ h. (S.Shard.origin h).address }) (record { words = words.now; script = I.left script.old; faults = I.faults script.old }) (S.files sources.now) (I.faults script.new)
         (D.look depot) (D.look result.depot) (D.faults depot) (D.faults result.depot) result.history result.faults) }
     ensures reader { IsReadFor (wanted_of (job_of words.now)) (I.left script.old) (I.left script.new) (I.faults script.old) (I.faults script.new) }
+    ensures counted { IsCounted (D.faults depot) (D.faults result.depot) result.history }
+    ensures named { AreDeposedSo result.history }
     ensures targets { result.targets ≡ [] }
 {
     let (done, faults) = carry_out::<D, S, T, G, I>(

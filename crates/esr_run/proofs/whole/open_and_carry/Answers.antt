@@ -1,4 +1,4 @@
-use Rattle.std.proofs.Common.{inl, inr, ap, ◌∙◌, subst}
+use Rattle.std.proofs.Common.{◌≤◌, inl, inr, ap, sym, ◌∙◌, subst}
 use Rattle.esr_depot.specs.Look.{now}
 use Rattle.esr_formats.specs.Clusters.{cluster_of}
 use Rattle.esr_formats.specs.Roots.{root_of}
@@ -7,6 +7,7 @@ use Rattle.esr_run.specs.Causes.{IsTold}
 use Rattle.esr_run.specs.Faults.{listed}
 use Rattle.esr_run.proofs.Worlds.{begun_world, begins}
 use Rattle.esr_run.proofs.Ending.{tells_files, refused_at, unopened, opened_run, verdict_opening, verdict_refused}
+use Rattle.esr_run.proofs.Counting.{counted_from, counted_none, named_none}
 use Rattle.esr_run.proofs.whole.open_and_carry.Goals as goal
 
 pub run_told-requires-clause-begun : goal.run_told-requires-clause-begun
@@ -47,3 +48,12 @@ returns-in-Err-clause-told g c =
     (refused_at g.D.Fetch.Counted.faults (g.D.Depot.look c.args.depot) (g.D.Depot.look c.in-Err.depot) (g.D.Depot.look c.ended_at.result.depot) (g.D.Counted.faults c.args.depot) (g.D.Counted.faults c.in-Err.depot) (g.D.Counted.faults c.ended_at.result.depot) c.in-Err.refusal
     (ap g.D.Depot.look c.ended_at.ensures.depot) (ap g.D.Counted.faults c.ended_at.ensures.depot) c.in-Err.ensures.refused)
     c.ended_at.ensures.history (c.faults_of.ensures ∙ ap listed c.stop_of-stop.ensures.fetch)
+
+pub returns-in-Ok-clause-counted : goal.returns-in-Ok-clause-counted
+returns-in-Ok-clause-counted g c = counted_from (g.D.Counted.faults c.args.depot) (g.D.Counted.faults c.in-Ok.opening.depot) (g.D.Counted.faults c.run_told.result.0.depot) c.run_told.result.0.history c.in-Ok.ensures.counted c.run_told.ensures.counted
+
+pub returns-in-Err-clause-counted : goal.returns-in-Err-clause-counted
+returns-in-Err-clause-counted g c = counted_none (g.D.Counted.faults c.args.depot) (g.D.Counted.faults c.ended_at.result.depot) c.ended_at.result.history c.ended_at.ensures.history (subst (λ n. g.D.Counted.faults c.args.depot ≤ n) (sym (ap g.D.Counted.faults c.ended_at.ensures.depot)) c.in-Err.ensures.recounted)
+
+pub returns-in-Err-clause-named : goal.returns-in-Err-clause-named
+returns-in-Err-clause-named g c = named_none c.ended_at.result.history c.ended_at.ensures.history

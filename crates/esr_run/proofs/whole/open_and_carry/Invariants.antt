@@ -10,5 +10,6 @@ ghosts-run_told g a = record {
   start = start_of (g.S.Sources.files a.sources.now) a.asked.now.part_size (g.D.Depot.look a.opening.depot)
       (begun_world (now (g.D.Depot.look a.opening.depot)) (cluster_of a.opening.cluster) (root_of a.opening.root));
   clock = (g.D.Depot.look a.opening.depot).clock;
+  faults = g.D.Counted.faults a.opening.depot;
   past = (g.D.Depot.look a.opening.depot).since;
 }
