@@ -2,7 +2,6 @@ pub mod Going
 pub mod Reading
 pub mod Asking
 pub mod Scripts
-pub mod Wanting
 pub mod Worlds
 pub mod Keeping
 pub mod Ending
