@@ -5,7 +5,7 @@ use Rattle.std.proofs.lemmas.List.Sums.{sum_by_push}
 use Rattle.esr_model.specs.Values.{Formats}
 use Rattle.esr_model.specs.Image.{Image}
 use Rattle.esr_core.specs.World.{World}
-use Rattle.esr_core.specs.Entry.{Step, Reply, Refusal, Refused, DeposedAt, DepotFault, Entry, Moment}
+use Rattle.esr_core.specs.Entry.{Step, Reply, Refused, DeposedAt, DepotFault, Entry, Moment}
 use Rattle.esr_core.specs.After.{swaps_record}
 use Rattle.esr_core.specs.Allowed.{Allows}
 use Rattle.esr_depot.specs.declared.error.CallError.{CallError}

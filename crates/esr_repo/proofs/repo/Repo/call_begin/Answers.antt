@@ -14,11 +14,10 @@ invariant_of-self-in-Ok g c =
     let b : Before (g.D.Depot.look c.self.inside.depot) g.K.Told.start g.K.Told.clock c.self.inside.history.items k c.self.inside.deposed c.args.self.now =
     record { laws = c.laws.ensures; repo = c.self.invariant.0.repo; view = c.self.view_is; live = c.requires.live } in
     let e : Entry = record { who = c.args.who; step = BeginStep (name_of c.args.name); reply = WasBegun } in
-    let p : Pushed c.self.inside.history.items c.reserve.new.self.items c.push_reserved.new.self.items e = record { reserved = c.reserve.ensures.items; pushed = c.push_reserved.ensures.items } in
-    (
+    let p : Pushed c.self.inside.history.items c.reserve.new.self.items c.push_reserved.new.self.items e = record { reserved = c.reserve.ensures.items; pushed = c.push_reserved.ensures.items } in (
       made_whole b g.K.Told.past c.self.invariant.0.past (g.met.D.Depot.only_now c.begin.new.self)
-      (begin_ok b (g.D.Depot.look c.begin.new.self) c.args.who (name_of c.args.name) c.requires.may c.write_name.ensures.reads c.in-Ok.stage c.in-Ok.ensures.call c.reserve.new.self.items c.push_reserved.new.self.items
-      (record { reserved = c.reserve.ensures.items; pushed = c.push_reserved.ensures.items })),
+          (begin_ok b (g.D.Depot.look c.begin.new.self) c.args.who (name_of c.args.name) c.requires.may c.write_name.ensures.reads c.in-Ok.stage c.in-Ok.ensures.call c.reserve.new.self.items c.push_reserved.new.self.items
+          (record { reserved = c.reserve.ensures.items; pushed = c.push_reserved.ensures.items })),
       unfailed_faults c.self.invariant.1 p (g.D.Counted.faults c.begin.new.self) refl c.in-Ok.ensures.cause.later,
     )
 
@@ -34,8 +33,7 @@ pub invariant_of-self-in-Err-Memory : goal.invariant_of-self-in-Err-Memory
 invariant_of-self-in-Err-Memory g c =
     let k : Kept = record { cluster = c.self.inside.cluster; root = c.self.inside.root; plan = c.self.inside.progress; next = c.self.inside.next.number } in
     let b : Before (g.D.Depot.look c.self.inside.depot) g.K.Told.start g.K.Told.clock c.self.inside.history.items k c.self.inside.deposed c.args.self.now =
-    record { laws = c.laws.ensures; repo = c.self.invariant.0.repo; view = c.self.view_is; live = c.requires.live } in
-    (
+    record { laws = c.laws.ensures; repo = c.self.invariant.0.repo; view = c.self.view_is; live = c.requires.live } in (
       wanting_whole b g.K.Told.past c.self.invariant.0.past (g.D.Depot.look c.begin.new.self) c.reserve.new.self.items c.reserve.ensures.items (λ _. SameImage) SameImage c.in-Err-Memory.field-0 c.in-Err-Memory.field-0-is c.in-Err-Memory.ensures.call,
       same_faults c.reserve.new.self.items (g.D.Counted.faults c.begin.new.self) c.self.invariant.1 c.in-Err-Memory.ensures.cause.later c.reserve.ensures.items,
     )
@@ -53,11 +51,10 @@ invariant_of-self-in-Err-Failed g c =
     let b : Before (g.D.Depot.look c.self.inside.depot) g.K.Told.start g.K.Told.clock c.self.inside.history.items k c.self.inside.deposed c.args.self.now =
     record { laws = c.laws.ensures; repo = c.self.invariant.0.repo; view = c.self.view_is; live = c.requires.live } in
     let e : Entry = record { who = c.args.who; step = BeginStep (name_of c.args.name); reply = Refused DepotFault } in
-    let p : Pushed c.self.inside.history.items c.reserve.new.self.items c.push_reserved-in-Err-Failed.new.self.items e = pushed_as c.reserve.new.self.items c.push_reserved-in-Err-Failed.new.self.items c.faulted.result c.reserve.ensures.items c.push_reserved-in-Err-Failed.ensures.items c.faulted.ensures in
-    (
+    let p : Pushed c.self.inside.history.items c.reserve.new.self.items c.push_reserved-in-Err-Failed.new.self.items e = pushed_as c.reserve.new.self.items c.push_reserved-in-Err-Failed.new.self.items c.faulted.result c.reserve.ensures.items c.push_reserved-in-Err-Failed.ensures.items c.faulted.ensures in (
       made_whole b g.K.Told.past c.self.invariant.0.past (g.met.D.Depot.only_now c.begin.new.self)
-      (begin_fault b (g.D.Depot.look c.begin.new.self) c.args.who (name_of c.args.name) c.requires.may c.write_name.ensures.reads c.in-Err-Failed.field-0 c.in-Err-Failed.field-0-is c.in-Err-Failed.ensures.call c.reserve.new.self.items c.push_reserved-in-Err-Failed.new.self.items
-      (pushed_as c.reserve.new.self.items c.push_reserved-in-Err-Failed.new.self.items c.faulted.result c.reserve.ensures.items c.push_reserved-in-Err-Failed.ensures.items c.faulted.ensures)),
+          (begin_fault b (g.D.Depot.look c.begin.new.self) c.args.who (name_of c.args.name) c.requires.may c.write_name.ensures.reads c.in-Err-Failed.field-0 c.in-Err-Failed.field-0-is c.in-Err-Failed.ensures.call c.reserve.new.self.items c.push_reserved-in-Err-Failed.new.self.items
+          (pushed_as c.reserve.new.self.items c.push_reserved-in-Err-Failed.new.self.items c.faulted.result c.reserve.ensures.items c.push_reserved-in-Err-Failed.ensures.items c.faulted.ensures)),
       failed_faults c.self.invariant.1 p (g.D.Counted.faults c.begin.new.self) _ c.in-Err-Failed.ensures.cause (failed_so c.in-Err-Failed.field-0 c.in-Err-Failed.field-0-is) refl,
     )
 

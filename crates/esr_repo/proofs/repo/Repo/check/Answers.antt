@@ -12,11 +12,10 @@ pub invariant_of-self-2 : goal.invariant_of-self-2
 invariant_of-self-2 g c =
     let k : Kept = record { cluster = c.self.inside.cluster; root = c.self.inside.root; plan = c.self.inside.progress; next = c.self.inside.next.number } in
     let e : Entry = record { who = c.args.who; step = step_of c.args.step; reply = Refused (DeposedAt c.in-Some.entry) } in
-    let p : Pushed c.self.inside.history.items c.reserve.new.self.items c.push_reserved.new.self.items e = record { reserved = c.reserve.ensures.items; pushed = c.push_reserved.ensures.items } in
-    (
+    let p : Pushed c.self.inside.history.items c.reserve.new.self.items c.push_reserved.new.self.items e = record { reserved = c.reserve.ensures.items; pushed = c.push_reserved.ensures.items } in (
       noted_whole c.laws.ensures (g.D.Depot.look c.self.inside.depot) g.K.Told.start g.K.Told.clock g.K.Told.past c.self.inside.history.items c.reserve.new.self.items c.push_reserved.new.self.items e c.self.invariant.0 (g.met.D.Depot.only_now c.self.inside.depot) refl c.reserve.ensures.items c.push_reserved.ensures.items
-      (deposed_repo c.laws.ensures (g.D.Depot.look c.self.inside.depot) g.K.Told.start g.K.Told.clock c.self.inside.history.items c.reserve.new.self.items c.push_reserved.new.self.items k c.self.inside.deposed c.args.self.now e
-      c.self.invariant.0.repo c.self.view_is c.reserve.ensures.items c.push_reserved.ensures.items c.in-Some.entry c.in-Some.is refl),
+          (deposed_repo c.laws.ensures (g.D.Depot.look c.self.inside.depot) g.K.Told.start g.K.Told.clock c.self.inside.history.items c.reserve.new.self.items c.push_reserved.new.self.items k c.self.inside.deposed c.args.self.now e
+          c.self.invariant.0.repo c.self.view_is c.reserve.ensures.items c.push_reserved.ensures.items c.in-Some.entry c.in-Some.is refl),
       deposed_faults c.self.invariant.1 p (g.D.Counted.faults c.self.inside.depot) c.in-Some.entry c.in-Some.is refl (no_later (g.D.Counted.faults c.self.inside.depot)),
     )
 

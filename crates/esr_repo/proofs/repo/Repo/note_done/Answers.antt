@@ -12,11 +12,10 @@ pub invariant_of-self-2 : goal.invariant_of-self-2
 invariant_of-self-2 g c =
     let k : Kept = record { cluster = c.self.inside.cluster; root = c.self.inside.root; plan = c.self.inside.progress; next = c.self.inside.next.number } in
     let e : Entry = record { who = c.args.ticket; step = DoneStep (result_of c.args.outcome); reply = HasEnded } in
-    let p : Pushed c.self.inside.history.items c.reserve.new.self.items c.push_reserved.new.self.items e = record { reserved = c.reserve.ensures.items; pushed = c.push_reserved.ensures.items } in
-    (
+    let p : Pushed c.self.inside.history.items c.reserve.new.self.items c.push_reserved.new.self.items e = record { reserved = c.reserve.ensures.items; pushed = c.push_reserved.ensures.items } in (
       noted_whole c.laws.ensures (g.D.Depot.look c.self.inside.depot) g.K.Told.start g.K.Told.clock g.K.Told.past c.self.inside.history.items c.reserve.new.self.items c.push_reserved.new.self.items e c.self.invariant.0 (g.met.D.Depot.only_now c.self.inside.depot) refl c.reserve.ensures.items c.push_reserved.ensures.items
-      (done_repo c.laws.ensures (g.D.Depot.look c.self.inside.depot) g.K.Told.start g.K.Told.clock c.self.inside.history.items c.reserve.new.self.items c.push_reserved.new.self.items k c.self.inside.deposed c.args.self.now c.args.ticket (result_of c.args.outcome)
-      c.self.invariant.0.repo c.self.view_is c.reserve.ensures.items c.push_reserved.ensures.items c.requires.live c.requires.may c.args.progress c.requires.plan),
+          (done_repo c.laws.ensures (g.D.Depot.look c.self.inside.depot) g.K.Told.start g.K.Told.clock c.self.inside.history.items c.reserve.new.self.items c.push_reserved.new.self.items k c.self.inside.deposed c.args.self.now c.args.ticket (result_of c.args.outcome)
+          c.self.invariant.0.repo c.self.view_is c.reserve.ensures.items c.push_reserved.ensures.items c.requires.live c.requires.may c.args.progress c.requires.plan),
       unfailed_faults c.self.invariant.1 p (g.D.Counted.faults c.self.inside.depot) refl (no_later (g.D.Counted.faults c.self.inside.depot)),
     )
 

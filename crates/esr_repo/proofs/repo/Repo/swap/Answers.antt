@@ -19,13 +19,12 @@ invariant_of-self g c =
     let b : Before (g.D.Depot.look c.self.inside.depot) g.K.Told.start g.K.Told.clock c.self.inside.history.items k c.self.inside.deposed c.args.self.now =
     record { laws = c.laws.ensures; repo = c.self.invariant.0.repo; view = c.self.view_is; live = c.requires.live } in
     let e : Entry = record { who = c.args.who; step = step_of c.args.step; reply = answer_of c.args.answer } in
-    let p : Pushed c.self.inside.history.items c.put_record.new.history.items c.push_reserved.new.self.items e = record { reserved = c.in-Ok.ensures.entries; pushed = c.push_reserved.ensures.items } in
-    (
+    let p : Pushed c.self.inside.history.items c.put_record.new.history.items c.push_reserved.new.self.items e = record { reserved = c.in-Ok.ensures.entries; pushed = c.push_reserved.ensures.items } in (
       made_whole b g.K.Told.past c.self.invariant.0.past (g.met.D.Depot.only_now c.put_record.new.depot)
-      (swap_ok b (g.D.Depot.look c.put_record.new.depot) c.args.who (step_of c.args.step) (answer_of c.args.answer) c.args.renewed.cluster c.args.renewed.root c.args.renewed.progress c.args.renewed.next.number c.requires.may (cluster_kind.text (cluster_of c.args.renewed.cluster)) refl c.in-Ok.ensures.reads
-      c.in-Ok.field-0 c.in-Ok.ensures.call c.put_record.new.history.items c.push_reserved.new.self.items (record { reserved = c.in-Ok.ensures.entries; pushed = c.push_reserved.ensures.items })
-      (record { cluster = c.keep.new.cluster; root = c.keep.new.root; plan = c.keep.new.progress; next = c.keep.new.next.number })
-      (record { cluster_new = c.keep.ensures.cluster; root_new = c.keep.ensures.root; plan_new = c.keep.ensures.progress; next_new = ap (λ (n : Id). n.number) c.keep.ensures.next })),
+          (swap_ok b (g.D.Depot.look c.put_record.new.depot) c.args.who (step_of c.args.step) (answer_of c.args.answer) c.args.renewed.cluster c.args.renewed.root c.args.renewed.progress c.args.renewed.next.number c.requires.may (cluster_kind.text (cluster_of c.args.renewed.cluster)) refl c.in-Ok.ensures.reads
+          c.in-Ok.field-0 c.in-Ok.ensures.call c.put_record.new.history.items c.push_reserved.new.self.items (record { reserved = c.in-Ok.ensures.entries; pushed = c.push_reserved.ensures.items })
+          (record { cluster = c.keep.new.cluster; root = c.keep.new.root; plan = c.keep.new.progress; next = c.keep.new.next.number })
+          (record { cluster_new = c.keep.ensures.cluster; root_new = c.keep.ensures.root; plan_new = c.keep.ensures.progress; next_new = ap (λ (n : Id). n.number) c.keep.ensures.next })),
       unfailed_faults c.self.invariant.1 p (g.D.Counted.faults c.put_record.new.depot) (told_none (answer_of c.args.answer) c.requires.may.answers) c.in-Ok.ensures.cause.later,
     )
 
@@ -43,11 +42,10 @@ pub invariant_of-self-in-Err-Memory : goal.invariant_of-self-in-Err-Memory
 invariant_of-self-in-Err-Memory g c =
     let k : Kept = record { cluster = c.self.inside.cluster; root = c.self.inside.root; plan = c.self.inside.progress; next = c.self.inside.next.number } in
     let b : Before (g.D.Depot.look c.self.inside.depot) g.K.Told.start g.K.Told.clock c.self.inside.history.items k c.self.inside.deposed c.args.self.now =
-    record { laws = c.laws.ensures; repo = c.self.invariant.0.repo; view = c.self.view_is; live = c.requires.live } in
-    (
+    record { laws = c.laws.ensures; repo = c.self.invariant.0.repo; view = c.self.view_is; live = c.requires.live } in (
       wanting_whole b g.K.Told.past c.self.invariant.0.past (g.D.Depot.look c.put_record.new.depot) c.put_record.new.history.items c.in-Err-Memory.ensures.entries
-      (λ _. Swapped (cluster_kind.text (cluster_of c.args.renewed.cluster))) (SwapMay (cluster_kind.text (cluster_of c.args.renewed.cluster)))
-      c.in-Err-Memory.field-0 c.in-Err-Memory.field-0-is c.in-Err-Memory.ensures.call,
+          (λ _. Swapped (cluster_kind.text (cluster_of c.args.renewed.cluster))) (SwapMay (cluster_kind.text (cluster_of c.args.renewed.cluster)))
+          c.in-Err-Memory.field-0 c.in-Err-Memory.field-0-is c.in-Err-Memory.ensures.call,
       same_faults c.put_record.new.history.items (g.D.Counted.faults c.put_record.new.depot) c.self.invariant.1 c.in-Err-Memory.ensures.cause.later c.in-Err-Memory.ensures.entries,
     )
 
@@ -55,11 +53,10 @@ pub invariant_of-self-in-Err-Memory-2 : goal.invariant_of-self-in-Err-Memory-2
 invariant_of-self-in-Err-Memory-2 g c =
     let k : Kept = record { cluster = c.self.inside.cluster; root = c.self.inside.root; plan = c.self.inside.progress; next = c.self.inside.next.number } in
     let b : Before (g.D.Depot.look c.self.inside.depot) g.K.Told.start g.K.Told.clock c.self.inside.history.items k c.self.inside.deposed c.args.self.now =
-    record { laws = c.laws.ensures; repo = c.self.invariant.0.repo; view = c.self.view_is; live = c.requires.live } in
-    (
+    record { laws = c.laws.ensures; repo = c.self.invariant.0.repo; view = c.self.view_is; live = c.requires.live } in (
       wanting_whole b g.K.Told.past c.self.invariant.0.past (g.D.Depot.look c.put_record.new.depot) c.put_record.new.history.items c.in-Err-Memory.ensures.entries
-      (λ _. Swapped (cluster_kind.text (cluster_of c.args.renewed.cluster))) (SwapMay (cluster_kind.text (cluster_of c.args.renewed.cluster)))
-      c.in-Err-Memory.field-0 c.in-Err-Memory.field-0-is c.in-Err-Memory.ensures.call,
+          (λ _. Swapped (cluster_kind.text (cluster_of c.args.renewed.cluster))) (SwapMay (cluster_kind.text (cluster_of c.args.renewed.cluster)))
+          c.in-Err-Memory.field-0 c.in-Err-Memory.field-0-is c.in-Err-Memory.ensures.call,
       same_faults c.put_record.new.history.items (g.D.Counted.faults c.put_record.new.depot) c.self.invariant.1 c.in-Err-Memory.ensures.cause.later c.in-Err-Memory.ensures.entries,
     )
 
@@ -80,12 +77,11 @@ invariant_of-self-in-Err-Failed g c =
     let b : Before (g.D.Depot.look c.self.inside.depot) g.K.Told.start g.K.Told.clock c.self.inside.history.items k c.self.inside.deposed c.args.self.now =
     record { laws = c.laws.ensures; repo = c.self.invariant.0.repo; view = c.self.view_is; live = c.requires.live } in
     let e : Entry = record { who = c.args.who; step = step_of c.args.step; reply = Refused DepotFault } in
-    let p : Pushed c.self.inside.history.items c.put_record.new.history.items c.push_reserved-in-Err-Failed.new.self.items e = record { reserved = c.in-Err-Failed.ensures.entries; pushed = c.push_reserved-in-Err-Failed.ensures.items } in
-    (
+    let p : Pushed c.self.inside.history.items c.put_record.new.history.items c.push_reserved-in-Err-Failed.new.self.items e = record { reserved = c.in-Err-Failed.ensures.entries; pushed = c.push_reserved-in-Err-Failed.ensures.items } in (
       made_whole b g.K.Told.past c.self.invariant.0.past (g.met.D.Depot.only_now c.put_record.new.depot)
-      (swap_fault b (g.D.Depot.look c.put_record.new.depot) c.args.who (step_of c.args.step) (answer_of c.args.answer) c.args.renewed.cluster c.args.renewed.root c.args.renewed.progress c.args.renewed.next.number c.requires.may (cluster_kind.text (cluster_of c.args.renewed.cluster)) refl c.in-Err-Failed.ensures.reads
-      c.in-Err-Failed.field-0 c.in-Err-Failed.field-0-is c.in-Err-Failed.ensures.call c.put_record.new.history.items c.push_reserved-in-Err-Failed.new.self.items
-      (record { reserved = c.in-Err-Failed.ensures.entries; pushed = c.push_reserved-in-Err-Failed.ensures.items }) c.len-place.result),
+          (swap_fault b (g.D.Depot.look c.put_record.new.depot) c.args.who (step_of c.args.step) (answer_of c.args.answer) c.args.renewed.cluster c.args.renewed.root c.args.renewed.progress c.args.renewed.next.number c.requires.may (cluster_kind.text (cluster_of c.args.renewed.cluster)) refl c.in-Err-Failed.ensures.reads
+          c.in-Err-Failed.field-0 c.in-Err-Failed.field-0-is c.in-Err-Failed.ensures.call c.put_record.new.history.items c.push_reserved-in-Err-Failed.new.self.items
+          (record { reserved = c.in-Err-Failed.ensures.entries; pushed = c.push_reserved-in-Err-Failed.ensures.items }) c.len-place.result),
       fallen_faults c.self.invariant.1 p (g.D.Counted.faults c.put_record.new.depot) _ c.len-place.result c.in-Err-Failed.ensures.cause (failed_so c.in-Err-Failed.field-0 c.in-Err-Failed.field-0-is) (c.len-place.ensures ∙ c.put_record.new.history.ok.0 ∙ ap (λ (l : List Entry). length l) c.in-Err-Failed.ensures.entries) c.requires.may.swaps refl,
     )
 
@@ -95,12 +91,11 @@ invariant_of-self-in-Err-Failed-2 g c =
     let b : Before (g.D.Depot.look c.self.inside.depot) g.K.Told.start g.K.Told.clock c.self.inside.history.items k c.self.inside.deposed c.args.self.now =
     record { laws = c.laws.ensures; repo = c.self.invariant.0.repo; view = c.self.view_is; live = c.requires.live } in
     let e : Entry = record { who = c.args.who; step = step_of c.args.step; reply = Refused DepotFault } in
-    let p : Pushed c.self.inside.history.items c.put_record.new.history.items c.push_reserved-in-Err-Failed.new.self.items e = record { reserved = c.in-Err-Failed.ensures.entries; pushed = c.push_reserved-in-Err-Failed.ensures.items } in
-    (
+    let p : Pushed c.self.inside.history.items c.put_record.new.history.items c.push_reserved-in-Err-Failed.new.self.items e = record { reserved = c.in-Err-Failed.ensures.entries; pushed = c.push_reserved-in-Err-Failed.ensures.items } in (
       made_whole b g.K.Told.past c.self.invariant.0.past (g.met.D.Depot.only_now c.put_record.new.depot)
-      (swap_fault b (g.D.Depot.look c.put_record.new.depot) c.args.who (step_of c.args.step) (answer_of c.args.answer) c.args.renewed.cluster c.args.renewed.root c.args.renewed.progress c.args.renewed.next.number c.requires.may (cluster_kind.text (cluster_of c.args.renewed.cluster)) refl c.in-Err-Failed.ensures.reads
-      c.in-Err-Failed.field-0 c.in-Err-Failed.field-0-is c.in-Err-Failed.ensures.call c.put_record.new.history.items c.push_reserved-in-Err-Failed.new.self.items
-      (record { reserved = c.in-Err-Failed.ensures.entries; pushed = c.push_reserved-in-Err-Failed.ensures.items }) c.len-place.result),
+          (swap_fault b (g.D.Depot.look c.put_record.new.depot) c.args.who (step_of c.args.step) (answer_of c.args.answer) c.args.renewed.cluster c.args.renewed.root c.args.renewed.progress c.args.renewed.next.number c.requires.may (cluster_kind.text (cluster_of c.args.renewed.cluster)) refl c.in-Err-Failed.ensures.reads
+          c.in-Err-Failed.field-0 c.in-Err-Failed.field-0-is c.in-Err-Failed.ensures.call c.put_record.new.history.items c.push_reserved-in-Err-Failed.new.self.items
+          (record { reserved = c.in-Err-Failed.ensures.entries; pushed = c.push_reserved-in-Err-Failed.ensures.items }) c.len-place.result),
       fallen_faults c.self.invariant.1 p (g.D.Counted.faults c.put_record.new.depot) _ c.len-place.result c.in-Err-Failed.ensures.cause (failed_so c.in-Err-Failed.field-0 c.in-Err-Failed.field-0-is) (c.len-place.ensures ∙ c.put_record.new.history.ok.0 ∙ ap (λ (l : List Entry). length l) c.in-Err-Failed.ensures.entries) c.requires.may.swaps refl,
     )
 
@@ -110,12 +105,11 @@ invariant_of-self-in-Err-Failed-3 g c =
     let b : Before (g.D.Depot.look c.self.inside.depot) g.K.Told.start g.K.Told.clock c.self.inside.history.items k c.self.inside.deposed c.args.self.now =
     record { laws = c.laws.ensures; repo = c.self.invariant.0.repo; view = c.self.view_is; live = c.requires.live } in
     let e : Entry = record { who = c.args.who; step = step_of c.args.step; reply = Refused DepotFault } in
-    let p : Pushed c.self.inside.history.items c.put_record.new.history.items c.push_reserved-in-Err-Failed.new.self.items e = record { reserved = c.in-Err-Failed.ensures.entries; pushed = c.push_reserved-in-Err-Failed.ensures.items } in
-    (
+    let p : Pushed c.self.inside.history.items c.put_record.new.history.items c.push_reserved-in-Err-Failed.new.self.items e = record { reserved = c.in-Err-Failed.ensures.entries; pushed = c.push_reserved-in-Err-Failed.ensures.items } in (
       made_whole b g.K.Told.past c.self.invariant.0.past (g.met.D.Depot.only_now c.put_record.new.depot)
-      (swap_fault b (g.D.Depot.look c.put_record.new.depot) c.args.who (step_of c.args.step) (answer_of c.args.answer) c.args.renewed.cluster c.args.renewed.root c.args.renewed.progress c.args.renewed.next.number c.requires.may (cluster_kind.text (cluster_of c.args.renewed.cluster)) refl c.in-Err-Failed.ensures.reads
-      c.in-Err-Failed.field-0 c.in-Err-Failed.field-0-is c.in-Err-Failed.ensures.call c.put_record.new.history.items c.push_reserved-in-Err-Failed.new.self.items
-      (record { reserved = c.in-Err-Failed.ensures.entries; pushed = c.push_reserved-in-Err-Failed.ensures.items }) c.len-place.result),
+          (swap_fault b (g.D.Depot.look c.put_record.new.depot) c.args.who (step_of c.args.step) (answer_of c.args.answer) c.args.renewed.cluster c.args.renewed.root c.args.renewed.progress c.args.renewed.next.number c.requires.may (cluster_kind.text (cluster_of c.args.renewed.cluster)) refl c.in-Err-Failed.ensures.reads
+          c.in-Err-Failed.field-0 c.in-Err-Failed.field-0-is c.in-Err-Failed.ensures.call c.put_record.new.history.items c.push_reserved-in-Err-Failed.new.self.items
+          (record { reserved = c.in-Err-Failed.ensures.entries; pushed = c.push_reserved-in-Err-Failed.ensures.items }) c.len-place.result),
       fallen_faults c.self.invariant.1 p (g.D.Counted.faults c.put_record.new.depot) _ c.len-place.result c.in-Err-Failed.ensures.cause (failed_so c.in-Err-Failed.field-0 c.in-Err-Failed.field-0-is) (c.len-place.ensures ∙ c.put_record.new.history.ok.0 ∙ ap (λ (l : List Entry). length l) c.in-Err-Failed.ensures.entries) c.requires.may.swaps refl,
     )
 
@@ -125,12 +119,11 @@ invariant_of-self-in-Err-Failed-4 g c =
     let b : Before (g.D.Depot.look c.self.inside.depot) g.K.Told.start g.K.Told.clock c.self.inside.history.items k c.self.inside.deposed c.args.self.now =
     record { laws = c.laws.ensures; repo = c.self.invariant.0.repo; view = c.self.view_is; live = c.requires.live } in
     let e : Entry = record { who = c.args.who; step = step_of c.args.step; reply = Refused DepotFault } in
-    let p : Pushed c.self.inside.history.items c.put_record.new.history.items c.push_reserved-in-Err-Failed.new.self.items e = record { reserved = c.in-Err-Failed.ensures.entries; pushed = c.push_reserved-in-Err-Failed.ensures.items } in
-    (
+    let p : Pushed c.self.inside.history.items c.put_record.new.history.items c.push_reserved-in-Err-Failed.new.self.items e = record { reserved = c.in-Err-Failed.ensures.entries; pushed = c.push_reserved-in-Err-Failed.ensures.items } in (
       made_whole b g.K.Told.past c.self.invariant.0.past (g.met.D.Depot.only_now c.put_record.new.depot)
-      (swap_fault b (g.D.Depot.look c.put_record.new.depot) c.args.who (step_of c.args.step) (answer_of c.args.answer) c.args.renewed.cluster c.args.renewed.root c.args.renewed.progress c.args.renewed.next.number c.requires.may (cluster_kind.text (cluster_of c.args.renewed.cluster)) refl c.in-Err-Failed.ensures.reads
-      c.in-Err-Failed.field-0 c.in-Err-Failed.field-0-is c.in-Err-Failed.ensures.call c.put_record.new.history.items c.push_reserved-in-Err-Failed.new.self.items
-      (record { reserved = c.in-Err-Failed.ensures.entries; pushed = c.push_reserved-in-Err-Failed.ensures.items }) c.len-place.result),
+          (swap_fault b (g.D.Depot.look c.put_record.new.depot) c.args.who (step_of c.args.step) (answer_of c.args.answer) c.args.renewed.cluster c.args.renewed.root c.args.renewed.progress c.args.renewed.next.number c.requires.may (cluster_kind.text (cluster_of c.args.renewed.cluster)) refl c.in-Err-Failed.ensures.reads
+          c.in-Err-Failed.field-0 c.in-Err-Failed.field-0-is c.in-Err-Failed.ensures.call c.put_record.new.history.items c.push_reserved-in-Err-Failed.new.self.items
+          (record { reserved = c.in-Err-Failed.ensures.entries; pushed = c.push_reserved-in-Err-Failed.ensures.items }) c.len-place.result),
       fallen_faults c.self.invariant.1 p (g.D.Counted.faults c.put_record.new.depot) _ c.len-place.result c.in-Err-Failed.ensures.cause (failed_so c.in-Err-Failed.field-0 c.in-Err-Failed.field-0-is) (c.len-place.ensures ∙ c.put_record.new.history.ok.0 ∙ ap (λ (l : List Entry). length l) c.in-Err-Failed.ensures.entries) c.requires.may.swaps refl,
     )
 
