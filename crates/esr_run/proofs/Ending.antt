@@ -135,9 +135,9 @@ with_script : {S F H T : Type 0} (count : Counts S F H T) (given : Given) (files
     → part_size_of (wanted_of (job_of given.words)) ≡ Some size → IsScript given lines → IsOpenCause count files size before after old_faults new_faults lines history faults end → IsCauseOf count given files reader before after old_faults new_faults history faults end
 with_script count given files reader size before after old_faults new_faults lines history faults (Carried script entries) size_is is cause =
     (cause.1, subst (IsScript given) (sym cause.0) is, record { size = size; size_is = size_is; run = cause.2 })
-with_script count given files reader size before after old_faults new_faults lines history faults OpenFault size_is is cause = cause
-with_script count given files reader size before after old_faults new_faults lines history faults (Damaged name) size_is is cause = cause
-with_script count given files reader size before after old_faults new_faults lines history faults NoTerm size_is is cause = cause
+with_script count given files reader size before after old_faults new_faults lines history faults OpenFault size_is is cause = ((lines, is), cause)
+with_script count given files reader size before after old_faults new_faults lines history faults (Damaged name) size_is is cause = ((lines, is), cause)
+with_script count given files reader size before after old_faults new_faults lines history faults NoTerm size_is is cause = ((lines, is), cause)
 with_script count given files reader size before after old_faults new_faults lines history faults BadWords size_is is cause = absurd cause
 with_script count given files reader size before after old_faults new_faults lines history faults Unreadable size_is is cause = absurd cause
 with_script count given files reader size before after old_faults new_faults lines history faults BadScript size_is is cause = absurd cause

@@ -53,6 +53,10 @@ pub record IsScriptFor (wanted : Wanted) (script : Option Bytes) (lines : List S
 abbrev pub IsScript : Given → List ScriptLine → Type 0
 IsScript given lines = IsScriptFor (wanted_of (job_of given.words)) given.script lines
 
+-- they ask for some
+abbrev pub AsksLines : Given → Type 0
+AsksLines given = (lines : List ScriptLine) × IsScript given lines
+
 -- the reader of the script gave nothing, and no read of it failed
 pub record IsUnread (old new : Option Bytes) (old_faults new_faults : ℕ) : Type 0 where
   pub left : new ≡ old
@@ -148,9 +152,9 @@ EndedUnopened count before after old_faults new_faults history faults end = (his
 
 abbrev pub IsCauseOf : {S F H T : Type 0} → Counts S F H T → Given → Telling → ℕ → Look → Look → ℕ → ℕ → List Entry → List (Fault S F H T) → RunEnd → Type 0
 IsCauseOf count given files reader before after old_faults new_faults history faults (Carried script entries) = (entries ≡ history) × IsScript given script × IsCarried count given files before after history faults
-IsCauseOf count given files reader before after old_faults new_faults history faults OpenFault = EndedUnopened count before after old_faults new_faults history faults OpenFault
-IsCauseOf count given files reader before after old_faults new_faults history faults (Damaged name) = EndedUnopened count before after old_faults new_faults history faults (Damaged name)
-IsCauseOf count given files reader before after old_faults new_faults history faults NoTerm = EndedUnopened count before after old_faults new_faults history faults NoTerm
+IsCauseOf count given files reader before after old_faults new_faults history faults OpenFault = AsksLines given × EndedUnopened count before after old_faults new_faults history faults OpenFault
+IsCauseOf count given files reader before after old_faults new_faults history faults (Damaged name) = AsksLines given × EndedUnopened count before after old_faults new_faults history faults (Damaged name)
+IsCauseOf count given files reader before after old_faults new_faults history faults NoTerm = AsksLines given × EndedUnopened count before after old_faults new_faults history faults NoTerm
 IsCauseOf count given files reader before after old_faults new_faults history faults BadWords = IsUntouched files before after history faults × IsStopped given reader BadWords
 IsCauseOf count given files reader before after old_faults new_faults history faults Unreadable = IsUntouched files before after history faults × IsStopped given reader Unreadable
 IsCauseOf count given files reader before after old_faults new_faults history faults BadScript = IsUntouched files before after history faults × IsStopped given reader BadScript
