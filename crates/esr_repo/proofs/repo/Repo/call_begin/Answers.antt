@@ -16,8 +16,7 @@ invariant_of-self-in-Ok g c =
     let e : Entry = record { who = c.args.who; step = BeginStep (name_of c.args.name); reply = WasBegun } in
     let p : Pushed c.self.inside.history.items c.reserve.new.self.items c.push_reserved.new.self.items e = record { reserved = c.reserve.ensures.items; pushed = c.push_reserved.ensures.items } in (
       made_whole b g.K.Told.past c.self.invariant.0.past (g.met.D.Depot.only_now c.begin.new.self)
-          (begin_ok b (g.D.Depot.look c.begin.new.self) c.args.who (name_of c.args.name) c.requires.may c.write_name.ensures.reads c.in-Ok.stage c.in-Ok.ensures.call c.reserve.new.self.items c.push_reserved.new.self.items
-          (record { reserved = c.reserve.ensures.items; pushed = c.push_reserved.ensures.items })),
+          (begin_ok b (g.D.Depot.look c.begin.new.self) c.args.who (name_of c.args.name) c.requires.may c.write_name.ensures.reads c.in-Ok.stage c.in-Ok.ensures.call c.reserve.new.self.items c.push_reserved.new.self.items p),
       unfailed_faults c.self.invariant.1 p (g.D.Counted.faults c.begin.new.self) refl c.in-Ok.ensures.cause.later,
     )
 
@@ -53,8 +52,7 @@ invariant_of-self-in-Err-Failed g c =
     let e : Entry = record { who = c.args.who; step = BeginStep (name_of c.args.name); reply = Refused DepotFault } in
     let p : Pushed c.self.inside.history.items c.reserve.new.self.items c.push_reserved-in-Err-Failed.new.self.items e = pushed_as c.reserve.new.self.items c.push_reserved-in-Err-Failed.new.self.items c.faulted.result c.reserve.ensures.items c.push_reserved-in-Err-Failed.ensures.items c.faulted.ensures in (
       made_whole b g.K.Told.past c.self.invariant.0.past (g.met.D.Depot.only_now c.begin.new.self)
-          (begin_fault b (g.D.Depot.look c.begin.new.self) c.args.who (name_of c.args.name) c.requires.may c.write_name.ensures.reads c.in-Err-Failed.field-0 c.in-Err-Failed.field-0-is c.in-Err-Failed.ensures.call c.reserve.new.self.items c.push_reserved-in-Err-Failed.new.self.items
-          (pushed_as c.reserve.new.self.items c.push_reserved-in-Err-Failed.new.self.items c.faulted.result c.reserve.ensures.items c.push_reserved-in-Err-Failed.ensures.items c.faulted.ensures)),
+          (begin_fault b (g.D.Depot.look c.begin.new.self) c.args.who (name_of c.args.name) c.requires.may c.write_name.ensures.reads c.in-Err-Failed.field-0 c.in-Err-Failed.field-0-is c.in-Err-Failed.ensures.call c.reserve.new.self.items c.push_reserved-in-Err-Failed.new.self.items p),
       failed_faults c.self.invariant.1 p (g.D.Counted.faults c.begin.new.self) _ c.in-Err-Failed.ensures.cause (failed_so c.in-Err-Failed.field-0 c.in-Err-Failed.field-0-is) refl,
     )
 

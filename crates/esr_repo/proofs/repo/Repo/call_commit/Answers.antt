@@ -19,7 +19,7 @@ invariant_of-self-in-Ok-Done g c =
     let e : Entry = record { who = c.args.who; step = CommitStep (name_of c.args.stage.name); reply = WasDone } in
     let p : Pushed c.self.inside.history.items c.reserve.new.self.items c.push_reserved.new.self.items e = record { reserved = c.reserve.ensures.items; pushed = c.push_reserved.ensures.items } in (
       made_whole b g.K.Told.past c.self.invariant.0.past (g.met.D.Depot.only_now c.commit.new.self)
-          (commit_done b (g.D.Depot.look c.commit.new.self) c.args.who (name_of c.args.stage.name) (g.D.Stage.Stage.contents c.args.stage.stage) c.requires.may.0 c.requires.may.1 c.requires.may.2 c.reads_back.ensures (g.D.Stage.Stage.name c.args.stage.stage) c.args.stage.named c.in-Ok-Done.field-0 c.in-Ok-Done.field-0-is c.in-Ok-Done.ensures.call c.reserve.new.self.items c.push_reserved.new.self.items (record { reserved = c.reserve.ensures.items; pushed = c.push_reserved.ensures.items })).0,
+          (commit_done b (g.D.Depot.look c.commit.new.self) c.args.who (name_of c.args.stage.name) (g.D.Stage.Stage.contents c.args.stage.stage) c.requires.may.0 c.requires.may.1 c.requires.may.2 c.reads_back.ensures (g.D.Stage.Stage.name c.args.stage.stage) c.args.stage.named c.in-Ok-Done.field-0 c.in-Ok-Done.field-0-is c.in-Ok-Done.ensures.call c.reserve.new.self.items c.push_reserved.new.self.items p).0,
       unfailed_faults c.self.invariant.1 p (g.D.Counted.faults c.commit.new.self) refl c.in-Ok-Done.ensures.cause.later,
     )
 
@@ -39,7 +39,7 @@ invariant_of-self-then-is_metadata g c =
     let e : Entry = record { who = c.args.who; step = CommitStep (name_of c.args.stage.name); reply = WasThere } in
     let p : Pushed c.self.inside.history.items c.reserve.new.self.items c.push_reserved-then-is_metadata.new.self.items e = record { reserved = c.reserve.ensures.items; pushed = c.push_reserved-then-is_metadata.ensures.items } in (
       made_whole b g.K.Told.past c.self.invariant.0.past (g.met.D.Depot.only_now c.commit.new.self)
-          (commit_found b (g.D.Depot.look c.commit.new.self) c.args.who (name_of c.args.stage.name) (g.D.Stage.Stage.contents c.args.stage.stage) c.requires.may.0 c.requires.may.1 c.requires.may.2 c.reads_back.ensures (g.D.Stage.Stage.name c.args.stage.stage) c.args.stage.named c.in-Ok-Exists.field-0 c.in-Ok-Exists.field-0-is c.in-Ok-Exists.ensures.call (c.is_metadata.ensures.yes_it_is c.if-is_metadata.true) c.reserve.new.self.items c.push_reserved-then-is_metadata.new.self.items (record { reserved = c.reserve.ensures.items; pushed = c.push_reserved-then-is_metadata.ensures.items })),
+          (commit_found b (g.D.Depot.look c.commit.new.self) c.args.who (name_of c.args.stage.name) (g.D.Stage.Stage.contents c.args.stage.stage) c.requires.may.0 c.requires.may.1 c.requires.may.2 c.reads_back.ensures (g.D.Stage.Stage.name c.args.stage.stage) c.args.stage.named c.in-Ok-Exists.field-0 c.in-Ok-Exists.field-0-is c.in-Ok-Exists.ensures.call (c.is_metadata.ensures.yes_it_is c.if-is_metadata.true) c.reserve.new.self.items c.push_reserved-then-is_metadata.new.self.items p),
       unfailed_faults c.self.invariant.1 p (g.D.Counted.faults c.commit.new.self) refl c.in-Ok-Exists.ensures.cause.later,
     )
 
@@ -58,7 +58,7 @@ invariant_of-self-in-Ok-Exists g c =
     let e : Entry = record { who = c.args.who; step = CommitStep (name_of c.args.stage.name); reply = Refused (NameTaken (name_of c.args.stage.name)) } in
     let p : Pushed c.self.inside.history.items c.reserve.new.self.items c.push_reserved-in-Ok-Exists.new.self.items e = record { reserved = c.reserve.ensures.items; pushed = c.push_reserved-in-Ok-Exists.ensures.items } in (
       made_whole b g.K.Told.past c.self.invariant.0.past (g.met.D.Depot.only_now c.commit.new.self)
-          (commit_taken b (g.D.Depot.look c.commit.new.self) c.args.who (name_of c.args.stage.name) (g.D.Stage.Stage.contents c.args.stage.stage) c.requires.may.0 c.requires.may.1 c.requires.may.2 c.reads_back.ensures (g.D.Stage.Stage.name c.args.stage.stage) c.args.stage.named c.in-Ok-Exists.field-0 c.in-Ok-Exists.field-0-is c.in-Ok-Exists.ensures.call (c.is_metadata.ensures.it_is_not c.if-is_metadata.false) c.reserve.new.self.items c.push_reserved-in-Ok-Exists.new.self.items (record { reserved = c.reserve.ensures.items; pushed = c.push_reserved-in-Ok-Exists.ensures.items })),
+          (commit_taken b (g.D.Depot.look c.commit.new.self) c.args.who (name_of c.args.stage.name) (g.D.Stage.Stage.contents c.args.stage.stage) c.requires.may.0 c.requires.may.1 c.requires.may.2 c.reads_back.ensures (g.D.Stage.Stage.name c.args.stage.stage) c.args.stage.named c.in-Ok-Exists.field-0 c.in-Ok-Exists.field-0-is c.in-Ok-Exists.ensures.call (c.is_metadata.ensures.it_is_not c.if-is_metadata.false) c.reserve.new.self.items c.push_reserved-in-Ok-Exists.new.self.items p),
       unfailed_faults c.self.invariant.1 p (g.D.Counted.faults c.commit.new.self) refl c.in-Ok-Exists.ensures.cause.later,
     )
 
@@ -93,7 +93,7 @@ invariant_of-self-in-Err-Failed g c =
     let e : Entry = record { who = c.args.who; step = CommitStep (name_of c.args.stage.name); reply = Refused DepotFault } in
     let p : Pushed c.self.inside.history.items c.reserve.new.self.items c.push_reserved-in-Err-Failed.new.self.items e = pushed_as c.reserve.new.self.items c.push_reserved-in-Err-Failed.new.self.items c.faulted.result c.reserve.ensures.items c.push_reserved-in-Err-Failed.ensures.items c.faulted.ensures in (
       made_whole b g.K.Told.past c.self.invariant.0.past (g.met.D.Depot.only_now c.commit.new.self)
-          (commit_fault b (g.D.Depot.look c.commit.new.self) c.args.who (name_of c.args.stage.name) (g.D.Stage.Stage.contents c.args.stage.stage) c.requires.may.0 c.requires.may.1 c.requires.may.2 c.reads_back.ensures (g.D.Stage.Stage.name c.args.stage.stage) c.args.stage.named c.in-Err-Failed.field-0 c.in-Err-Failed.field-0-is c.in-Err-Failed.ensures.call c.reserve.new.self.items c.push_reserved-in-Err-Failed.new.self.items (pushed_as c.reserve.new.self.items c.push_reserved-in-Err-Failed.new.self.items c.faulted.result c.reserve.ensures.items c.push_reserved-in-Err-Failed.ensures.items c.faulted.ensures)),
+          (commit_fault b (g.D.Depot.look c.commit.new.self) c.args.who (name_of c.args.stage.name) (g.D.Stage.Stage.contents c.args.stage.stage) c.requires.may.0 c.requires.may.1 c.requires.may.2 c.reads_back.ensures (g.D.Stage.Stage.name c.args.stage.stage) c.args.stage.named c.in-Err-Failed.field-0 c.in-Err-Failed.field-0-is c.in-Err-Failed.ensures.call c.reserve.new.self.items c.push_reserved-in-Err-Failed.new.self.items p),
       failed_faults c.self.invariant.1 p (g.D.Counted.faults c.commit.new.self) _ c.in-Err-Failed.ensures.cause (failed_so c.in-Err-Failed.field-0 c.in-Err-Failed.field-0-is) refl,
     )
 

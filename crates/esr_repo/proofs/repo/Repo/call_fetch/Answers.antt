@@ -19,7 +19,7 @@ invariant_of-self-in-Ok-Some g c =
     let e : Entry = record { who = c.args.who; step = FetchStep (name_of c.args.name); reply = WasFetched } in
     let p : Pushed c.self.inside.history.items c.reserve.new.self.items c.push_reserved.new.self.items e = record { reserved = c.reserve.ensures.items; pushed = c.push_reserved.ensures.items } in (
       made_whole b g.K.Told.past c.self.invariant.0.past (g.met.D.Depot.only_now c.fetch.new.self)
-          (fetch_found b (g.D.Depot.look c.fetch.new.self) c.args.who (name_of c.args.name) c.requires.may c.write_name.ensures.reads c.as_str.result.now (c.as_str.ensures.text ∙ c.in_ok-text.ensures.text) c.in-Ok-Some.field-0 c.in-Ok-Some.fetch c.in-Ok-Some.field-0-is c.in-Ok-Some.ensures.present c.in-Ok-Some.ensures.call c.reserve.new.self.items c.push_reserved.new.self.items (record { reserved = c.reserve.ensures.items; pushed = c.push_reserved.ensures.items })),
+          (fetch_found b (g.D.Depot.look c.fetch.new.self) c.args.who (name_of c.args.name) c.requires.may c.write_name.ensures.reads c.as_str.result.now (c.as_str.ensures.text ∙ c.in_ok-text.ensures.text) c.in-Ok-Some.field-0 c.in-Ok-Some.fetch c.in-Ok-Some.field-0-is c.in-Ok-Some.ensures.present c.in-Ok-Some.ensures.call c.reserve.new.self.items c.push_reserved.new.self.items p),
       unfailed_faults c.self.invariant.1 p (g.D.Counted.faults c.fetch.new.self) refl c.in-Ok-Some.ensures.cause.later,
     )
 
@@ -43,7 +43,7 @@ invariant_of-self-in-Ok-None g c =
     let e : Entry = record { who = c.args.who; step = FetchStep (name_of c.args.name); reply = WasAbsent } in
     let p : Pushed c.self.inside.history.items c.reserve.new.self.items c.push_reserved-in-Ok-None.new.self.items e = record { reserved = c.reserve.ensures.items; pushed = c.push_reserved-in-Ok-None.ensures.items } in (
       made_whole b g.K.Told.past c.self.invariant.0.past (g.met.D.Depot.only_now c.fetch.new.self)
-          (fetch_absent b (g.D.Depot.look c.fetch.new.self) c.args.who (name_of c.args.name) c.requires.may c.write_name.ensures.reads c.as_str.result.now (c.as_str.ensures.text ∙ c.in_ok-text.ensures.text) c.in-Ok-None.field-0 c.in-Ok-None.field-0-is (c.in-Ok-None.ensures.absent (ap Ok c.in-Ok-None.field-0-is)) c.in-Ok-None.ensures.call c.reserve.new.self.items c.push_reserved-in-Ok-None.new.self.items (record { reserved = c.reserve.ensures.items; pushed = c.push_reserved-in-Ok-None.ensures.items })),
+          (fetch_absent b (g.D.Depot.look c.fetch.new.self) c.args.who (name_of c.args.name) c.requires.may c.write_name.ensures.reads c.as_str.result.now (c.as_str.ensures.text ∙ c.in_ok-text.ensures.text) c.in-Ok-None.field-0 c.in-Ok-None.field-0-is (c.in-Ok-None.ensures.absent (ap Ok c.in-Ok-None.field-0-is)) c.in-Ok-None.ensures.call c.reserve.new.self.items c.push_reserved-in-Ok-None.new.self.items p),
       unfailed_faults c.self.invariant.1 p (g.D.Counted.faults c.fetch.new.self) refl c.in-Ok-None.ensures.cause.later,
     )
 
@@ -78,7 +78,7 @@ invariant_of-self-in-Err-Failed g c =
     let e : Entry = record { who = c.args.who; step = FetchStep (name_of c.args.name); reply = Refused DepotFault } in
     let p : Pushed c.self.inside.history.items c.reserve.new.self.items c.push_reserved-in-Err-Failed.new.self.items e = pushed_as c.reserve.new.self.items c.push_reserved-in-Err-Failed.new.self.items c.faulted.result c.reserve.ensures.items c.push_reserved-in-Err-Failed.ensures.items c.faulted.ensures in (
       made_whole b g.K.Told.past c.self.invariant.0.past (g.met.D.Depot.only_now c.fetch.new.self)
-          (fetch_fault b (g.D.Depot.look c.fetch.new.self) c.args.who (name_of c.args.name) c.requires.may c.write_name.ensures.reads c.as_str.result.now (c.as_str.ensures.text ∙ c.in_ok-text.ensures.text) c.in-Err-Failed.field-0 c.in-Err-Failed.field-0-is c.in-Err-Failed.ensures.call c.reserve.new.self.items c.push_reserved-in-Err-Failed.new.self.items (pushed_as c.reserve.new.self.items c.push_reserved-in-Err-Failed.new.self.items c.faulted.result c.reserve.ensures.items c.push_reserved-in-Err-Failed.ensures.items c.faulted.ensures)),
+          (fetch_fault b (g.D.Depot.look c.fetch.new.self) c.args.who (name_of c.args.name) c.requires.may c.write_name.ensures.reads c.as_str.result.now (c.as_str.ensures.text ∙ c.in_ok-text.ensures.text) c.in-Err-Failed.field-0 c.in-Err-Failed.field-0-is c.in-Err-Failed.ensures.call c.reserve.new.self.items c.push_reserved-in-Err-Failed.new.self.items p),
       failed_faults c.self.invariant.1 p (g.D.Counted.faults c.fetch.new.self) _ c.in-Err-Failed.ensures.cause (failed_so c.in-Err-Failed.field-0 c.in-Err-Failed.field-0-is) refl,
     )
 

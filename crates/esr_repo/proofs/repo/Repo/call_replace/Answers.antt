@@ -15,7 +15,7 @@ invariant_of-self-in-Ok g c =
     let e : Entry = record { who = c.args.who; step = LatestStep; reply = WasReplaced } in
     let p : Pushed c.self.inside.history.items c.reserve.new.self.items c.push_reserved.new.self.items e = record { reserved = c.reserve.ensures.items; pushed = c.push_reserved.ensures.items } in (
       made_whole b g.K.Told.past c.self.invariant.0.past (g.met.D.Depot.only_now c.replace.new.self)
-          (replace_ok b (g.D.Depot.look c.replace.new.self) c.args.who (g.D.Stage.Stage.contents c.args.stage.stage) c.requires.may.0 c.requires.may.1 c.requires.may.2 latest_back (g.D.Stage.Stage.name c.args.stage.stage) (latest_named c.args.stage.name (g.D.Stage.Stage.name c.args.stage.stage) c.args.stage.named c.requires.name) c.in-Ok.field-0 c.in-Ok.ensures.call c.reserve.new.self.items c.push_reserved.new.self.items (record { reserved = c.reserve.ensures.items; pushed = c.push_reserved.ensures.items })),
+          (replace_ok b (g.D.Depot.look c.replace.new.self) c.args.who (g.D.Stage.Stage.contents c.args.stage.stage) c.requires.may.0 c.requires.may.1 c.requires.may.2 latest_back (g.D.Stage.Stage.name c.args.stage.stage) (latest_named c.args.stage.name (g.D.Stage.Stage.name c.args.stage.stage) c.args.stage.named c.requires.name) c.in-Ok.field-0 c.in-Ok.ensures.call c.reserve.new.self.items c.push_reserved.new.self.items p),
       unfailed_faults c.self.invariant.1 p (g.D.Counted.faults c.replace.new.self) refl c.in-Ok.ensures.cause.later,
     )
 
@@ -50,7 +50,7 @@ invariant_of-self-in-Err-Failed g c =
     let e : Entry = record { who = c.args.who; step = LatestStep; reply = Refused DepotFault } in
     let p : Pushed c.self.inside.history.items c.reserve.new.self.items c.push_reserved-in-Err-Failed.new.self.items e = pushed_as c.reserve.new.self.items c.push_reserved-in-Err-Failed.new.self.items c.faulted.result c.reserve.ensures.items c.push_reserved-in-Err-Failed.ensures.items c.faulted.ensures in (
       made_whole b g.K.Told.past c.self.invariant.0.past (g.met.D.Depot.only_now c.replace.new.self)
-          (replace_fault b (g.D.Depot.look c.replace.new.self) c.args.who (g.D.Stage.Stage.contents c.args.stage.stage) c.requires.may.0 c.requires.may.1 c.requires.may.2 latest_back (g.D.Stage.Stage.name c.args.stage.stage) (latest_named c.args.stage.name (g.D.Stage.Stage.name c.args.stage.stage) c.args.stage.named c.requires.name) c.in-Err-Failed.field-0 c.in-Err-Failed.field-0-is c.in-Err-Failed.ensures.call c.reserve.new.self.items c.push_reserved-in-Err-Failed.new.self.items (pushed_as c.reserve.new.self.items c.push_reserved-in-Err-Failed.new.self.items c.faulted.result c.reserve.ensures.items c.push_reserved-in-Err-Failed.ensures.items c.faulted.ensures)),
+          (replace_fault b (g.D.Depot.look c.replace.new.self) c.args.who (g.D.Stage.Stage.contents c.args.stage.stage) c.requires.may.0 c.requires.may.1 c.requires.may.2 latest_back (g.D.Stage.Stage.name c.args.stage.stage) (latest_named c.args.stage.name (g.D.Stage.Stage.name c.args.stage.stage) c.args.stage.named c.requires.name) c.in-Err-Failed.field-0 c.in-Err-Failed.field-0-is c.in-Err-Failed.ensures.call c.reserve.new.self.items c.push_reserved-in-Err-Failed.new.self.items p),
       failed_faults c.self.invariant.1 p (g.D.Counted.faults c.replace.new.self) _ c.in-Err-Failed.ensures.cause (failed_so c.in-Err-Failed.field-0 c.in-Err-Failed.field-0-is) refl,
     )
 
