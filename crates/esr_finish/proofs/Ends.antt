@@ -1,17 +1,15 @@
 -- The ends of the unit that aren't Ok.
-use Rattle.std.proofs.Common.{◌≡◌, ◌⊎◌, inl, inr, ℕ, Bool, true, false, List, [], Option, Some, None, Result, Ok, Err, IfErr, refl, sym, ap, ◌∙◌, subst}
+use Rattle.std.proofs.Common.{◌≡◌, ◌⊎◌, inl, inr, ℕ, Bool, true, false, List, Option, Some, None, Result, Ok, Err, IfErr, refl, sym, ap, ◌∙◌, subst}
 use Rattle.std.specs.Result.{IsErrAnd}
 use Rattle.esr_model.specs.Values.{RootData, SnapInfo}
-use Rattle.esr_core.specs.World.{Ticket, Work, Shard, Finalize, Deleting, Drop}
-use Rattle.esr_core.specs.Entry.{Step, SettleStep, FailedStep, FinishStep, OfDepot, DepotFault, Refused, Refusal, Moment}
+use Rattle.esr_core.specs.World.{Ticket}
+use Rattle.esr_core.specs.Entry.{Step, SettleStep, FailedStep, FinishStep, OfDepot, DepotFault, Refusal, Moment}
 use Rattle.esr_desk.specs.declared.refusal.StepRefusal.{StepRefusal}
 use Rattle.esr_desk.specs.declared.unit.UnitRefusal.{UnitRefusal}
 use Rattle.esr_desk.specs.declared.unit.UnitRefusal.TheVariants as units
 use Rattle.esr_desk.specs.Refusals.{told_refusal}
 use Rattle.esr_desk.specs.Start.{Start, formats_of, ticket_of}
 use Rattle.esr_desk.specs.Outcome.{Refusing, Waited}
-use Rattle.esr_desk.specs.declared.fault.By.TheVariants as by
-use Rattle.esr_desk.specs.Shown.{Counts, is_of_latest, Matters, IsShown}
 use Rattle.esr_desk.specs.declared.refusal.StepRefusal.TheVariants as steps
 use Rattle.esr_desk.specs.declared.refusal.EntryRefusal.{EntryRefusal}
 use Rattle.esr_desk.specs.declared.refusal.EntryRefusal.TheVariants as refusals
@@ -80,8 +78,6 @@ fail_ends {S = S} s faults old mid new who info root (units.Failed why) may went
 fail_ends {S = S} s faults old mid new who info root (units.Stopped refusal) may went fault reported =
     ending_refused s faults old mid new who info root (FailedStep OfDepot) refusal may went reported.0 tt reported.1
 
--- ---- what failed
-
 -- a failed stage
 pub by_stage : {S : Type 0} (s : Start) (faults : S → ℕ) (mid : List Moment) (who : ℕ) (e : PutRefusal S) (stage : S) → e ≡ puts.Stage stage → IsPutRefused faults mid who e
     → (log : List Moment) → Waited s mid log who → HasFault s faults log who
@@ -97,22 +93,3 @@ fault_was faults mid who e r x e_is r_is x_is refused =
 
 pub by_step : {S : Type 0} (s : Start) (faults : S → ℕ) (mid : List Moment) (who : ℕ) → WasPutRefused mid who (Some DepotFault) → (log : List Moment) → Waited s mid log who → HasFault s faults log who
 by_step s faults mid who was log waited = inr (record { front = mid; step = was.0; refused = was.1; matters = was.2 refl; waited = waited })
-
--- ---- what shows it
-
-matters_of : (work : Work) (step : Step) → is_of_latest step ≡ false → Matters work step
-matters_of (Shard index number) step h = tt
-matters_of (Finalize info shards made) step h = h
-matters_of (Deleting uuids plan) step h = h
-matters_of Drop step h = h
-
-pub step_shown : {S F H T : Type 0} (c : Counts S F H T) (s : Start) (log : List Moment) (who : ℕ) → WasPutRefused log who (Some DepotFault) → IsShown c s log who OfDepot by.Entry
-step_shown c s log who was = record {
-  front = was.1.front;
-  moment = record { entry = record { who = who; step = was.0; reply = Refused DepotFault }; image = was.1.image };
-  back = [];
-  is = was.1.is;
-  of = refl;
-  reply = refl;
-  matters = matters_of (ticket_of s log who).work was.0 (was.2 refl);
-}
