@@ -11,7 +11,6 @@ use Rattle.esr_core.specs.World.{Ticket, Work, Shard}
 use Rattle.esr_core.specs.Entry.{Why, OfDepot, OfSource, OfChange, OfDamage, FailedStep, HasEnded, Refused, DepotFault, Moment}
 use Rattle.esr_formats.specs.Ids.{number_of}
 use Rattle.esr_source.specs.declared.address.Address.{Address}
-use Rattle.esr_desk.specs.declared.entry.Why.{Why as CodeWhy}
 use Rattle.esr_desk.specs.declared.entry.Why.TheVariants as whys
 use Rattle.esr_desk.specs.declared.refusal.StepRefusal.{StepRefusal}
 use Rattle.esr_desk.specs.declared.refusal.StepRefusal.TheVariants as steps
@@ -176,26 +175,26 @@ of_on old new address worked of = record {
   name = ap (λ (t : Ticket). t.name) worked.is ∙ of.name;
 }
 
-module _ {S F H T : Type 0} (c : Counts S F H T) (files : Option (List (Bytes × Bytes))) (s : Start) (old mid : List Moment) (who : ℕ) (at : ShardId) (base : Option Id) (shard : H) (trouble : Trouble S F) (why : CodeWhy) (b : By S F H T)
+module _ {S F H T : Type 0} (c : Counts S F H T) (files : Option (List (Bytes × Bytes))) (s : Start) (old mid : List Moment) (who : ℕ) (at : ShardId) (base : Option Id) (shard : H) (trouble : Trouble S F) (cause : Cause S F H T)
     (went : Went s old mid who) (work : (ticket_of s old who).work ≡ Shard at.index.number at.number) (base_is : (ticket_of s old who).base ≡ option_map number_of base) (of : IsOf (ticket_of s old who) (c.made_for shard))
-    (shown : Shown c.stage c.fetch (c.shard shard) files s mid who trouble) (untold : IsChangeUntold s (ticket_of s mid who) trouble) (is : cause_by {S = S} {F = F} {H = H} {T = T} at base shard trouble ≡ Ok (record { why = why; by = b })) where
+    (shown : Shown c.stage c.fetch (c.shard shard) files s mid who trouble) (untold : IsChangeUntold s (ticket_of s mid who) trouble) (is : cause_by {S = S} {F = F} {H = H} {T = T} at base shard trouble ≡ Ok cause) where
   -- before the report
-  pub cause_shown : IsShown c s mid who (why_of why) b × IsChangeOfUntold files why
+  pub cause_shown : IsShown c s mid who (why_of cause.why) cause.by × IsChangeOfUntold files cause.why
   cause_shown =
       let work_mid : (ticket_of s mid who).work ≡ Shard at.index.number at.number = ap (λ (t : Ticket). t.work) went.worked.is ∙ work in
       let base_mid : (ticket_of s mid who).base ≡ option_map number_of base = ap (λ (t : Ticket). t.base) went.worked.is ∙ base_is in
-      caused c files s mid who at base shard trouble (record { why = why; by = b }) work_mid base_mid (of_on (ticket_of s old who) (ticket_of s mid who) (c.made_for shard) went.worked of) shown untold is
+      caused c files s mid who at base shard trouble cause work_mid base_mid (of_on (ticket_of s old who) (ticket_of s mid who) (c.made_for shard) went.worked of) shown untold is
 
   -- the ticket has ended as failed
-  pub failed_end : (new : List Moment) → Stepped s mid new who (FailedStep (why_of why)) HasEnded → ticket_of s new who ≡ record (ticket_of s mid who) { out = false } → IsUnitRefused c files s old new who (units.Failed why)
+  pub failed_end : (new : List Moment) → Stepped s mid new who (FailedStep (why_of cause.why)) HasEnded → ticket_of s new who ≡ record (ticket_of s mid who) { out = false } → IsUnitRefused c files s old new who (units.Failed cause.why)
   failed_end new step own = (
     (ticket_of s mid who, went.worked, own),
     record {
       front = step.front;
       image = step.image;
       is = step.is;
-      by = b;
-      shown = shown_on c s mid step.front who step.waited (why_of why) b cause_shown.0;
+      by = cause.by;
+      shown = shown_on c s mid step.front who step.waited (why_of cause.why) cause.by cause_shown.0;
       untold = cause_shown.1;
     },
   )

@@ -15,7 +15,7 @@ ghost use Rattle.esr_upload.specs.Trouble.{Shown, IsChangeUntold};
 ghost use Rattle.esr_upload.specs.Worked.{Went};
 
 use crate::base::read_base;
-use crate::cause::{Cause, cause_of};
+use crate::cause::cause_of;
 use crate::files::{count_new, store_files, sum_of};
 use crate::publish::finish;
 use crate::survey::survey;
@@ -212,8 +212,9 @@ pub fn run_unit<Q: Desk<Shard = S::Shard>, S: Sources, G: Gate>(
     ) {
         Ok(()) => Ok(()),
         Err(trouble) => match cause_of(*at, base, shard, trouble) {
-            Ok(Cause { why, by }) => {
-                desk.failed(alloc, ticket, why, by)?;
+            Ok(cause) => {
+                let why = cause.why;
+                desk.failed(alloc, ticket, why, cause.by)?;
                 Err(UnitRefusal::Failed(why))
             }
             Err(refusal) => Err(UnitRefusal::Stopped(refusal)),
