@@ -1,5 +1,5 @@
 -- How the unit of a shard ends where it isn't done.
-use Rattle.std.proofs.Common.{◌≡◌, ◌≢◌, inl, inr, ℕ, ◌<◌, true, false, List, [], ◌∷◌, ◌++◌, append_assoc, Option, Some, None, option_map, Result, Ok, Err, IfErr, refl, sym, ap, ◌∙◌, subst}
+use Rattle.std.proofs.Common.{◌≡◌, ◌≢◌, inl, inr, ℕ, true, false, List, [], ◌∷◌, ◌++◌, append_assoc, Option, Some, None, option_map, Result, Ok, Err, IfErr, refl, sym, ap, ◌∙◌, subst}
 use Rattle.std.specs.Result.{IsErrAnd}
 use Rattle.esr_hash.specs.declared.print.Print.{Print}
 use Rattle.esr_names.specs.declared.ids.Id.{Id}
@@ -30,7 +30,7 @@ use Rattle.esr_upload.specs.declared.cause.Cause.{Cause}
 use Rattle.esr_upload.specs.declared.trouble.Trouble.{Trouble}
 use Rattle.esr_upload.specs.declared.trouble.Trouble.TheVariants as troubles
 use Rattle.esr_upload.specs.Cause.{cause_refused, damaged_by, cause_by}
-use Rattle.esr_upload.specs.Refused.{IsChangeOfUntold, HasFailed, IsUnitRefused}
+use Rattle.esr_upload.specs.Refused.{IsChangeOfUntold, IsUnitRefused}
 use Rattle.esr_upload.specs.Trouble.{Shown, BadBase, IsChangeUntold}
 use Rattle.esr_upload.specs.Worked.{Worked, Went}
 
@@ -110,15 +110,18 @@ module _ {S F H T : Type 0} (c : Counts S F H T) (files : Option (List (Bytes ×
   refused_shows index number (steps.Refused refusals.DepotFault) cause work was is =
       let entry : Cause S F H T = record { why = whys.Depot; by = shows.Entry } in
       let same : entry ≡ cause = cc in
-      subst Caused same (record {
-        front = was.1.front;
-        moment = record { entry = record { who = who; step = was.0; reply = Refused DepotFault }; image = was.1.image };
-        back = [];
-        is = was.1.is;
-        of = refl;
-        reply = refl;
-        matters = subst (λ (w : Work). Matters w was.0) (sym work) tt;
-      }, tt)
+      subst Caused same (
+        record {
+          front = was.1.front;
+          moment = record { entry = record { who = who; step = was.0; reply = Refused DepotFault }; image = was.1.image };
+          back = [];
+          is = was.1.is;
+          of = refl;
+          reply = refl;
+          matters = subst (λ (w : Work). Matters w was.0) (sym work) tt;
+        },
+        tt,
+      )
   refused_shows index number (steps.Refused (refusals.CleanupRunning op)) cause work was is = cc
   refused_shows index number (steps.Refused (refusals.NameInUse uuid)) cause work was is = cc
   refused_shows index number (steps.Refused (refusals.TooMany limit)) cause work was is = cc
@@ -179,7 +182,7 @@ module _ {S F H T : Type 0} (c : Counts S F H T) (files : Option (List (Bytes ×
     (went : Went s old mid who) (work : (ticket_of s old who).work ≡ Shard at.index.number at.number) (base_is : (ticket_of s old who).base ≡ option_map number_of base) (of : IsOf (ticket_of s old who) (c.made_for shard))
     (shown : Shown c.stage c.fetch (c.shard shard) files s mid who trouble) (untold : IsChangeUntold s (ticket_of s mid who) trouble) (is : cause_by {S = S} {F = F} {H = H} {T = T} at base shard trouble ≡ Ok cause) where
   -- before the report
-  pub cause_shown : Caused c files s mid who cause
+  pub cause_shown : IsShown c s mid who (why_of cause.why) cause.by × IsChangeOfUntold files cause.why
   cause_shown =
       let work_mid : (ticket_of s mid who).work ≡ Shard at.index.number at.number = ap (λ (t : Ticket). t.work) went.worked.is ∙ work in
       let base_mid : (ticket_of s mid who).base ≡ option_map number_of base = ap (λ (t : Ticket). t.base) went.worked.is ∙ base_is in

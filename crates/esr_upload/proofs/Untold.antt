@@ -1,5 +1,5 @@
 -- A file that changed is of a shard whose files the sources don't tell.
-use Rattle.std.proofs.Common.{◌≡◌, inl, inr, ℕ, true, false, List, [], Option, Some, None, Result, Ok, Err, IfErr, sym, ap, ◌∙◌, subst}
+use Rattle.std.proofs.Common.{◌≡◌, inl, inr, ℕ, true, List, [], Option, Some, None, Result, Ok, Err, IfErr, sym, ap, ◌∙◌, subst}
 use Rattle.std.proofs.lemmas.Bool.{cases_Bool}
 use Rattle.esr_names.specs.declared.ids.Id.{Id}
 use Rattle.esr_model.specs.Values.{Bytes}
@@ -8,7 +8,6 @@ use Rattle.esr_core.specs.Entry.{Moment}
 use Rattle.esr_source.specs.declared.files.ListedFile.{ListedFile}
 use Rattle.esr_shardidx.specs.Indices.{IndexValue}
 use Rattle.esr_reuse.specs.declared.reuse.Planned.{Planned}
-use Rattle.esr_desk.specs.declared.refusal.StepRefusal.TheVariants as steps
 use Rattle.esr_desk.specs.Start.{Start, ticket_of}
 use Rattle.esr_desk.specs.Shown.{IsUntold}
 use Rattle.esr_upload.specs.declared.trouble.Trouble.{Trouble}

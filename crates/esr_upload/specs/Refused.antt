@@ -4,7 +4,6 @@ use Rattle.esr_model.specs.Image.{Image}
 use Rattle.esr_model.specs.Values.{Bytes, ShardResult}
 use Rattle.esr_core.specs.World.{Ticket}
 use Rattle.esr_core.specs.Entry.{DoneStep, FailedStep, HasEnded, Moment}
-use Rattle.esr_results.specs.Results.{result_of}
 use Rattle.esr_progress.specs.declared.unit.Work.{Work}
 use Rattle.esr_progress.specs.declared.unit.Work.TheVariants as works
 use Rattle.esr_desk.specs.declared.entry.Why.{Why}

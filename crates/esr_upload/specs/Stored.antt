@@ -1,6 +1,6 @@
 -- A file that is stored under an id.
-use Rattle.std.specs.Prelude.{◌≡◌, ℕ, false, true, List, Option, Some, None}
-use Rattle.esr_model.specs.Values.{Bytes, FileEntry}
+use Rattle.std.specs.Prelude.{◌≡◌, ℕ, false, true, Option, Some, None}
+use Rattle.esr_model.specs.Values.{Bytes}
 use Rattle.esr_model.specs.Uploads.{file_blobs}
 use Rattle.esr_core.specs.World.{Ticket, Shard}
 use Rattle.esr_core.specs.Steps.{Drew}

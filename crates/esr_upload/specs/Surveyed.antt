@@ -1,5 +1,5 @@
 -- The first reading of a shard's files.
-use Rattle.std.specs.Prelude.{◌≡◌, ℕ, ◌^◌, ◌<◌, true, List, Option, Some, None, map, length}
+use Rattle.std.specs.Prelude.{◌≡◌, ◌^◌, ◌<◌, true, List, Option, Some, None, map, length}
 use Rattle.std.specs.List.{AllByRecursion}
 use Rattle.esr_hash.specs.declared.print.Print.{Print}
 use Rattle.esr_hash.specs.Prints.{print_of}

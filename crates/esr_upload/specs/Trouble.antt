@@ -1,6 +1,6 @@
 -- What shows a trouble.
 use Rattle.std.specs.Prelude.{◌≡◌, ◌≢◌, ℕ, ◌<◌, List, Option, Some, None}
-use Rattle.esr_model.specs.Names.{BlobName, ShardIndex}
+use Rattle.esr_model.specs.Names.{ShardIndex}
 use Rattle.esr_model.specs.Values.{Bytes}
 use Rattle.esr_core.specs.Entry.{Moment}
 use Rattle.esr_core.specs.World.{Ticket, Shard}

@@ -15,7 +15,7 @@ ghost use Rattle.esr_upload.specs.Trouble.{Shown, IsChangeUntold};
 ghost use Rattle.esr_upload.specs.Worked.{Went};
 
 use crate::base::read_base;
-use crate::cause::{Cause, cause_of};
+use crate::cause::cause_of;
 use crate::files::{count_new, store_files, sum_of};
 use crate::publish::finish;
 use crate::survey::survey;
@@ -187,7 +187,7 @@ pub fn run_unit<Q: Desk<Shard = S::Shard>, S: Sources, G: Gate>(
     requires size { part_size ≡ Q.start.part_size }
     requires sized { (1 ≤ part_size) × (part_size ≤ 2 ^ 30) }
     ensures ok { OnOk result (HasDone Q.start (Q.seen desk.old) (Q.seen desk.new) unit.now.ready.ticket) }
-    ensures refused { IfErr result (IsUnitRefused (record { stage = Q.Stage.faults; fetch = Q.Fetch.faults; shard = Q.Shard.faults; target = Q.Target.faults; made_for = λ h. (Q.Shard.origin h).address })
+    ensures refused { IfErr result (IsUnitRefused (record { stage = Q.Stage.faults; fetch = Q.Fetch.faults; shard = S.Shard.faults; target = Q.Target.faults; made_for = λ h. (S.Shard.origin h).address })
         (told_of (S.files sources.now) unit.now.ready.work) Q.start (Q.seen desk.old) (Q.seen desk.new) unit.now.ready.ticket) }
     ensures grew { Grew Q.start (Q.seen desk.old) (Q.seen desk.new) }
     ensures holds { Q.holds desk.new unit.now.ready.ticket }
@@ -212,8 +212,9 @@ pub fn run_unit<Q: Desk<Shard = S::Shard>, S: Sources, G: Gate>(
     ) {
         Ok(()) => Ok(()),
         Err(trouble) => match cause_of(*at, base, shard, trouble) {
-            Ok(Cause { why, by }) => {
-                desk.failed(alloc, ticket, why, by)?;
+            Ok(cause) => {
+                let why = cause.why;
+                desk.failed(alloc, ticket, why, cause.by)?;
                 Err(UnitRefusal::Failed(why))
             }
             Err(refusal) => Err(UnitRefusal::Stopped(refusal)),

@@ -7,4 +7,4 @@ returns-in_err-text-clause-went g c = went_none g.Q.Desk.start (g.Q.Desk.seen c.
 
 pub put-requires-clause-layout : goal.put-requires-clause-layout
 unfolding IsName
-put-requires-clause-layout g c = c.requires.few
+put-requires-clause-layout g c κs within = c.requires.few

@@ -3,12 +3,12 @@ use Rattle.esr_model.specs.Values.{Bytes}
 use Rattle.esr_source.specs.Address.{address}
 use Rattle.esr_source.specs.Origin.{Origin}
 use Rattle.esr_progress.specs.declared.unit.Work.{Work}
-use Rattle.esr_desk.specs.Shown.{Counts}
+use Rattle.esr_core.specs.Entry.{FailedStep, HasEnded}
+use Rattle.esr_desk.specs.Entries.{why_of}
 use Rattle.esr_desk.specs.Start.{ticket_of}
-use Rattle.esr_upload.specs.declared.cause.Cause.{Cause}
 use Rattle.esr_upload.specs.Refused.{told_of}
 use Rattle.esr_upload.specs.Trouble.{Shown}
-use Rattle.esr_upload.proofs.Going.{worked_none}
+use Rattle.esr_upload.proofs.Going.{worked_none, grew_on, outcome_grew}
 use Rattle.esr_upload.proofs.Drawing.{took_shard, took_of}
 use Rattle.esr_upload.proofs.Refusing.{cause_shown, failed_end}
 use Rattle.esr_upload.proofs.unit.run_unit.Goals as goal
@@ -28,26 +28,19 @@ failed-requires-clause-shown g c =
     let trouble = c.in-Err-work.trouble in
     let refused = c.in-Err-work.ensures in
     let made = c.in-Ok.ensures in
-    let cause : Cause g.Q.Stage g.Q.Fetch g.Q.Shard g.Q.Target = record { why = c.in-Ok-cause_of.why; by = c.in-Ok-cause_of.by } in
-    let counts : Counts g.Q.Stage g.Q.Fetch g.Q.Shard g.Q.Target = record {
-      stage = g.Q.Stage.Counted.faults;
-      fetch = g.Q.Fetch.Counted.faults;
-      shard = g.Q.Shard.Counted.faults;
-      target = g.Q.Target.Counted.faults;
-      made_for = λ h. (g.Q.Shard.Shard.origin h).address;
-    } in
     let took = took_shard ready.work c.args.unit.now.new_root ready.op ready.copy (ticket_of s old who) c.in-Shard.uuid at c.in-Shard.index c.in-Shard.place c.in-Shard.is c.requires.fresh in
     let files : (g.S.Shard.Shard.origin c.in-Ok.shard).files ≡ told_of told ready.work =
     made.files ∙ ap (λ (p : Bytes). told p c.as_str-2.result.now at.number) c.as_str.ensures.text ∙ ap (λ (n : Bytes). told c.in-Shard.place n at.number) c.as_str-2.ensures.text
     ∙ sym (ap (λ (w : Work). told_of told w) c.in-Shard.is) in
     let shown = subst (λ (fs : Option (List (Bytes × Bytes))). Shown g.Q.Stage.Counted.faults g.Q.Fetch.Counted.faults (g.S.Shard.Counted.faults c.work.new.shard) fs s mid who trouble) files refused.trouble in
-    let address_is : (g.Q.Shard.Shard.origin c.work.new.shard).address ≡ address c.in-Shard.place c.in-Shard.index at.number =
+    let address_is : (g.S.Shard.Shard.origin c.work.new.shard).address ≡ address c.in-Shard.place c.in-Shard.index at.number =
     ap (λ (o : Origin). o.address) refused.origin ∙ made.address ∙ ap (λ (p : Bytes). address p c.as_str-2.result.now at.number) c.as_str.ensures.text ∙ ap (λ (n : Bytes). address c.in-Shard.place n at.number) c.as_str-2.ensures.text in
-    let of = took_of ready.work c.args.unit.now.new_root ready.op ready.copy (ticket_of s old who) c.in-Shard.uuid at c.in-Shard.index c.in-Shard.place c.in-Shard.is c.requires.fresh (g.Q.Shard.Shard.origin c.work.new.shard).address address_is in
-    (cause_shown counts (told_of told ready.work) s old mid who at ready.copy.base c.work.new.shard trouble cause refused.went took.0 took.1 of shown refused.untold (sym c.cause_of.ensures ∙ c.in-Ok-cause_of.is)).0
+    let of = took_of ready.work c.args.unit.now.new_root ready.op ready.copy (ticket_of s old who) c.in-Shard.uuid at c.in-Shard.index c.in-Shard.place c.in-Shard.is c.requires.fresh (g.S.Shard.Shard.origin c.work.new.shard).address address_is in
+    (cause_shown (record { stage = g.Q.Stage.Counted.faults; fetch = g.Q.Fetch.Counted.faults; shard = g.S.Shard.Counted.faults; target = g.Q.Target.Counted.faults; made_for = λ h. (g.S.Shard.Shard.origin h).address })
+    (told_of told ready.work) s old mid who at ready.copy.base c.work.new.shard trouble c.in-Ok-cause_of.cause refused.went took.0 took.1 of shown refused.untold (sym c.cause_of.ensures ∙ c.in-Ok-cause_of.is)).0
 
-pub returns-in-Ok-cause_of-clause-refused : goal.returns-in-Ok-cause_of-clause-refused
-returns-in-Ok-cause_of-clause-refused g c =
+pub returns-in_ok-failed-in-Ok-cause_of-clause-refused : goal.returns-in_ok-failed-in-Ok-cause_of-clause-refused
+returns-in_ok-failed-in-Ok-cause_of-clause-refused g c =
     let s = g.Q.Desk.start in
     let ready = c.args.unit.now.ready in
     let who = ready.ticket in
@@ -58,22 +51,24 @@ returns-in-Ok-cause_of-clause-refused g c =
     let trouble = c.in-Err-work.trouble in
     let refused = c.in-Err-work.ensures in
     let made = c.in-Ok.ensures in
-    let cause : Cause g.Q.Stage g.Q.Fetch g.Q.Shard g.Q.Target = record { why = c.in-Ok-cause_of.why; by = c.in-Ok-cause_of.by } in
-    let counts : Counts g.Q.Stage g.Q.Fetch g.Q.Shard g.Q.Target = record {
-      stage = g.Q.Stage.Counted.faults;
-      fetch = g.Q.Fetch.Counted.faults;
-      shard = g.Q.Shard.Counted.faults;
-      target = g.Q.Target.Counted.faults;
-      made_for = λ h. (g.Q.Shard.Shard.origin h).address;
-    } in
     let took = took_shard ready.work c.args.unit.now.new_root ready.op ready.copy (ticket_of s old who) c.in-Shard.uuid at c.in-Shard.index c.in-Shard.place c.in-Shard.is c.requires.fresh in
     let files : (g.S.Shard.Shard.origin c.in-Ok.shard).files ≡ told_of told ready.work =
     made.files ∙ ap (λ (p : Bytes). told p c.as_str-2.result.now at.number) c.as_str.ensures.text ∙ ap (λ (n : Bytes). told c.in-Shard.place n at.number) c.as_str-2.ensures.text
     ∙ sym (ap (λ (w : Work). told_of told w) c.in-Shard.is) in
     let shown = subst (λ (fs : Option (List (Bytes × Bytes))). Shown g.Q.Stage.Counted.faults g.Q.Fetch.Counted.faults (g.S.Shard.Counted.faults c.work.new.shard) fs s mid who trouble) files refused.trouble in
-    let address_is : (g.Q.Shard.Shard.origin c.work.new.shard).address ≡ address c.in-Shard.place c.in-Shard.index at.number =
+    let address_is : (g.S.Shard.Shard.origin c.work.new.shard).address ≡ address c.in-Shard.place c.in-Shard.index at.number =
     ap (λ (o : Origin). o.address) refused.origin ∙ made.address ∙ ap (λ (p : Bytes). address p c.as_str-2.result.now at.number) c.as_str.ensures.text ∙ ap (λ (n : Bytes). address c.in-Shard.place n at.number) c.as_str-2.ensures.text in
-    let of = took_of ready.work c.args.unit.now.new_root ready.op ready.copy (ticket_of s old who) c.in-Shard.uuid at c.in-Shard.index c.in-Shard.place c.in-Shard.is c.requires.fresh (g.Q.Shard.Shard.origin c.work.new.shard).address address_is in
+    let of = took_of ready.work c.args.unit.now.new_root ready.op ready.copy (ticket_of s old who) c.in-Shard.uuid at c.in-Shard.index c.in-Shard.place c.in-Shard.is c.requires.fresh (g.S.Shard.Shard.origin c.work.new.shard).address address_is in
     let reported = c.in_ok-failed-in-Ok-cause_of.ensures in
-    failed_end counts (told_of told ready.work) s old mid who at ready.copy.base c.work.new.shard trouble cause refused.went took.0 took.1 of shown refused.untold (sym c.cause_of.ensures ∙ c.in-Ok-cause_of.is)
+    failed_end (record { stage = g.Q.Stage.Counted.faults; fetch = g.Q.Fetch.Counted.faults; shard = g.S.Shard.Counted.faults; target = g.Q.Target.Counted.faults; made_for = λ h. (g.S.Shard.Shard.origin h).address })
+    (told_of told ready.work) s old mid who at ready.copy.base c.work.new.shard trouble c.in-Ok-cause_of.cause refused.went took.0 took.1 of shown refused.untold (sym c.cause_of.ensures ∙ c.in-Ok-cause_of.is)
     (g.Q.Desk.seen c.failed.new.self) reported.step reported.own
+
+pub returns-in_err-failed-in-Ok-cause_of-clause-grew : goal.returns-in_err-failed-in-Ok-cause_of-clause-grew
+returns-in_err-failed-in-Ok-cause_of-clause-grew g c =
+    let s = g.Q.Desk.start in
+    let who = c.args.unit.now.ready.ticket in
+    let old = g.Q.Desk.seen c.args.desk.now in
+    let mid = g.Q.Desk.seen c.work.new.desk in
+    let new = g.Q.Desk.seen c.failed.new.self in
+    grew_on s old mid new c.work.ensures.grew (outcome_grew s mid new who (FailedStep (why_of c.in-Ok-cause_of.cause.why)) (λ x. HasEnded) c.failed.result c.failed.ensures.step)

@@ -11,7 +11,7 @@ use Rattle.esr_upload.proofs.Untold.{on_err, no_change, change_untold}
 use Rattle.esr_upload.proofs.unit.store.Goals as goal
 
 pub finish-requires-clause-drew : goal.finish-requires-clause-drew
-finish-requires-clause-drew g c =
+finish-requires-clause-drew g c κs within =
     let s = g.Q.Desk.start in
     let who = c.args.ticket in
     let count : c.args.first.number + c.from.result ≡ c.args.first.number + new_count c.args.plans.now = ap (λ (n : ℕ). c.args.first.number + n) (c.from.ensures ∙ c.count_new.ensures.count) in
@@ -20,7 +20,7 @@ finish-requires-clause-drew g c =
     (c.args.first.number + c.from.result) count
 
 pub finish-requires-clause-ahead : goal.finish-requires-clause-ahead
-finish-requires-clause-ahead g c =
+finish-requires-clause-ahead g c κs within =
     let s = g.Q.Desk.start in
     let who = c.args.ticket in
     bad_end s (g.S.Shard.origin c.args.shard.now).files (g.S.Shard.listed c.args.shard.now) c.args.at c.args.uuid c.args.base.now c.args.plans.now c.args.part_size c.args.first.number c.in_ok-entries.entries
@@ -28,7 +28,7 @@ finish-requires-clause-ahead g c =
     (g.Q.Desk.seen c.store_files.new.desk) who refl c.requires.sized.1
 
 pub finish-requires-clause-ready : goal.finish-requires-clause-ready
-finish-requires-clause-ready g c =
+finish-requires-clause-ready g c κs within =
     let s = g.Q.Desk.start in
     let who = c.args.ticket in
     let count : c.args.first.number + c.from.result ≡ c.args.first.number + new_count c.args.plans.now = ap (λ (n : ℕ). c.args.first.number + n) (c.from.ensures ∙ c.count_new.ensures.count) in
