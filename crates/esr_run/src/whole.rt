@@ -116,8 +116,9 @@ fn run_told<D: Depot, S: Sources, T: Targets, G: Gate, K: Told>(
     ensures told { IsTold result.0.verdict.status result.0.verdict.text (Some (Carried asked.now.script result.0.history)) }
 {
     let repo = Repo::<D, K>::from_opening(alloc, opening);
-    let (repo, faults, carried) =
-        carry_on::<D, S, T, G, K>(alloc, repo, asked, sources, gate, moment);
+    let (repo, faults, carried) = carry_on::<D, S, T, G, K>(
+        alloc, repo, asked, sources, gate, moment,
+    );
     let (depot, history) = repo.into_parts();
     let verdict = verdict_after(alloc, carried, &asked.script, &history);
     let done = Done {

@@ -1,8 +1,8 @@
 //! Runs over what an earlier run, or a crash in it, left.
 use crate::setting::{RECORD, ROOT, SCRIPT, has_record, holds, run_on};
 use esr_depot::{CallError, Counted, Depot, Stage};
-use esr_memdepot::{Call, Failing, Leaves, MemDepot, Plan};
 use esr_desk::{FailedObject, Fault};
+use esr_memdepot::{Call, Failing, Leaves, MemDepot, Plan};
 use esr_seq::Seq;
 use std::alloc::Global;
 use std::test::Fail;
