@@ -3,7 +3,7 @@ use Rattle.std.proofs.Common.{◌≡◌, ◌⊎◌, ℕ, ◌<◌, Bool, true, Li
 use Rattle.std.specs.Prelude.{unwrap_or}
 use Rattle.std.specs.Io.KnownBytes.{Appends}
 use Rattle.esr_model.specs.Values.{Bytes}
-use Rattle.esr_core.specs.Entry.{Entry}
+use Rattle.esr_core.specs.Entry.{Entry, Moment}
 use Rattle.esr_core.specs.World.{World}
 use Rattle.esr_depot.specs.Image.{Image as Held}
 use Rattle.esr_depot.specs.Look.{Look, now}
@@ -163,3 +163,9 @@ printed status wanted text old new old_faults new_faults Cause verdict (inl fail
 printed status wanted text old new old_faults new_faults Cause (inl wanting) (inr done) = inl (done.0 ∙ wanting)
 printed status wanted text old new old_faults new_faults Cause (inr v) (inr done) =
     inr (inr (record { end = v.end; status_is = done.0 ∙ v.status_is; text_is = subst (Appends old new) v.text_is done.1; cause = v.cause }))
+
+-- ---- the objects that failed
+
+-- over the same history
+pub logged : {S F H T : Type 0} (count : Counts S F H T) (s : Start) (log same : List Moment) (faults : List (Fault S F H T)) → same ≡ log → AreShown count s log faults → AreShown count s same faults
+logged {S} {F} {H} {T} count s log same faults e shown = subst (λ (l : List Moment). AreShown {S = S} {F = F} {H = H} {T = T} count s l faults) (sym e) shown
