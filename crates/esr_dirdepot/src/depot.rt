@@ -189,8 +189,8 @@ impl<'a, R: Files<File = File> + Eprint + Drop> Depot for DirDepot<'a, R> {
         }
     }
 
-    fn swap_record(&mut self, _alloc: Global, text: &[u8]) -> Result<(), CallError> {
-        match self.folder.swap_record(text) {
+    fn swap_record(&mut self, alloc: Global, text: &[u8]) -> Result<(), CallError> {
+        match self.folder.swap_record(alloc, text) {
             Ok(()) => {
                 self.pass();
                 Ok(())

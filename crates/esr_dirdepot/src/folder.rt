@@ -253,9 +253,10 @@ impl<'a, R: Files<File = File> + Eprint> Folder<'a, R> {
         Ok(Some(Bytes::from_vec(text)))
     }
 
-    /// Puts a text in place of the record's.
-    pub fn swap_record(&mut self, text: &[u8]) -> io::Result<()> {
+    /// Puts a text in place of the record's. The stages of an earlier run go first: they may be what fills the disk.
+    pub fn swap_record(&mut self, alloc: Global, text: &[u8]) -> io::Result<()> {
         self.make()?;
+        self.clear_stages(alloc)?;
         let (files, paths) = (self.files, &self.paths);
         let next = paths.next_record.as_str();
         let mut file = File::create(files, next)?;

@@ -170,39 +170,49 @@ fn each_call_answers(rt: HostRuntime) -> Result<(), Fail> {
         assert_eq!(rt; got.as_str(), *want, "{call:?} {name} {text}");
     }
     assert_eq!(rt; depot.fault_count(), 10);
-    fs::remove_dir_all(&rt, "esr_dirdepot_suite")?;
     Ok(())
+}
+
+/// Whether that call failed.
+fn has_failed<T: Drop>(answer: Result<T, CallError>) -> bool {
+    matches!(answer, Err(CallError::Failed))
 }
 
 #[test]
 fn one_process_has_the_folder(rt: HostRuntime) -> Result<(), Fail> {
     let (alloc, dir) = (rt.alloc(), "esr_dirdepot_lock");
-    let _ = fs::remove_dir_all(&rt, dir);
+    let mut first = DirDepot::new(&rt, alloc, dir)?;
+    assert!(rt; swap(alloc, &mut first, "term 1").is_ok());
+    let mut second = DirDepot::new(&rt, alloc, dir)?;
+    assert!(rt; has_failed(record(alloc, &mut second)));
+    assert!(rt; has_failed(put(alloc, &mut second, "a", "", true)));
+    assert_eq!(rt; second.fault_count(), 2);
+    Ok(())
+}
+
+#[test]
+fn a_folder_that_another_made_is_refused(rt: HostRuntime) -> Result<(), Fail> {
+    let (alloc, dir) = (rt.alloc(), "esr_dirdepot_absent");
     let mut early = DirDepot::new(&rt, alloc, dir)?;
-    assert_eq!(rt; record(alloc, &mut early)?.as_str(), "none");
+    assert!(rt; record(alloc, &mut early).is_ok());
     assert!(rt; !fs::exists(&rt, dir)?);
     let mut first = DirDepot::new(&rt, alloc, dir)?;
-    assert_eq!(rt; swap(alloc, &mut first, "term 1")?.as_str(), "ok");
-    let mut second = DirDepot::new(&rt, alloc, dir)?;
-    for _ in 0..2 {
-        assert!(rt; matches!(record(alloc, &mut second), Err(CallError::Failed)));
-        assert!(rt;
-            matches!(
-                put(alloc, &mut second, "a", "", true),
-                Err(CallError::Failed)
-            )
-        );
-    }
-    assert_eq!(rt; second.fault_count(), 4);
+    assert!(rt; swap(alloc, &mut first, "term 1").is_ok());
     drop(first);
-    assert!(rt; matches!(record(alloc, &mut second), Err(CallError::Failed)));
-    assert!(rt; matches!(swap(alloc, &mut early, "term 1"), Err(CallError::Failed)));
-    fs::write(&rt, "esr_dirdepot_lock/stage/0", "left")?;
-    let mut third = DirDepot::new(&rt, alloc, dir)?;
-    assert_eq!(rt; record(alloc, &mut third)?.as_str(), "term 1");
-    assert_eq!(rt; put(alloc, &mut third, "a", "A", true)?.as_str(), "Done");
-    assert!(rt; !fs::exists(&rt, "esr_dirdepot_lock/stage/0")?);
-    fs::remove_dir_all(&rt, dir)?;
+    assert!(rt; has_failed(swap(alloc, &mut early, "term 1")));
+    Ok(())
+}
+
+#[test]
+fn stages_that_were_left_go(rt: HostRuntime) -> Result<(), Fail> {
+    let (alloc, dir) = (rt.alloc(), "esr_dirdepot_stages");
+    let mut first = DirDepot::new(&rt, alloc, dir)?;
+    assert!(rt; swap(alloc, &mut first, "term 1").is_ok());
+    drop(first);
+    fs::write(&rt, "esr_dirdepot_stages/stage/0", "left")?;
+    let mut second = DirDepot::new(&rt, alloc, dir)?;
+    assert!(rt; put(alloc, &mut second, "a", "A", true).is_ok());
+    assert!(rt; !fs::exists(&rt, "esr_dirdepot_stages/stage/0")?);
     Ok(())
 }
 
@@ -230,55 +240,63 @@ fn failures<D: Depot>(alloc: Global, depot: &mut D) -> Result<u64, CallError> {
     Ok(failed)
 }
 
+/// How many of the calls fail on a new container over these files, and when they are made again.
+fn failures_twice(alloc: Global, files: &Failing, dir: &str) -> Result<(u64, u64), Fail> {
+    let mut depot = DirDepot::new(files, alloc, dir)?;
+    let first = failures(alloc, &mut depot)?;
+    if depot.fault_count() != first {
+        return Err(Fail::new("a failure wasn't counted"));
+    }
+    Ok((first, failures(alloc, &mut depot)?))
+}
+
 #[test]
 fn each_failure_of_the_file_system_fails_one_call(rt: HostRuntime) -> Result<(), Fail> {
-    let (alloc, dir) = (rt.alloc(), "esr_dirdepot_failing");
     let mut most = 0;
     for nth in 0..1000 {
-        let _ = fs::remove_dir_all(&rt, dir);
+        let _ = fs::remove_dir_all(&rt, "esr_dirdepot_failing");
         let files = Failing {
             rt: rt.clone()?,
             left: Cell::new(nth),
         };
-        let mut depot = DirDepot::new(&files, alloc, dir)?;
-        let failed = failures(alloc, &mut depot)?;
-        assert_eq!(rt; depot.fault_count(), failed);
-        if failed == 0 {
+        let (first, second) = failures_twice(rt.alloc(), &files, "esr_dirdepot_failing")?;
+        if first == 0 {
             break;
         }
-        assert_eq!(rt; failed, 1, "at call {nth}");
-        assert_eq!(rt; failures(alloc, &mut depot)?, 0, "after call {nth}");
-        assert_eq!(rt; list(alloc, &mut depot)?.as_str(), "index.latest:1 ");
-        assert_eq!(rt; record(alloc, &mut depot)?.as_str(), "term");
+        assert_eq!(rt; (first, second), (1, 0), "at call {nth}");
         most = nth;
     }
     assert!(rt; 20 < most && most < 999, "{most}");
-    fs::remove_dir_all(&rt, dir)?;
     Ok(())
 }
 
-#[test]
-fn a_stage_that_failed_is_never_committed(rt: HostRuntime) -> Result<(), Fail> {
-    let (alloc, dir) = (rt.alloc(), "esr_dirdepot_broken");
-    let _ = fs::remove_dir_all(&rt, dir);
-    let mut depot = DirDepot::new(&rt, alloc, dir)?;
-    assert_eq!(rt; put(alloc, &mut depot, "b", "B", true)?.as_str(), "Done");
-    fs::write(&rt, "esr_dirdepot_broken/stage/9", "ab")?;
-    let mut stage = DirStage {
+/// A stage of 8 bytes of the blob `a`, whose writes fail.
+fn full_stage(alloc: Global, rt: &HostRuntime) -> Result<DirStage, Fail> {
+    Ok(DirStage {
         name: Text::from_str(alloc, "a")?,
         room: 8,
         faults: 0,
         to: StageFile {
             path: Text::from_str(alloc, "esr_dirdepot_broken/stage/9")?,
-            file: OpenOptions::new().write(true).open(&rt, "/dev/full")?,
+            file: OpenOptions::new().write(true).open(rt, "/dev/full")?,
             is_broken: false,
         },
-    };
-    assert!(rt; stage.write(b"ab").is_err());
-    assert_eq!(rt; (stage.fault_count(), stage.room), (1, 8));
-    assert!(rt; stage.write(b"").is_err());
-    assert!(rt; matches!(depot.commit(alloc, stage), Err(CallError::Failed)));
-    assert_eq!(rt; list(alloc, &mut depot)?.as_str(), "b:1 ");
-    fs::remove_dir_all(&rt, dir)?;
+    })
+}
+
+#[test]
+fn a_stage_that_failed_is_never_committed(rt: HostRuntime) -> Result<(), Fail> {
+    let (alloc, dir) = (rt.alloc(), "esr_dirdepot_broken");
+    let mut depot = DirDepot::new(&rt, alloc, dir)?;
+    assert!(rt; swap(alloc, &mut depot, "term 1").is_ok());
+    fs::write(&rt, "esr_dirdepot_broken/stage/9", "ab")?;
+    let mut stage = full_stage(alloc, &rt)?;
+    if stage.room < 2 {
+        return Err(Fail::new("the stage has no room"));
+    }
+    assert!(rt; stage.write("ab".as_bytes()).is_err());
+    assert_eq!(rt; stage.fault_count(), 1);
+    assert!(rt; has_failed(depot.commit(alloc, stage)));
+    assert_eq!(rt; list(alloc, &mut depot)?.as_str(), "");
     Ok(())
 }
