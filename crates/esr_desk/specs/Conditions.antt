@@ -5,7 +5,7 @@ use Rattle.esr_model.specs.Values.{Bytes, Has, RootData, ShardResult}
 use Rattle.esr_core.specs.World.{Ticket, Shard, Drop, Swap, swap}
 use Rattle.esr_core.specs.Ready.{IsShard, IsMaster}
 use Rattle.esr_core.specs.Steps.{Drew, MayCommit}
-use Rattle.esr_core.specs.Allowed.{DoneBy, latest_text}
+use Rattle.esr_core.specs.Allowed.{DoneBy, IsMetadata, latest_text}
 use Rattle.esr_desk.specs.Start.{Start, formats_of, told_bytes}
 
 -- a shard's ticket draws once: at least one id, and at most one for each file of its source and one more
@@ -17,12 +17,13 @@ pub record CanDraw (s : Start) (t : Ticket) (n : ℕ) : Type 0 where
   pub most : (index number : ℕ) → t.work ≡ Shard index number → s.known t.place t.name number ≡ true → n ≤ suc (length (s.told t.place t.name number))
   pub few : n ≤ 2 ^ 32
 
--- before its settle a ticket commits blobs of its unit
+-- before its settle a ticket commits blobs of its unit, each once, but for the metadata of a finalization
 pub record CanCommit (s : Start) (t : Ticket) (name : BlobName) (bytes : Bytes) : Type 0 where
   pub out : t.out ≡ true
   pub unsettled : t.settled ≡ false
   pub may : MayCommit (formats_of s) t name bytes
   pub stored : name ≢ Latest
+  pub once : (IsMetadata name → ⊥) → Has t.noted name → ⊥
 
 -- `index.latest` follows the root that the ticket raised and committed
 pub record CanPut (s : Start) (t : Ticket) (n : ℕ) : Type 0 where

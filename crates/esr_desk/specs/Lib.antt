@@ -9,3 +9,4 @@ pub mod Last
 pub mod Grew
 pub mod Damage
 pub mod Shown
+pub mod Once

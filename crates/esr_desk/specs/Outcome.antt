@@ -1,5 +1,5 @@
 -- What a desk learns by a step.
-use Rattle.std.specs.Prelude.{◌≡◌, ℕ, List, [], ◌∷◌, ◌++◌, Option, Some, None, Result, Ok, Err}
+use Rattle.std.specs.Prelude.{◌≡◌, ℕ, ◌^◌, ◌≤◌, true, List, [], ◌∷◌, ◌++◌, length, Option, Some, None, Result, Ok, Err}
 use Rattle.esr_core.specs.Entry.{Step, Reply, Refusal, Refused, NothingReady, Gave, WasDone, WasThere, WasFetched, WasAbsent, Moment}
 use Rattle.esr_model.specs.Image.{Image}
 use Rattle.esr_depot.specs.declared.depot.Commit.{Commit}
@@ -7,6 +7,7 @@ use Rattle.esr_depot.specs.declared.depot.Commit.TheVariants as commits
 use Rattle.esr_progress.specs.Units.{given_of}
 use Rattle.esr_desk.specs.declared.unit.Unit.{Unit as Given}
 use Rattle.esr_desk.specs.declared.refusal.StepRefusal.{StepRefusal}
+use Rattle.esr_desk.specs.declared.refusal.StepRefusal.TheVariants as steps
 use Rattle.esr_desk.specs.Refusals.{told_refusal}
 use Rattle.esr_desk.specs.Start.{Start, Legal, ticket_of}
 
@@ -15,6 +16,8 @@ pub record Waited (s : Start) (old new : List Moment) (who : ℕ) : Type 0 where
   pub others : List Moment
   pub grew : new ≡ old ++ others
   pub alone : ticket_of s new who ≡ ticket_of s old who
+  -- where nobody else makes a step, it is as it was
+  pub nobody : s.alone ≡ true → others ≡ []
   pub legal : Legal s new
 
 -- the same, and then there is one entry more, of who made it
@@ -29,10 +32,16 @@ abbrev pub Refusing : Start → List Moment → List Moment → ℕ → Step →
 Refusing s old new who step None = Waited s old new who
 Refusing s old new who step (Some refusal) = Stepped s old new who step (Refused refusal)
 
+-- turns are spent only where all were taken
+abbrev pub Spends : Start → List Moment → StepRefusal → Type 0
+Spends s log steps.Memory = Unit {0}
+Spends s log steps.TurnsSpent = s.alone ≡ true → 2 ^ 40 ≤ length log
+Spends s log (steps.Refused refusal) = Unit {0}
+
 -- what a step adds to the history, by its answer
 abbrev pub Outcome : {X : Type 0} → Start → List Moment → List Moment → ℕ → Step → (X → Reply) → Result X StepRefusal → Type 0
 Outcome s old new who step ok (Ok x) = Stepped s old new who step (ok x)
-Outcome s old new who step ok (Err e) = Refusing s old new who step (told_refusal e)
+Outcome s old new who step ok (Err e) = Refusing s old new who step (told_refusal e) × Spends s new e
 
 -- ---- what some answers say in the history
 

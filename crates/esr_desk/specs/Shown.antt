@@ -53,27 +53,35 @@ pub record IsOf (t : Ticket) (address : Address) : Type 0 where
   pub place : t.place ≡ address.place
   pub name : t.name ≡ address.index
 
--- the sources don't tell the files of the ticket's shard
+-- the ticket is that of a shard whose files the sources don't tell
 abbrev pub IsUntold : Start → Ticket → Type 0
-IsUntold s t = (index number : ℕ) → t.work ≡ Shard index number → s.known t.place t.name number ≡ false
+IsUntold s t = (index : ℕ) × (number : ℕ) × (t.work ≡ Shard index number) × (s.known t.place t.name number ≡ false)
+
+-- an object of the container has failed so often, which it can't where the container is quiet
+abbrev pub Faulty : Start → ℕ → Type 0
+Faulty s count = (0 < count) × (s.quiet ≡ false)
+
+-- the shard of this address has failed so often, which it can't where its sources are quiet
+abbrev pub FaultyShard : Start → ℕ → Address → Type 0
+FaultyShard s count address = (0 < count) × (s.steady address.place address.index address.number ≡ false)
 
 -- a stage or a fetch has failed, or the container did in a step of the ticket
 abbrev pub DepotShown : {S F H T : Type 0} → Counts S F H T → Start → List Moment → ℕ → By S F H T → Type 0
-DepotShown c s log who (by.Object (objects.Stage stage)) = 0 < c.stage stage
-DepotShown c s log who (by.Object (objects.Fetch fetch)) = 0 < c.fetch fetch
+DepotShown c s log who (by.Object (objects.Stage stage)) = Faulty s (c.stage stage)
+DepotShown c s log who (by.Object (objects.Fetch fetch)) = Faulty s (c.fetch fetch)
 DepotShown c s log who (by.Object (objects.Shard shard)) = ⊥
 DepotShown c s log who (by.Object (objects.Target target)) = ⊥
 DepotShown c s log who by.Entry = HadFault s log who
 DepotShown c s log who by.Nothing = ⊥
 
 -- the shard of the unit has failed
-abbrev pub SourceShown : {S F H T : Type 0} → Counts S F H T → Ticket → By S F H T → Type 0
-SourceShown c t (by.Object (objects.Stage stage)) = ⊥
-SourceShown c t (by.Object (objects.Fetch fetch)) = ⊥
-SourceShown c t (by.Object (objects.Shard shard)) = (0 < c.shard shard) × IsOf t (c.made_for shard)
-SourceShown c t (by.Object (objects.Target target)) = ⊥
-SourceShown c t by.Entry = ⊥
-SourceShown c t by.Nothing = ⊥
+abbrev pub SourceShown : {S F H T : Type 0} → Counts S F H T → Start → Ticket → By S F H T → Type 0
+SourceShown c s t (by.Object (objects.Stage stage)) = ⊥
+SourceShown c s t (by.Object (objects.Fetch fetch)) = ⊥
+SourceShown c s t (by.Object (objects.Shard shard)) = FaultyShard s (c.shard shard) (c.made_for shard) × IsOf t (c.made_for shard)
+SourceShown c s t (by.Object (objects.Target target)) = ⊥
+SourceShown c s t by.Entry = ⊥
+SourceShown c s t by.Nothing = ⊥
 
 -- what was read shows it: no object failed
 abbrev pub ReadShown : {S F H T : Type 0} → By S F H T → Type 0 → Type 0
@@ -85,7 +93,7 @@ ReadShown by.Nothing shown = shown
 -- at fault.
 abbrev pub IsShown : {S F H T : Type 0} → Counts S F H T → Start → List Moment → ℕ → Why → By S F H T → Type 0
 IsShown c s log who OfDepot b = DepotShown c s log who b
-IsShown c s log who OfSource b = SourceShown c (ticket_of s log who) b
+IsShown c s log who OfSource b = SourceShown c s (ticket_of s log who) b
 IsShown c s log who (OfChange first_len first_digest second_len second_digest) b =
     ReadShown b (((first_len ≡ second_len) → (first_digest ≡ second_digest) → ⊥) × IsUntold s (ticket_of s log who))
 IsShown c s log who (OfDamage name) b = ReadShown b (IsBase (ticket_of s log who) name × BaseFault s log who name)

@@ -6,3 +6,12 @@ use Rattle.esr_desk.specs.Start.{Start}
 -- where the files of an address are known, the sources tell these, or its place doesn't exist and nothing can be read there
 abbrev pub TellsFiles : Start → (Bytes → Bytes → ℕ → Option (List (Bytes × Bytes))) → (Bytes → Bytes → ℕ → Option Bool) → Type 0
 TellsFiles s files is_there = (place name : Bytes) (number : ℕ) → s.known place name number ≡ true → (files place name number ≡ Some (s.told place name number)) ⊎ (is_there place name number ≡ Some false)
+
+-- where a shard is steady, the sources are quiet and its place exists
+abbrev pub TellsSteady : Start → (Bytes → Bytes → ℕ → Option Bool) → Bool → Type 0
+TellsSteady s is_there is_quiet = (place name : Bytes) (number : ℕ) → s.steady place name number ≡ true → (is_quiet ≡ true) × (is_there place name number ≡ Some true)
+
+-- they tell what the start says of them
+pub record AreSources (s : Start) (files : Bytes → Bytes → ℕ → Option (List (Bytes × Bytes))) (is_there : Bytes → Bytes → ℕ → Option Bool) (is_quiet : Bool) : Type 0 where
+  pub told : TellsFiles s files is_there
+  pub steady : TellsSteady s is_there is_quiet

@@ -14,6 +14,12 @@ pub record Start : Type 0 where
   pub part_size : ℕ
   -- the container tells its image
   pub tells : Bool
+  -- it tells that no call of it fails, nor of a stage or a fetch that it gives
+  pub quiet : Bool
+  -- the sources tell that no call of the shard of a place, an index name and a number fails
+  pub steady : Bytes → Bytes → ℕ → Bool
+  -- nobody else makes a step, and there are 2^40 turns
+  pub alone : Bool
   -- the opened world
   pub world : World
 

@@ -1,5 +1,5 @@
 //! One call for each step of a repository.
-ghost use Rattle.std.specs.Prelude.{◌≡◌, ◌+◌, ◌<◌, ◌^◌, ℕ, List, [], map, Option, Some, None, true, false, IfOk, IfSome, OnOk, OnErr};
+ghost use Rattle.std.specs.Prelude.{◌≡◌, ◌+◌, ◌<◌, ◌^◌, ℕ, List, [], map, Option, Some, None, true, false, IsTrue, IfOk, IfSome, OnOk, OnErr};
 ghost use Rattle.esr_model.specs.Names.{Latest};
 ghost use Rattle.esr_model.specs.Values.{Bytes};
 ghost use Rattle.esr_core.specs.Entry.{Moment, AskStep, TakeStep, DrawStep, BeginStep, CommitStep, LatestStep, FetchStep, RaiseStep, SettleStep, DoneStep, FailedStep, FinishStep, DroppedStep, LookStep, Accepted, DrawnFrom, WasBegun, WasReplaced, RaisedTo, WasSettled, HasEnded, Looked};
@@ -90,6 +90,7 @@ pub trait Desk {
         ensures room { IfOk result (λ s. Self.Stage.room s.stage ≡ room) }
         ensures contents { IfOk result (λ s. Holds start (Self.Stage.contents s.stage) []) }
         ensures count { IfOk result (λ s. Self.Stage.faults s.stage ≡ 0) }
+        ensures sure { IfOk result (λ s. start.quiet ≡ true → IsTrue (Self.Stage.is_sure s.stage)) }
         ensures holds { holds self.new ticket };
 
     /// Adds the whole blob. A blob of a finalization that is there already counts as committed; any other is refused as
@@ -146,6 +147,7 @@ pub trait Desk {
             ≡ fetched_by Self.Fetch.left (name_of name) o (ticket_of start (seen self.old) ticket)) }
         ensures told { IfOk result (λ o. IfSome o (λ f. (bytes : Bytes) × Holds start (Self.Fetch.left f) bytes)) }
         ensures count { IfOk result (λ o. IfSome o (λ f. Self.Fetch.faults f ≡ 0)) }
+        ensures sure { IfOk result (λ o. IfSome o (λ f. start.quiet ≡ true → IsTrue (Self.Fetch.is_sure f))) }
         ensures kept { OnErr result (ticket_of start (seen self.new) ticket ≡ ticket_of start (seen self.old) ticket) }
         ensures holds { holds self.new ticket };
 

@@ -16,6 +16,8 @@ pub use fetch::DirFetch;
 pub use stage::DirStage;
 
 #[cfg(test)]
+mod both;
+#[cfg(test)]
 mod failing;
 #[cfg(test)]
 mod tests;

@@ -11,7 +11,7 @@ use std::test::Fail;
 
 /// A call of the suite.
 #[derive(Clone, Copy, Debug)]
-enum Call {
+pub(crate) enum Call {
     Commit,
     Replace,
     Fetch,
@@ -88,7 +88,7 @@ fn swap<D: Depot>(alloc: Global, depot: &mut D, text: &str) -> Result<String, Ca
 }
 
 /// What a call answers, as a text.
-fn answer<D: Depot>(
+pub(crate) fn answer<D: Depot>(
     alloc: Global,
     depot: &mut D,
     step: (Call, &str, &str),

@@ -1,13 +1,17 @@
 -- Why the work stopped before all units were done.
-use Rattle.std.specs.Prelude.{ℕ, List}
-use Rattle.esr_core.specs.Entry.{Moment}
+use Rattle.std.specs.Prelude.{◌≡◌, ◌≢◌, ◌⊎◌, ℕ, ◌^◌, ◌≤◌, false, List, Result, Ok, Err}
+use Rattle.esr_core.specs.World.{Ticket}
+use Rattle.esr_core.specs.Entry.{Step, TakeStep, Refused, Moment}
 use Rattle.esr_progress.specs.declared.unit.Work.{Work}
 use Rattle.esr_progress.specs.declared.unit.Work.TheVariants as works
 use Rattle.esr_desk.specs.declared.refusal.StepRefusal.{StepRefusal}
 use Rattle.esr_desk.specs.declared.unit.UnitRefusal.{UnitRefusal}
 use Rattle.esr_desk.specs.declared.unit.UnitRefusal.TheVariants as units
-use Rattle.esr_desk.specs.Refusals.{told_refusal}
-use Rattle.esr_desk.specs.Last.{WasRefused}
+use Rattle.esr_desk.specs.declared.refusal.StepRefusal.TheVariants as steps
+use Rattle.esr_desk.specs.Refusals.{refusal_of}
+use Rattle.esr_desk.specs.Start.{Start}
+use Rattle.esr_desk.specs.Outcome.{Spends}
+use Rattle.esr_desk.specs.Last.{IsLast, IsRefusal}
 
 abbrev pub IsDrop : Work → Type 0
 IsDrop (works.Shard uuid shard index place) = ⊥
@@ -15,10 +19,18 @@ IsDrop (works.Finalize info shards) = ⊥
 IsDrop works.Drop = Unit {0}
 
 -- the unit's last step was refused, if it didn't end as failed
-abbrev pub IsUnitStopped : List Moment → ℕ → UnitRefusal → Type 0
-IsUnitStopped log who (units.Failed why) = Unit {0}
-IsUnitStopped log who (units.Stopped refusal) = WasRefused log who (told_refusal refusal)
+abbrev pub IsUnitStopped : Start → List Moment → ℕ → UnitRefusal → Type 0
+IsUnitStopped s log who (units.Failed why) = Unit {0}
+IsUnitStopped s log who (units.Stopped refusal) = IsRefusal s log who refusal
 
--- the last step was refused
-abbrev pub IsStopped : List Moment → StepRefusal → Type 0
-IsStopped log refusal = (who : ℕ) × WasRefused log who (told_refusal refusal)
+-- the unit's ticket has ended, if the unit wasn't stopped
+abbrev pub HasEnded : Result Unit UnitRefusal → Ticket → Type 0
+HasEnded (Ok x) t = t.out ≡ false
+HasEnded (Err (units.Failed why)) t = t.out ≡ false
+HasEnded (Err (units.Stopped refusal)) t = Unit {0}
+
+-- the last step was refused, which was one of a ticket, or a take
+abbrev pub IsStopped : Start → List Moment → StepRefusal → Type 0
+IsStopped s log steps.Memory = Unit {0}
+IsStopped s log steps.TurnsSpent = Spends s log steps.TurnsSpent
+IsStopped s log (steps.Refused refusal) = (who : ℕ) × (step : Step) × IsLast log who step (Refused (refusal_of refusal)) × ((who ≢ 0) ⊎ (step ≡ TakeStep))

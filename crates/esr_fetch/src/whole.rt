@@ -1,5 +1,5 @@
 //! A fetched blob is read to its end.
-ghost use Rattle.std.specs.Prelude.{IfOk};
+ghost use Rattle.std.specs.Prelude.{◌≡◌, false, IsTrue, IfOk};
 ghost use Rattle.esr_depot.specs.Calls.{HasCause, has_failed};
 ghost use Rattle.esr_fetch.specs.Told.{Tells};
 
@@ -11,6 +11,7 @@ use std::alloc::Global;
 pub fn read_whole<F: Fetch>(alloc: Global, fetch: &mut F) -> Result<Bytes, CallError>
     ensures told { IfOk result (λ b. Tells (F.left fetch.old) b) }
     ensures cause { HasCause (F.faults fetch.old) (F.faults fetch.new) (has_failed result) }
+    ensures sure { IsTrue (F.is_sure fetch.old) → has_failed result ≡ false }
 {
     let mut bytes = Vec::new(alloc);
     let mut buf = [0; 65536];

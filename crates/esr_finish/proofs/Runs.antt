@@ -1,25 +1,15 @@
 -- Runs of steps, one after another.
-use Rattle.std.proofs.Common.{◌≡◌, ◌⊎◌, inl, inr, IfOk, IfErr, ℕ, true, List, [], ◌∷◌, ◌++◌, Option, Some, None, Result, Ok, Err, append-nil, append_assoc, refl, sym, ap, ◌∙◌, subst}
+use Rattle.std.proofs.Common.{◌≡◌, ◌⊎◌, inl, inr, IfOk, IfErr, ℕ, true, List, Some, Result, Ok, Err, refl, sym, ap, ◌∙◌, subst}
 use Rattle.esr_core.specs.World.{Ticket}
-use Rattle.esr_core.specs.Entry.{Step, RaiseStep, RaisedTo, Reply, Refusal, Refused, Moment}
+use Rattle.esr_core.specs.Entry.{RaiseStep, RaisedTo, Moment}
 use Rattle.esr_desk.specs.declared.refusal.StepRefusal.{StepRefusal}
 use Rattle.esr_desk.specs.declared.refusal.StepRefusal.TheVariants as steps
 use Rattle.esr_desk.specs.declared.refusal.EntryRefusal.TheVariants as refusals
-use Rattle.esr_desk.specs.Refusals.{told_refusal}
 use Rattle.esr_desk.specs.Start.{Start, ticket_of}
-use Rattle.esr_desk.specs.Outcome.{Stepped, Refusing, Outcome}
+use Rattle.esr_desk.specs.Outcome.{Outcome}
+use Rattle.esr_desk.specs.Grew.{grew_by_none, grew_by_on, outcome_grew_by}
 use Rattle.esr_desk.specs.Taken.{tried, tried_by, LeftBy, HasRaised}
-use Rattle.esr_finish.specs.Went.{Grew, Worked, Went}
-
-pub grew_not : (s : Start) (log : List Moment) → Grew s log log
-grew_not s log = record { more = []; is = sym (append-nil log); legal = λ was. was }
-
-pub grew_on : (s : Start) (old mid new : List Moment) → Grew s old mid → Grew s mid new → Grew s old new
-grew_on s old mid new first second = record {
-  more = first.more ++ second.more;
-  is = second.is ∙ ap (λ (log : List Moment). log ++ second.more) first.is ∙ append_assoc old first.more second.more;
-  legal = λ was. second.legal (first.legal was);
-}
+use Rattle.esr_finish.specs.Went.{Worked, Went}
 
 pub worked_not : (t : Ticket) → Worked t t
 worked_not t = record { noted = t.noted; wrote = t.wrote; raised = t.raised; tried = t.tried_latest; is = refl }
@@ -34,30 +24,13 @@ worked_on a b c first second = record {
 }
 
 pub went_not : (s : Start) (log : List Moment) (who : ℕ) → Went s log log who
-went_not s log who = record { grew = grew_not s log; worked = worked_not (ticket_of s log who) }
+went_not s log who = record { grew = grew_by_none s who log; worked = worked_not (ticket_of s log who) }
 
 pub went_on : (s : Start) (old mid new : List Moment) (who : ℕ) → Went s old mid who → Went s mid new who → Went s old new who
 went_on s old mid new who first second = record {
-  grew = grew_on s old mid new first.grew second.grew;
+  grew = grew_by_on s who old mid new first.grew second.grew;
   worked = worked_on (ticket_of s old who) (ticket_of s mid who) (ticket_of s new who) first.worked second.worked;
 }
-
--- ---- what a step says
-
-stepped_grew : (s : Start) (old new : List Moment) (who : ℕ) (step : Step) (reply : Reply) → Stepped s old new who step reply → Grew s old new
-stepped_grew s old new who step reply h = record {
-  more = h.waited.others ++ record { entry = record { who = who; step = step; reply = reply }; image = h.image } ∷ [];
-  is = h.is ∙ ap (λ (log : List Moment). log ++ record { entry = record { who = who; step = step; reply = reply }; image = h.image } ∷ []) h.waited.grew ∙ append_assoc old h.waited.others (record { entry = record { who = who; step = step; reply = reply }; image = h.image } ∷ []);
-  legal = λ was. h.legal;
-}
-
-refusing_grew : (s : Start) (old new : List Moment) (who : ℕ) (step : Step) (refusal : Option Refusal) → Refusing s old new who step refusal → Grew s old new
-refusing_grew s old new who step None h = record { more = h.others; is = h.grew; legal = λ was. h.legal }
-refusing_grew s old new who step (Some refusal) h = stepped_grew s old new who step (Refused refusal) h
-
-pub outcome_grew : {X : Type 0} (s : Start) (old new : List Moment) (who : ℕ) (step : Step) (ok : X → Reply) (result : Result X StepRefusal) → Outcome s old new who step ok result → Grew s old new
-outcome_grew s old new who step ok (Ok x) h = stepped_grew s old new who step (ok x) h
-outcome_grew s old new who step ok (Err e) h = refusing_grew s old new who step (told_refusal e) h
 
 -- ---- what a step makes of the ticket
 
@@ -112,6 +85,6 @@ raise_worked t u (Err e) own kept = raised_worked t u kept
 pub raise_went : (s : Start) (old new : List Moment) (who : ℕ) (result : Result ℕ StepRefusal) → Outcome s old new who RaiseStep (λ n. RaisedTo n) result
     → IfOk result (λ n. ticket_of s new who ≡ record (ticket_of s old who) { raised = Some n }) → LeftBy (HasRaised (ticket_of s old who)) result (ticket_of s old who) (ticket_of s new who) → Went s old new who
 raise_went s old new who result step own kept = record {
-  grew = outcome_grew s old new who RaiseStep (λ n. RaisedTo n) result step;
+  grew = outcome_grew_by s old new who RaiseStep (λ n. RaisedTo n) result step;
   worked = raise_worked (ticket_of s old who) (ticket_of s new who) result own (left_cases (HasRaised (ticket_of s old who)) result (ticket_of s old who) (ticket_of s new who) kept);
 }

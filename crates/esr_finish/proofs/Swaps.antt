@@ -1,7 +1,7 @@
 -- From one part of the unit to the next.
 use Rattle.std.proofs.Common.{◌≡◌, inl, inr, ℕ, List, [], ◌∷◌, map, Option, Some, refl, sym, ap, ◌∙◌, subst}
-use Rattle.esr_model.specs.Names.{BlobName, Root}
-use Rattle.esr_model.specs.Values.{Bytes, Has, RootData, SnapInfo}
+use Rattle.esr_model.specs.Names.{BlobName, Root, Snap, Meta, IndexMeta}
+use Rattle.esr_model.specs.Values.{Bytes, Has, IndexRef, RootData, SnapInfo, Formats}
 use Rattle.esr_model.specs.Finalize.{finalized_root}
 use Rattle.esr_model.specs.Shelf.{Create}
 use Rattle.esr_core.specs.World.{Ticket, Swap, Finalize, swap, metadata}
@@ -17,6 +17,7 @@ use Rattle.esr_formats.specs.Roots.{root_of}
 use Rattle.esr_desk.specs.Start.{Start, formats_of}
 use Rattle.esr_desk.specs.Conditions.{CanSettle}
 use Rattle.esr_desk.specs.Taken.{fresh, TookWork}
+use Rattle.esr_finish.specs.Blobs.{index_blob}
 use Rattle.esr_finish.specs.Ticket.{HasSwap, MayWrite, MayPutRoot, noted_with, Wrote, IsWritten}
 use Rattle.esr_finish.specs.Went.{Worked}
 use Rattle.esr_finish.proofs.Writing.{swap_stays}
@@ -31,6 +32,26 @@ has_noted [] noted b none = absurd none
 has_noted (x ∷ blobs) noted b (inl same) = noted_stays blobs (x.0 ∷ noted) b.0 (inl (ap (λ (y : BlobName × Bytes). y.0) same))
 has_noted (x ∷ blobs) noted b (inr later) = has_noted blobs (x.0 ∷ noted) b later
 
+-- a name of none of the blobs was noted before
+noted_before : (blobs : List (BlobName × Bytes)) (noted : List BlobName) (name : BlobName) → ((b : BlobName × Bytes) → Has blobs b → b.0 ≡ name → ⊥) → Has (noted_with blobs noted) name → Has noted name
+noted_before [] noted name other has = has
+noted_before (x ∷ blobs) noted name other has = before (noted_before blobs (x.0 ∷ noted) name (λ b later. other b (inr later)) has)
+  where
+    before : Has (x.0 ∷ noted) name → Has noted name
+    before (inl here) = absurd (other x (inl refl) here)
+    before (inr later) = later
+
+-- no metadata has the name of a root
+no_index_root : (f : Formats) (uuid : ℕ) (refs : List IndexRef) (n : ℕ) (b : BlobName × Bytes) → Has (map (λ (r : IndexRef). index_blob f uuid r) refs) b → b.0 ≡ Root n → ⊥
+no_index_root f uuid [] n b none is = none
+no_index_root f uuid (r ∷ refs) n b (inl here) is = let name : IndexMeta r.id uuid ≡ Root n = ap (λ (x : BlobName × Bytes). x.0) here ∙ is in cc
+no_index_root f uuid (r ∷ refs) n b (inr later) is = no_index_root f uuid refs n b later is
+
+no_root : (f : Formats) (info : SnapInfo) (n : ℕ) (b : BlobName × Bytes) → Has (metadata f info) b → b.0 ≡ Root n → ⊥
+no_root f info n b (inl snap) is = let name : Snap info.uuid ≡ Root n = ap (λ (x : BlobName × Bytes). x.0) snap ∙ is in cc
+no_root f info n b (inr (inl meta)) is = let name : Meta info.uuid ≡ Root n = ap (λ (x : BlobName × Bytes). x.0) meta ∙ is in cc
+no_root f info n b (inr (inr index)) is = no_index_root f info.uuid info.indices n b index is
+
 -- after the metadata the root is next
 pub root_next : (s : Start) (a b : Ticket) (info : SnapInfo) (root : RootData) → MayWrite s a info root → Wrote a b (metadata (formats_of s) info) → Worked a b → MayPutRoot s b root
 root_next s a b info root may wrote worked = record {
@@ -40,6 +61,7 @@ root_next s a b info root may wrote worked = record {
   noted = λ name bytes has. subst (λ (t : Ticket). Has t.noted name) (sym wrote.is)
       (has_noted (metadata (formats_of s) info) a.noted (name, bytes) (subst (λ (own : List (BlobName × Bytes)). Has own (name, bytes)) may.own_is has));
   once = ap (λ (t : Ticket). t.raised) wrote.is ∙ may.once;
+  unnoted = λ n has. may.unnoted n (noted_before (metadata (formats_of s) info) a.noted (Root n) (no_root (formats_of s) info n) (subst (λ (t : Ticket). Has t.noted (Root n)) wrote.is has));
 }
 
 -- after all of it, the settle
@@ -84,6 +106,7 @@ took_may s t info shards root op copy (term, made, is, root_is) =
       own_is = refl;
       root_is = root_is;
       once = ap (λ (u : Ticket). u.raised) is;
+      unnoted = λ n has. subst (λ (u : Ticket). Has u.noted (Root n)) is has;
     }
 
 pub took_writes : (s : Start) (t : Ticket) (work : Work) (new : Option code.Root) (op : ℕ) (copy : Copied) (info : Info) (shards : List ShardResult) (root : code.Root)

@@ -3,6 +3,7 @@ use Rattle.std.proofs.Common.{◌≡◌, ◌≢◌, inl, inr, ⊎_elim, ℕ, Lis
 use Rattle.esr_model.specs.Names.{BlobName, Root, Latest}
 use Rattle.esr_model.specs.Values.{Bytes, Has, RootData}
 use Rattle.esr_core.specs.World.{Ticket, Swap}
+use Rattle.esr_core.specs.Allowed.{IsMetadata}
 use Rattle.esr_desk.specs.Start.{Start, formats_of}
 use Rattle.esr_desk.specs.Conditions.{CanCommit}
 use Rattle.esr_finish.specs.Blobs.{root_blob}
@@ -13,12 +14,13 @@ use Rattle.esr_finish.specs.Went.{Worked}
 pub swap_stays : (s : Start) (a b : Ticket) (change : Swap) → Worked a b → HasSwap s a change → HasSwap s b change
 swap_stays s a b change worked has = subst (λ (t : Ticket). HasSwap s t change) (sym worked.is) (record { out = has.out; is = has.is; unsettled = has.unsettled })
 
-pub may_commit : (s : Start) (t : Ticket) (b : BlobName × Bytes) → MayPut s t (b ∷ []) → b.0 ≢ Latest → CanCommit s t b.0 b.1
-may_commit s t b may stored = record {
+pub may_commit : (s : Start) (t : Ticket) (b : BlobName × Bytes) → MayPut s t (b ∷ []) → b.0 ≢ Latest → IsMetadata b.0 → CanCommit s t b.0 b.1
+may_commit s t b may stored metadata = record {
   out = may.1.out;
   unsettled = may.1.unsettled;
   may = inl (may.0, may.1.is, inl (may.2 b (inl refl)));
   stored = stored;
+  once = λ other. absurd (other metadata);
 }
 
 -- the root of the swap, under the generation that was raised
@@ -42,6 +44,7 @@ root_commits s a b root n text may is text_is =
         ),
       );
       stored = λ same. cc;
+      once = λ other has. may.unnoted n has;
     })
 
 pub may_put_some : (s : Start) (t : Ticket) (all some : List (BlobName × Bytes)) → MayPut s t all → ((b : BlobName × Bytes) → Has some b → Has all b) → MayPut s t some

@@ -1,5 +1,5 @@
 -- Why the unit stopped or failed, and where its ticket is then.
-use Rattle.std.specs.Prelude.{◌≡◌, ◌⊎◌, ◌<◌, ℕ, true, false, List, Option, Some, None}
+use Rattle.std.specs.Prelude.{◌≡◌, ◌⊎◌, ℕ, true, false, List, Option, Some, None}
 use Rattle.esr_core.specs.World.{Ticket}
 use Rattle.esr_core.specs.Entry.{Step, SettleStep, FailedStep, FinishStep, OfDepot, HasEnded, Refused, Refusal, DepotFault, Moment}
 use Rattle.esr_desk.specs.declared.entry.Why.TheVariants as whys
@@ -7,9 +7,9 @@ use Rattle.esr_desk.specs.declared.unit.UnitRefusal.{UnitRefusal}
 use Rattle.esr_desk.specs.declared.unit.UnitRefusal.TheVariants as units
 use Rattle.esr_desk.specs.Refusals.{told_refusal}
 use Rattle.esr_desk.specs.Start.{Start, formats_of, ticket_of}
-use Rattle.esr_desk.specs.Outcome.{Waited, Stepped, Refusing}
+use Rattle.esr_desk.specs.Outcome.{Waited, Stepped, Refusing, Spends}
 use Rattle.esr_desk.specs.Last.{IsLast}
-use Rattle.esr_desk.specs.Shown.{is_of_latest}
+use Rattle.esr_desk.specs.Shown.{is_of_latest, Faulty}
 use Rattle.esr_finish.specs.declared.refusal.PutRefusal.{PutRefusal}
 use Rattle.esr_finish.specs.declared.refusal.PutRefusal.TheVariants as puts
 use Rattle.esr_finish.specs.Ticket.{HasSettled}
@@ -21,9 +21,9 @@ WasPutRefused log who None = Unit {0}
 WasPutRefused log who (Some refusal) = (step : Step) × IsLast log who step (Refused refusal) × (refusal ≡ DepotFault → is_of_latest step ≡ false)
 
 -- why a blob wasn't put: a step was refused so, or a write to this stage has failed
-abbrev pub IsPutRefused : {S : Type 0} → (S → ℕ) → List Moment → ℕ → PutRefusal S → Type 0
-IsPutRefused faults log who (puts.Step refusal) = WasPutRefused log who (told_refusal refusal)
-IsPutRefused faults log who (puts.Stage stage) = 0 < faults stage
+abbrev pub IsPutRefused : {S : Type 0} → Start → (S → ℕ) → List Moment → ℕ → PutRefusal S → Type 0
+IsPutRefused s faults log who (puts.Step refusal) = WasPutRefused log who (told_refusal refusal) × Spends s log refusal
+IsPutRefused s faults log who (puts.Stage stage) = Faulty s (faults stage)
 
 -- a settle, or the end of a ticket
 abbrev pub IsEnding : Step → Type 0
@@ -54,7 +54,7 @@ pub record HadFault (s : Start) (log : List Moment) (who : ℕ) : Type 0 where
 
 -- what failed before the ticket ended so: a stage of the desk, or a step
 abbrev pub HasFault : {S : Type 0} → Start → (S → ℕ) → List Moment → ℕ → Type 0
-HasFault {S} s faults log who = ((stage : S) × (0 < faults stage)) ⊎ HadFault s log who
+HasFault {S} s faults log who = ((stage : S) × Faulty s (faults stage)) ⊎ HadFault s log who
 
 -- it has failed for the container's sake, or stopped with its ticket out: unsettled, or settled with all that goes before
 abbrev pub IsUnitRefused : {S : Type 0} → Start → (S → ℕ) → List Moment → List Moment → ℕ → UnitRefusal → Type 0
@@ -62,9 +62,9 @@ IsUnitRefused {S} s faults old new who (units.Failed why) =
     (why ≡ whys.Depot) × HasFailed (ticket_of s old who) (ticket_of s new who) × ((last : IsLast new who (FailedStep OfDepot) HasEnded) × HasFault s faults last.front who)
 IsUnitRefused {S} s faults old new who (units.Stopped refusal) =
     ((ticket_of s new who).out ≡ true) × (Worked (ticket_of s old who) (ticket_of s new who) ⊎ HasSettled (formats_of s) (ticket_of s old who) true (ticket_of s new who))
-    × WasStopped new who (told_refusal refusal)
+    × WasStopped new who (told_refusal refusal) × Spends s new refusal
 
 -- the report that the unit failed was taken, so that the ticket has ended, or it was refused
 abbrev pub Reported : Start → List Moment → List Moment → ℕ → UnitRefusal → Type 0
 Reported s old new who (units.Failed why) = (why ≡ whys.Depot) × (ticket_of s new who ≡ record (ticket_of s old who) { out = false }) × Stepped s old new who (FailedStep OfDepot) HasEnded
-Reported s old new who (units.Stopped refusal) = (ticket_of s new who ≡ ticket_of s old who) × Refusing s old new who (FailedStep OfDepot) (told_refusal refusal)
+Reported s old new who (units.Stopped refusal) = (ticket_of s new who ≡ ticket_of s old who) × Refusing s old new who (FailedStep OfDepot) (told_refusal refusal) × Spends s new refusal

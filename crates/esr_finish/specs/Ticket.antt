@@ -19,21 +19,23 @@ pub record HasSwap (s : Start) (t : Ticket) (change : Swap) : Type 0 where
 abbrev pub MayPut : Start → Ticket → List (BlobName × Bytes) → Type 0
 MayPut s t blobs = (change : Swap) × HasSwap s t change × ((b : BlobName × Bytes) → Has blobs b → Has change.own b)
 
--- all of them are written, so that this root is next
+-- all of them are written, and no root is, so that this root is next
 pub record MayPutRoot (s : Start) (t : Ticket) (root : RootData) : Type 0 where
   pub change : Swap
   pub swaps : HasSwap s t change
   pub root_is : root ≡ change.root
   pub noted : (name : BlobName) (bytes : Bytes) → Has change.own (name, bytes) → Has t.noted name
   pub once : t.raised ≡ None
+  pub unnoted : (n : ℕ) → Has t.noted (Root n) → ⊥
 
--- its swap writes the metadata of this info, and then this root
+-- its swap writes the metadata of this info, and then this root; no root is written yet
 pub record MayWrite (s : Start) (t : Ticket) (info : SnapInfo) (root : RootData) : Type 0 where
   pub change : Swap
   pub swaps : HasSwap s t change
   pub own_is : change.own ≡ metadata (formats_of s) info
   pub root_is : root ≡ change.root
   pub once : t.raised ≡ None
+  pub unnoted : (n : ℕ) → Has t.noted (Root n) → ⊥
 
 -- ---- what its steps make of it
 

@@ -1,16 +1,11 @@
 -- How far the unit went, whatever it was answered.
-use Rattle.std.specs.Prelude.{◌≡◌, ℕ, Bool, List, ◌++◌, Option}
+use Rattle.std.specs.Prelude.{◌≡◌, ℕ, Bool, List, Option}
 use Rattle.esr_model.specs.Names.{BlobName}
 use Rattle.esr_model.specs.Values.{Bytes}
 use Rattle.esr_core.specs.World.{Ticket}
 use Rattle.esr_core.specs.Entry.{Moment}
-use Rattle.esr_desk.specs.Start.{Start, Legal, ticket_of}
-
--- the history has gone on, by legal steps
-pub record Grew (s : Start) (old new : List Moment) : Type 0 where
-  pub more : List Moment
-  pub is : new ≡ old ++ more
-  pub legal : Legal s old → Legal s new
+use Rattle.esr_desk.specs.Start.{Start, ticket_of}
+use Rattle.esr_desk.specs.Grew.{GrewBy}
 
 -- the ticket has noted and written blobs, raised and tried `index.latest` at most
 pub record Worked (old new : Ticket) : Type 0 where
@@ -21,5 +16,5 @@ pub record Worked (old new : Ticket) : Type 0 where
   pub is : new ≡ record old { noted = noted; wrote = wrote; raised = raised; tried_latest = tried }
 
 pub record Went (s : Start) (old new : List Moment) (who : ℕ) : Type 0 where
-  pub grew : Grew s old new
+  pub grew : GrewBy s who old new
   pub worked : Worked (ticket_of s old who) (ticket_of s new who)

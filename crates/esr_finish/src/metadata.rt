@@ -59,7 +59,7 @@ fn put_info<Q: Desk>(
     requires mine { Q.holds desk.old ticket }
     requires may { MayPut Q.start (ticket_of Q.start (Q.seen desk.old) ticket) (info_blob (formats_of Q.start) (info_of_code info.now) ∷ []) }
     ensures ok { OnOk result (Puts Q.start (Q.seen desk.old) (Q.seen desk.new) ticket (info_blob (formats_of Q.start) (info_of_code info.now) ∷ [])) }
-    ensures refused { IfErr result (λ e. IsPutRefused Q.Stage.faults (Q.seen desk.new) ticket e) }
+    ensures refused { IfErr result (λ e. IsPutRefused Q.start Q.Stage.faults (Q.seen desk.new) ticket e) }
     ensures went { Went Q.start (Q.seen desk.old) (Q.seen desk.new) ticket }
     ensures holds { Q.holds desk.new ticket }
 {
@@ -82,7 +82,7 @@ fn put_global<Q: Desk>(
     requires mine { Q.holds desk.old ticket }
     requires may { MayPut Q.start (ticket_of Q.start (Q.seen desk.old) ticket) (global_blob (formats_of Q.start) (info_of_code info.now) ∷ []) }
     ensures ok { OnOk result (Puts Q.start (Q.seen desk.old) (Q.seen desk.new) ticket (global_blob (formats_of Q.start) (info_of_code info.now) ∷ [])) }
-    ensures refused { IfErr result (λ e. IsPutRefused Q.Stage.faults (Q.seen desk.new) ticket e) }
+    ensures refused { IfErr result (λ e. IsPutRefused Q.start Q.Stage.faults (Q.seen desk.new) ticket e) }
     ensures went { Went Q.start (Q.seen desk.old) (Q.seen desk.new) ticket }
     ensures holds { Q.holds desk.new ticket }
 {
@@ -108,7 +108,7 @@ fn put_index<Q: Desk>(
     requires most { index.now.shards ≤ 1024 }
     requires may { MayPut Q.start (ticket_of Q.start (Q.seen desk.old) ticket) (index_blob (formats_of Q.start) uuid.number (ref_of_code index.now) ∷ []) }
     ensures ok { OnOk result (Puts Q.start (Q.seen desk.old) (Q.seen desk.new) ticket (index_blob (formats_of Q.start) uuid.number (ref_of_code index.now) ∷ [])) }
-    ensures refused { IfErr result (λ e. IsPutRefused Q.Stage.faults (Q.seen desk.new) ticket e) }
+    ensures refused { IfErr result (λ e. IsPutRefused Q.start Q.Stage.faults (Q.seen desk.new) ticket e) }
     ensures went { Went Q.start (Q.seen desk.old) (Q.seen desk.new) ticket }
     ensures holds { Q.holds desk.new ticket }
 {
@@ -131,7 +131,7 @@ fn put_indices<Q: Desk>(
     requires mine { Q.holds desk.old ticket }
     requires may { MayPut Q.start (ticket_of Q.start (Q.seen desk.old) ticket) (index_blobs (formats_of Q.start) (info_of_code info.now)) }
     ensures ok { OnOk result (Puts Q.start (Q.seen desk.old) (Q.seen desk.new) ticket (index_blobs (formats_of Q.start) (info_of_code info.now))) }
-    ensures refused { IfErr result (λ e. IsPutRefused Q.Stage.faults (Q.seen desk.new) ticket e) }
+    ensures refused { IfErr result (λ e. IsPutRefused Q.start Q.Stage.faults (Q.seen desk.new) ticket e) }
     ensures went { Went Q.start (Q.seen desk.old) (Q.seen desk.new) ticket }
     ensures holds { Q.holds desk.new ticket }
 {
@@ -151,7 +151,7 @@ pub fn put_metadata<Q: Desk>(
     requires mine { Q.holds desk.old ticket }
     requires may { MayPut Q.start (ticket_of Q.start (Q.seen desk.old) ticket) (metadata (formats_of Q.start) (info_of_code info.now)) }
     ensures ok { OnOk result (Puts Q.start (Q.seen desk.old) (Q.seen desk.new) ticket (metadata (formats_of Q.start) (info_of_code info.now))) }
-    ensures refused { IfErr result (λ e. IsPutRefused Q.Stage.faults (Q.seen desk.new) ticket e) }
+    ensures refused { IfErr result (λ e. IsPutRefused Q.start Q.Stage.faults (Q.seen desk.new) ticket e) }
     ensures went { Went Q.start (Q.seen desk.old) (Q.seen desk.new) ticket }
     ensures holds { Q.holds desk.new ticket }
 {

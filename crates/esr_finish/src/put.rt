@@ -26,7 +26,7 @@ pub fn put<Q: Desk>(
     requires layout { IsName name }
     requires may { CanCommit Q.start (ticket_of Q.start (Q.seen desk.old) ticket) (name_of name) bytes.now }
     ensures ok { OnOk result (Puts Q.start (Q.seen desk.old) (Q.seen desk.new) ticket ((name_of name, bytes.now) ∷ [])) }
-    ensures refused { IfErr result (λ e. IsPutRefused Q.Stage.faults (Q.seen desk.new) ticket e) }
+    ensures refused { IfErr result (λ e. IsPutRefused Q.start Q.Stage.faults (Q.seen desk.new) ticket e) }
     ensures went { Went Q.start (Q.seen desk.old) (Q.seen desk.new) ticket }
     ensures holds { Q.holds desk.new ticket }
 {

@@ -30,7 +30,7 @@ fn put_root<Q: Desk>(
     requires mine { Q.holds desk.old ticket }
     requires may { MayPutRoot Q.start (ticket_of Q.start (Q.seen desk.old) ticket) (root_of root.now) }
     ensures ok { IfOk result (λ n. PutsRoot Q.start (Q.seen desk.old) (Q.seen desk.new) ticket (root_of root.now) n) }
-    ensures refused { IfErr result (λ e. IsPutRefused Q.Stage.faults (Q.seen desk.new) ticket e) }
+    ensures refused { IfErr result (λ e. IsPutRefused Q.start Q.Stage.faults (Q.seen desk.new) ticket e) }
     ensures went { Went Q.start (Q.seen desk.old) (Q.seen desk.new) ticket }
     ensures holds { Q.holds desk.new ticket }
 {
@@ -56,7 +56,7 @@ fn put_latest<Q: Desk>(
     requires mine { Q.holds desk.old ticket }
     requires may { CanPut Q.start (ticket_of Q.start (Q.seen desk.old) ticket) generation }
     ensures ok { OnOk result (ticket_of Q.start (Q.seen desk.new) ticket ≡ tried (ticket_of Q.start (Q.seen desk.old) ticket)) }
-    ensures refused { IfErr result (λ e. IsPutRefused Q.Stage.faults (Q.seen desk.new) ticket e) }
+    ensures refused { IfErr result (λ e. IsPutRefused Q.start Q.Stage.faults (Q.seen desk.new) ticket e) }
     ensures went { Went Q.start (Q.seen desk.old) (Q.seen desk.new) ticket }
     ensures holds { Q.holds desk.new ticket }
 {
@@ -86,7 +86,7 @@ pub fn write_swap<Q: Desk>(
     requires mine { Q.holds desk.old ticket }
     requires may { MayWrite Q.start (ticket_of Q.start (Q.seen desk.old) ticket) (info_of_code info.now) (root_of root.now) }
     ensures ok { OnOk result (IsWritten (formats_of Q.start) (ticket_of Q.start (Q.seen desk.old) ticket) (ticket_of Q.start (Q.seen desk.new) ticket)) }
-    ensures refused { IfErr result (λ e. IsPutRefused Q.Stage.faults (Q.seen desk.new) ticket e) }
+    ensures refused { IfErr result (λ e. IsPutRefused Q.start Q.Stage.faults (Q.seen desk.new) ticket e) }
     ensures went { Went Q.start (Q.seen desk.old) (Q.seen desk.new) ticket }
     ensures holds { Q.holds desk.new ticket }
 {

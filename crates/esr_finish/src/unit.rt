@@ -7,7 +7,7 @@ ghost use Rattle.esr_desk.specs.Conditions.{CanFail};
 ghost use Rattle.esr_desk.specs.Taken.{Took};
 ghost use Rattle.esr_finish.specs.Work.{IsFinalize};
 ghost use Rattle.esr_finish.specs.Ticket.{Finalized};
-ghost use Rattle.esr_finish.specs.Went.{Grew};
+ghost use Rattle.esr_desk.specs.Grew.{GrewBy};
 ghost use Rattle.esr_finish.specs.Refused.{IsUnitRefused, Reported};
 
 use crate::refusal::PutRefusal;
@@ -24,7 +24,7 @@ pub fn run_unit<Q: Desk>(alloc: Global, desk: &mut Q, unit: &Unit) -> Result<(),
     requires work { IsFinalize unit.now.ready.work }
     ensures ok { OnOk result (Finalized Q.start (Q.seen desk.old) (Q.seen desk.new) unit.now.ready.ticket) }
     ensures refused { IfErr result (λ e. IsUnitRefused Q.start Q.Stage.faults (Q.seen desk.old) (Q.seen desk.new) unit.now.ready.ticket e) }
-    ensures grew { Grew Q.start (Q.seen desk.old) (Q.seen desk.new) }
+    ensures grew { GrewBy Q.start unit.now.ready.ticket (Q.seen desk.old) (Q.seen desk.new) }
     ensures holds { Q.holds desk.new unit.now.ready.ticket }
 {
     let ticket = unit.ready.ticket;
@@ -63,7 +63,7 @@ fn fail<Q: Desk>(
     requires shown { IsShown (record { stage = Q.Stage.faults; fetch = Q.Fetch.faults; shard = Q.Shard.faults; target = Q.Target.faults; made_for = λ h. (Q.Shard.origin h).address })
         Q.start (Q.seen desk.old) ticket OfDepot by }
     ensures reported { Reported Q.start (Q.seen desk.old) (Q.seen desk.new) ticket result }
-    ensures grew { Grew Q.start (Q.seen desk.old) (Q.seen desk.new) }
+    ensures grew { GrewBy Q.start ticket (Q.seen desk.old) (Q.seen desk.new) }
     ensures holds { Q.holds desk.new ticket }
 {
     match desk.failed(alloc, ticket, Why::Depot, by) {

@@ -6,4 +6,5 @@ pub mod Opening
 pub mod KeptImages
 pub mod Refusals
 pub mod Looked
+pub mod Spent
 pub mod Terms

@@ -4,6 +4,7 @@ ghost use Rattle.std.specs.FinMap as fin;
 ghost use Rattle.esr_depot.specs.Look.{now};
 ghost use Rattle.esr_opening.specs.Looked.{Looked, Answers};
 ghost use Rattle.esr_opening.specs.Refusals.{unread};
+ghost use Rattle.esr_opening.specs.Spent.{has_fault, Spends};
 
 use crate::{OpenRefusal, Why};
 use esr_depot::{CallError, Depot};
@@ -21,6 +22,7 @@ pub(crate) fn fetch_blob<D: Depot>(
     ensures looked { Looked (D.look depot.old) (D.look depot.new) (D.faults depot.old) (D.faults depot.new) }
     ensures answer { Answers D.Fetch.faults (now (D.look depot.old)) (D.faults depot.old) (D.faults depot.new)
         (λ i. Ok (fin.get i.blobs name.now)) result }
+    ensures spends { Spends (D.look depot.old).sure (D.look depot.new).sure 1 (has_fault result) }
 {
     let Some(mut fetch) = depot.fetch(alloc, name.as_str())? else {
         return Ok(None);

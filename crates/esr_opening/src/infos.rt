@@ -1,8 +1,10 @@
 //! The infos of the snapshots that the safe root lists.
+ghost use Rattle.std.specs.Prelude.{◌<◌, ◌^◌, length};
 ghost use Rattle.esr_meta.specs.Info.{info_from};
 ghost use Rattle.esr_depot.specs.Look.{now};
 ghost use Rattle.esr_opening.specs.Found.{read_as, agreed, info_in, infos_in};
 ghost use Rattle.esr_opening.specs.Looked.{Looked, Answers, Says};
+ghost use Rattle.esr_opening.specs.Spent.{has_fault, Spends};
 
 use crate::agreement::agrees;
 use crate::blob::{fetch_blob, unread};
@@ -69,6 +71,7 @@ fn check_info<D: Depot>(
     ensures looked { Looked (D.look depot.old) (D.look depot.new) (D.faults depot.old) (D.faults depot.new) }
     ensures answer { Answers D.Fetch.faults (now (D.look depot.old)) (D.faults depot.old) (D.faults depot.new)
         (λ i. info_in i.blobs root.now number snap.now) result }
+    ensures spends { Spends (D.look depot.old).sure (D.look depot.new).sure 1 (has_fault result) }
 {
     let name = write_name(alloc, &BlobName::Snap(snap.uuid))?;
     let bytes = fetch_blob(alloc, depot, &name)?;
@@ -87,6 +90,8 @@ pub(crate) fn check_infos<D: Depot>(
     ensures looked { Looked (D.look depot.old) (D.look depot.new) (D.faults depot.old) (D.faults depot.new) }
     ensures answer { Answers D.Fetch.faults (now (D.look depot.old)) (D.faults depot.old) (D.faults depot.new)
         (λ i. infos_in i.blobs root.now number snaps.now) result }
+    ensures spends { Spends (D.look depot.old).sure (D.look depot.new).sure (length snaps.now) (has_fault result) }
+    ensures few { length snaps.now < 2 ^ 60 }
 {
     for snap in snaps {
         check_info(alloc, depot, root, number, snap)?;

@@ -1,12 +1,14 @@
 //! A container is opened.
-ghost use Rattle.std.specs.Prelude.{◌≡◌, ◌≤◌, IfOk, IfErr};
+ghost use Rattle.std.specs.Prelude.{◌≡◌, ◌+◌, ◌^◌, ◌≤◌, Option, IfOk, IfErr};
 ghost use Rattle.esr_model.specs.Kept.{first_id};
 ghost use Rattle.esr_depot.specs.Look.{now};
 ghost use Rattle.esr_progress.specs.Plan.{no_plan};
 ghost use Rattle.esr_opening.specs.Found.{found};
 ghost use Rattle.esr_opening.specs.Opening.{IsOpening, IsOpenRefused};
 ghost use Rattle.esr_opening.specs.Looked.{Looked, Answers};
+ghost use Rattle.esr_opening.specs.Spent.{has_fault, Spends};
 ghost use Rattle.esr_opening.specs.Terms.{IsFit};
+ghost use Rattle.esr_opening.specs.declared.refusal.OpenRefusal.TheVariants.{DepotFault};
 
 use crate::OpenRefusal;
 use crate::laws::opened_worlds_are_in_order;
@@ -43,6 +45,8 @@ pub fn open_container<D: Depot>(
     ensures refused { IfErr result (λ e. IsOpenRefused D.Fetch.faults (D.look depot) (D.look e.0) (D.faults depot) (D.faults e.0) e.1) }
     ensures counted { IfOk result (λ o. D.faults depot ≤ D.faults o.depot) }
     ensures recounted { IfErr result (λ e. D.faults depot ≤ D.faults e.0) }
+    ensures spent { IfOk result (λ o. (D.look depot).sure ≤ (D.look o.depot).sure + 2 ^ 61) }
+    ensures sure { IfErr result (λ e. 2 ^ 61 ≤ (D.look depot).sure → (fetch : Option D.Fetch) → e.1 ≡ DepotFault fetch → ⊥) }
 {
     match open_in_place(alloc, &mut depot) {
         Ok((cluster, root)) => {
@@ -67,6 +71,7 @@ fn find<D: Depot>(
     ensures looked { Looked (D.look depot.old) (D.look depot.new) (D.faults depot.old) (D.faults depot.new) }
     ensures answer { Answers D.Fetch.faults (now (D.look depot.old)) (D.faults depot.old) (D.faults depot.new) found result }
     ensures fit { IfOk result (λ o. IsFit o.0 o.1) }
+    ensures spends { Spends (D.look depot.old).sure (D.look depot.new).sure (2 + 2 ^ 60) (has_fault result) }
 {
     let cluster = find_record(alloc, depot)?;
     let root = find_whole_root(alloc, depot, cluster.safe)?;
@@ -82,6 +87,7 @@ fn open_in_place<D: Depot>(
     ensures opened { IfOk result (λ o. IsOpening (D.look depot.old) (D.look depot.new) (record { cluster = o.0; root = o.1; plan = no_plan; next = first_id o.0.term })) }
     ensures refused { IfErr result (λ e. IsOpenRefused D.Fetch.faults (D.look depot.old) (D.look depot.new) (D.faults depot.old) (D.faults depot.new) e) }
     ensures counted { D.faults depot.old ≤ D.faults depot.new }
+    ensures spends { Spends (D.look depot.old).sure (D.look depot.new).sure (2 ^ 61) (has_fault result) }
 {
     opened_worlds_are_in_order();
     let (cluster, root) = find(alloc, depot)?;

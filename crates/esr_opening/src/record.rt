@@ -5,6 +5,7 @@ ghost use Rattle.esr_depot.specs.Look.{now};
 ghost use Rattle.esr_depot.specs.Listing.{size_of};
 ghost use Rattle.esr_opening.specs.Found.{readable, without_record, record_in};
 ghost use Rattle.esr_opening.specs.Looked.{Looked, Answers, Says};
+ghost use Rattle.esr_opening.specs.Spent.{has_fault, Spends};
 
 use crate::blob::unread;
 use crate::{OpenRefusal, Why};
@@ -51,6 +52,7 @@ pub(crate) fn find_record<D: Depot>(
     ensures looked { Looked (D.look depot.old) (D.look depot.new) (D.faults depot.old) (D.faults depot.new) }
     ensures answer { Answers D.Fetch.faults (now (D.look depot.old)) (D.faults depot.old) (D.faults depot.new)
         (λ i. record_in i.blobs i.text) result }
+    ensures spends { Spends (D.look depot.old).sure (D.look depot.new).sure 2 (has_fault result) }
 {
     match depot.read_record(alloc)? {
         Some(text) => parse_record(alloc, &text),

@@ -4,6 +4,7 @@ ghost use Rattle.esr_root.specs.Reading.{root_from};
 ghost use Rattle.esr_depot.specs.Look.{now};
 ghost use Rattle.esr_opening.specs.Found.{read_as, root_in};
 ghost use Rattle.esr_opening.specs.Looked.{Looked, Answers, Says};
+ghost use Rattle.esr_opening.specs.Spent.{has_fault, Spends};
 ghost use Rattle.esr_opening.specs.Terms.{safe_place, whole_root_in};
 
 use crate::blob::{fetch_blob, unread};
@@ -54,6 +55,7 @@ fn find_root<D: Depot>(
     ensures looked { Looked (D.look depot.old) (D.look depot.new) (D.faults depot.old) (D.faults depot.new) }
     ensures answer { Answers D.Fetch.faults (now (D.look depot.old)) (D.faults depot.old) (D.faults depot.new)
         (λ i. root_in i.blobs safe) result }
+    ensures spends { Spends (D.look depot.old).sure (D.look depot.new).sure 1 (has_fault result) }
 {
     let Some(number) = safe_place(safe) else {
         return Ok(RootData::new(alloc));
@@ -72,6 +74,7 @@ pub(crate) fn find_whole_root<D: Depot>(
     ensures looked { Looked (D.look depot.old) (D.look depot.new) (D.faults depot.old) (D.faults depot.new) }
     ensures answer { Answers D.Fetch.faults (now (D.look depot.old)) (D.faults depot.old) (D.faults depot.new)
         (λ i. whole_root_in i.blobs safe) result }
+    ensures spends { Spends (D.look depot.old).sure (D.look depot.new).sure (2 ^ 60) (has_fault result) }
 {
     let root = find_root(alloc, depot, safe)?;
     let number = safe_place(safe).unwrap_or(0);

@@ -5,6 +5,7 @@ ghost use Rattle.esr_depot.specs.Image.{swap_known};
 ghost use Rattle.esr_depot.specs.Look.{now};
 ghost use Rattle.esr_depot.specs.Moments.{LeavesOnly};
 ghost use Rattle.esr_formats.specs.Clusters.{cluster_of, cluster_kind};
+ghost use Rattle.esr_opening.specs.Spent.{has_fault, Spends};
 ghost use Rattle.esr_opening.specs.Terms.{next_term, term_text, MayHave, NotBegun};
 
 use crate::OpenRefusal;
@@ -43,6 +44,7 @@ pub(crate) fn begin_term<D: Depot>(
     ensures left { LeavesOnly (D.look depot.old) (D.look depot.new) (MayHave (now (D.look depot.old)) (term_text cluster.now)) }
     ensures refused { IfErr result (λ e. NotBegun (D.look depot.old) (D.look depot.new) (D.faults depot.old) (D.faults depot.new) e) }
     ensures counted { D.faults depot.old ≤ D.faults depot.new }
+    ensures spends { Spends (D.look depot.old).sure (D.look depot.new).sure 1 (has_fault result) }
 {
     let next = next_record(alloc, cluster);
     let text = write_cluster(alloc, &next)?;

@@ -1,5 +1,5 @@
 //! A piece of a file is copied into a stage.
-ghost use Rattle.std.specs.Prelude.{◌≡◌, ◌+◌, ◌-◌, ◌<◌, ◌≤◌, ◌^◌, IfOk, OnOk, is_err, length};
+ghost use Rattle.std.specs.Prelude.{◌≡◌, ◌+◌, ◌-◌, ◌<◌, ◌≤◌, ◌^◌, true, false, IsTrue, IfOk, OnOk, IsErr, is_err, length};
 ghost use Rattle.std.specs.Io.KnownBytes.{append_known};
 ghost use Rattle.esr_depot.specs.Calls.{HasCause};
 ghost use Rattle.esr_hash.specs.Fed.{fed_count};
@@ -28,6 +28,8 @@ fn write_at_gate<W: Stage, G: Gate>(
     ensures room { OnOk result (W.room stage.new ≡ W.room stage.old - length piece.now) }
     ensures name { W.name stage.new ≡ W.name stage.old }
     ensures cause { HasCause (W.faults stage.old) (W.faults stage.new) (is_err result) }
+    ensures sure { W.is_sure stage.new ≡ W.is_sure stage.old }
+    ensures sure_ok { IsTrue (W.is_sure stage.old) → IsErr result → ⊥ }
 {
     gate.at(Point::Writing { ticket });
     let written = stage.write(piece);
@@ -56,6 +58,8 @@ pub fn copy_part<S: Shard, W: Stage, G: Gate>(
     ensures copied { IfOk result (λ full. Copied (S.left shard.old) (S.left shard.new) (W.contents stage.old) (W.contents stage.new) hasher.old hasher.new size full) }
     ensures source { HasCause (S.faults shard.old) (S.faults shard.new) (is_of_source result) }
     ensures stage { HasCause (W.faults stage.old) (W.faults stage.new) (is_of_stage result) }
+    ensures steady { (S.origin shard.old).is_sure ≡ true → S.faults shard.new ≡ S.faults shard.old }
+    ensures sure { IsTrue (W.is_sure stage.old) → is_of_stage result ≡ false }
 {
     let mut left = size;
     while left > 0 {

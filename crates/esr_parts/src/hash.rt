@@ -1,5 +1,5 @@
 //! A file is read for its print.
-ghost use Rattle.std.specs.Prelude.{◌≡◌, ◌<◌, ◌≤◌, ◌^◌, IfOk, IfSome, IsSomeAnd, length};
+ghost use Rattle.std.specs.Prelude.{◌≡◌, ◌<◌, ◌≤◌, ◌^◌, true, IfOk, IfSome, IsSomeAnd, length};
 ghost use Rattle.esr_depot.specs.Calls.{HasCause, has_failed};
 ghost use Rattle.esr_source.specs.Files.{bytes_at};
 ghost use Rattle.esr_parts.specs.Reads.{Hashed};
@@ -26,6 +26,7 @@ pub fn hash_file<S: Shard>(
     ensures buffer { length buf.new ≡ length buf.old }
     ensures hashed { IfOk result (λ p. Hashed (bytes_at (S.origin shard.old).files file) len p) }
     ensures cause { HasCause (S.faults shard.old) (S.faults shard.new) (has_failed result) }
+    ensures steady { (S.origin shard.old).is_sure ≡ true → S.faults shard.new ≡ S.faults shard.old }
 {
     shard.start(alloc, file)?;
     let mut hasher = Hasher::start();

@@ -29,7 +29,7 @@ same_count start n more before after h is later = omega arith
 one_more : (start n more before after : ℕ) → min (start + n) (2 ^ 64 - 1) ≤ before → more ≡ n + 1 → up before ≤ after → min (start + more) (2 ^ 64 - 1) ≤ after
 one_more start n more before after h is rose = omega arith
 
-entries_more : (es : List Entry) (e : Entry) (fault : Bool) → is_fault e.reply ≡ fault → fault_entries (es ++ e ∷ []) ≡ fault_entries es + cond fault 1 0
+pub entries_more : (es : List Entry) (e : Entry) (fault : Bool) → is_fault e.reply ≡ fault → fault_entries (es ++ e ∷ []) ≡ fault_entries es + cond fault 1 0
 entries_more es e fault is = sum_by_push (λ (x : Entry). cond (is_fault x.reply) 1 0) es e ∙ ap (λ (b : Bool). fault_entries es + cond b 1 0) is
 
 -- ---- the swap that failed
@@ -78,7 +78,7 @@ tells_none (Refused DepotFault) = false
 tells_none (Refused (DeposedAt place)) = false
 tells_none reply = true
 
-no_fault : (reply : Reply) → tells_none reply ≡ true → is_fault reply ≡ false
+pub no_fault : (reply : Reply) → tells_none reply ≡ true → is_fault reply ≡ false
 no_fault (Refused DepotFault) none = absurd (true≢false (sym none))
 no_fault (Refused refusal) none = refl
 no_fault reply none = refl

@@ -15,3 +15,4 @@ pub mod Accepts
 pub mod Taken
 pub mod Doing
 pub mod Failing
+pub mod Calms

@@ -9,7 +9,7 @@ use Rattle.esr_model.specs.Image.{Image}
 use Rattle.esr_core.specs.World.{World, Ticket}
 use Rattle.esr_core.specs.Entry.{Step, Reply, Refused, DepotFault, Moment}
 use Rattle.esr_core.specs.After.{with_given, change, faulted}
-use Rattle.esr_desk.specs.Refusals.{refusal_of, told_refusal}
+use Rattle.esr_desk.specs.Refusals.{refusal_of}
 use Rattle.esr_desk.specs.declared.refusal.StepRefusal.{StepRefusal}
 use Rattle.esr_desk.specs.declared.refusal.StepRefusal.TheVariants as steps
 use Rattle.esr_desk.specs.declared.refusal.EntryRefusal.TheVariants as code
@@ -25,9 +25,9 @@ pub added_from : (s : Start) (old mid new : List Moment) (who : ℕ) (step : Ste
 added_from s old mid new who step reply e a = subst (λ (log : List Moment). Added s log new who step reply) e a
 
 -- a refusal leaves the ticket, where a failed call of the container leaves the world
-pub kept_by : (s : Start) (old new : List Moment) (who : ℕ) (step : Step) (e : StepRefusal) → ((image : Option Image) → faulted (formats_of s) (world_of s old) who step image ≡ world_of s old) → AddedOr s old new who step (told_refusal e) → ticket_of s new who ≡ ticket_of s old who
+pub kept_by : (s : Start) (old new : List Moment) (who : ℕ) (step : Step) (e : StepRefusal) → ((image : Option Image) → faulted (formats_of s) (world_of s old) who step image ≡ world_of s old) → AddedOr s old new who step e → ticket_of s new who ≡ ticket_of s old who
 kept_by s old new who step steps.Memory still same = ap (λ (log : List Moment). ticket_of s log who) same
-kept_by s old new who step steps.TurnsSpent still same = ap (λ (log : List Moment). ticket_of s log who) same
+kept_by s old new who step steps.TurnsSpent still never = absurd never
 kept_by s old new who step (steps.Refused code.DepotFault) still a =
     added_ticket s old new who step (Refused DepotFault) a who ∙ ap (λ (w : World). or_no_ticket (fin.get w.tickets who)) (still a.image)
 kept_by s old new who step (steps.Refused x) still a = added_ticket s old new who step (Refused (refusal_of x)) a who

@@ -136,7 +136,7 @@ raise_fell s old k image t out is = go (has_text image ((formats_of s).cluster.t
 pub raise_left : (s : Start) (old new : List Moment) (k : ℕ) (r : Result ℕ StepRefusal) → CanRaise s (ticket_of s old k) → Did s old new k RaiseStep (λ n. RaisedTo n) r → LeftBy (HasRaised (ticket_of s old k)) r (ticket_of s old k) (ticket_of s new k)
 raise_left s old new k (Ok n) can did = tt
 raise_left s old new k (Err steps.Memory) can did = ap (λ (l : List Moment). ticket_of s l k) did
-raise_left s old new k (Err steps.TurnsSpent) can did = ap (λ (l : List Moment). ticket_of s l k) did
+raise_left s old new k (Err steps.TurnsSpent) can never = absurd never
 raise_left s old new k (Err (steps.Refused code.DepotFault)) can did = raise_fell s old k did.image (ticket_of s new k) can.out (added_ticket s old new k RaiseStep (Refused DepotFault) did k)
 raise_left s old new k (Err (steps.Refused x)) can did = added_ticket s old new k RaiseStep (Refused (refusal_of x)) did k
 
@@ -307,7 +307,7 @@ fell f w up image k old new t old_is new_is is = go (has_text image (f.cluster.t
 pub settle_left : {X : Type 0} (s : Start) (old new : List Moment) (k : ℕ) (root : RootData) (r : Result X StepRefusal) → CanSettle s (ticket_of s old k) root → Did s old new k SettleStep (λ x. WasSettled) r → LeftBy (IsSettled (ticket_of s old k)) r (ticket_of s old k) (ticket_of s new k)
 settle_left s old new k root (Ok n) can did = tt
 settle_left s old new k root (Err steps.Memory) can did = ap (λ (l : List Moment). ticket_of s l k) did
-settle_left s old new k root (Err steps.TurnsSpent) can did = ap (λ (l : List Moment). ticket_of s l k) did
+settle_left s old new k root (Err steps.TurnsSpent) can never = absurd never
 settle_left s old new k root (Err (steps.Refused code.DepotFault)) can did =
     fell (formats_of s) (world_of s old) (settled_of (formats_of s) (world_of s old) k (fin.get (world_of s old).tickets k)) did.image k (ticket_of s old k) (settle (ticket_of s old k)) (ticket_of s new k) refl (settled_puts s old k root can) (added_ticket s old new k SettleStep (Refused DepotFault) did k)
 settle_left s old new k root (Err (steps.Refused x)) can did = added_ticket s old new k SettleStep (Refused (refusal_of x)) did k
@@ -362,7 +362,7 @@ dropped_ticket s old mid new k e can a = added_ticket s old new k DroppedStep Ha
 pub drop_left : {X : Type 0} (s : Start) (old new : List Moment) (k : ℕ) (r : Result X StepRefusal) → CanDrop (ticket_of s old k) → Did s old new k DroppedStep (λ x. HasEnded) r → LeftBy (HasEndedAs (ticket_of s old k)) r (ticket_of s old k) (ticket_of s new k)
 drop_left s old new k (Ok n) can did = tt
 drop_left s old new k (Err steps.Memory) can did = ap (λ (l : List Moment). ticket_of s l k) did
-drop_left s old new k (Err steps.TurnsSpent) can did = ap (λ (l : List Moment). ticket_of s l k) did
+drop_left s old new k (Err steps.TurnsSpent) can never = absurd never
 drop_left s old new k (Err (steps.Refused code.DepotFault)) can did =
     fell (formats_of s) (world_of s old) (dropped_of (world_of s old) k (fin.get (world_of s old).tickets k)) did.image k (ticket_of s old k) (end (ticket_of s old k)) (ticket_of s new k) refl (dropped_puts s old k can) (added_ticket s old new k DroppedStep (Refused DepotFault) did k)
 drop_left s old new k (Err (steps.Refused x)) can did = added_ticket s old new k DroppedStep (Refused (refusal_of x)) did k

@@ -60,7 +60,7 @@ tried_if s log k false out = refl
 begun : {X : Type 0} (s : Start) (old new : List Moment) (k : ℕ) (name : BlobName) (r : Result X StepRefusal) → (ticket_of s old k).out ≡ true → Did s old new k (BeginStep name) (λ x. WasBegun) r → ticket_of s new k ≡ begun_by name r (ticket_of s old k)
 begun s old new k name (Ok x) out did = added_ticket s old new k (BeginStep name) WasBegun did k
 begun s old new k name (Err steps.Memory) out did = ap (λ (l : List Moment). ticket_of s l k) did
-begun s old new k name (Err steps.TurnsSpent) out did = ap (λ (l : List Moment). ticket_of s l k) did
+begun s old new k name (Err steps.TurnsSpent) out never = absurd never
 begun s old new k name (Err (steps.Refused code.DepotFault)) out did = added_ticket s old new k (BeginStep name) (Refused DepotFault) did k ∙ tried_if s old k (is_latest name) out
 begun s old new k name (Err (steps.Refused x)) out did = added_ticket s old new k (BeginStep name) (Refused (refusal_of x)) did k
 
@@ -84,7 +84,7 @@ may_replace s old log k contents e can =
 replaced : {X : Type 0} (s : Start) (old new : List Moment) (k : ℕ) (r : Result X StepRefusal) → (ticket_of s old k).out ≡ true → Did s old new k LatestStep (λ x. WasReplaced) r → ticket_of s new k ≡ tried_by r (ticket_of s old k)
 replaced s old new k (Ok x) out did = added_ticket s old new k LatestStep WasReplaced did k ∙ changed_ticket s old k tried out
 replaced s old new k (Err steps.Memory) out did = ap (λ (l : List Moment). ticket_of s l k) did
-replaced s old new k (Err steps.TurnsSpent) out did = ap (λ (l : List Moment). ticket_of s l k) did
+replaced s old new k (Err steps.TurnsSpent) out never = absurd never
 replaced s old new k (Err (steps.Refused code.DepotFault)) out did = added_ticket s old new k LatestStep (Refused DepotFault) did k ∙ changed_ticket s old k tried out
 replaced s old new k (Err (steps.Refused x)) out did = added_ticket s old new k LatestStep (Refused (refusal_of x)) did k
 

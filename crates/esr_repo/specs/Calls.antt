@@ -9,7 +9,6 @@ use Rattle.esr_depot.specs.declared.depot.Commit.{Commit}
 use Rattle.esr_depot.specs.declared.depot.Commit.TheVariants as commits
 use Rattle.esr_desk.specs.Start.{Start, formats_of}
 use Rattle.esr_desk.specs.Outcome.{commit_reply}
-use Rattle.esr_desk.specs.Refusals.{told_refusal}
 use Rattle.esr_desk.specs.declared.refusal.StepRefusal.{StepRefusal}
 use Rattle.esr_repo.specs.Next.{Added, AddedOr}
 
@@ -20,10 +19,10 @@ AddedBlob s old new who name contents commits.Exists = Added s old new who (Comm
 
 abbrev pub CommitDid : Start → List Moment → List Moment → ℕ → BlobName → Option Bytes → Result Commit StepRefusal → Type 0
 CommitDid s old new who name contents (Ok c) = AddedBlob s old new who name contents c
-CommitDid s old new who name contents (Err e) = AddedOr s old new who (CommitStep name) (told_refusal e)
+CommitDid s old new who name contents (Err e) = AddedOr s old new who (CommitStep name) e
 
 -- what can be read of a blob is what is told of it
 abbrev pub FetchDid : {F : Type 0} → (F → Option Bytes) → Start → List Moment → List Moment → ℕ → BlobName → Result (Option F) StepRefusal → Type 0
 FetchDid left s old new who name (Ok None) = Added s old new who (FetchStep name) WasAbsent
 FetchDid left s old new who name (Ok (Some f)) = (a : Added s old new who (FetchStep name) WasFetched) × (told_blob (formats_of s) a.image name ≡ left f) × ((bytes : Bytes) × (left f ≡ (if s.tells then Some bytes else None)))
-FetchDid left s old new who name (Err e) = AddedOr s old new who (FetchStep name) (told_refusal e)
+FetchDid left s old new who name (Err e) = AddedOr s old new who (FetchStep name) e

@@ -12,3 +12,4 @@ pub mod Given
 pub mod Counted
 pub mod Deposed
 pub mod KeptFaults
+pub mod Calm

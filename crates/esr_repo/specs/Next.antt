@@ -1,10 +1,11 @@
 -- What a step does to the history.
-use Rattle.std.specs.Prelude.{◌≡◌, ℕ, false, List, [], ◌∷◌, ◌++◌, Option, Some, None, Result, Ok, Err}
+use Rattle.std.specs.Prelude.{◌≡◌, ℕ, false, List, [], ◌∷◌, ◌++◌, Option, Result, Ok, Err}
 use Rattle.esr_model.specs.Image.{Image}
-use Rattle.esr_core.specs.Entry.{Step, Reply, Refused, Refusal, Moment}
+use Rattle.esr_core.specs.Entry.{Step, Reply, Refused, Moment}
 use Rattle.esr_desk.specs.Start.{Start, world_of, Legal}
-use Rattle.esr_desk.specs.Refusals.{told_refusal}
+use Rattle.esr_desk.specs.Refusals.{refusal_of}
 use Rattle.esr_desk.specs.declared.refusal.StepRefusal.{StepRefusal}
+use Rattle.esr_desk.specs.declared.refusal.StepRefusal.TheVariants as steps
 
 -- one entry was added to the history, and nothing else
 pub record Added (s : Start) (old new : List Moment) (who : ℕ) (step : Step) (reply : Reply) : Type 0 where
@@ -12,14 +13,16 @@ pub record Added (s : Start) (old new : List Moment) (who : ℕ) (step : Step) (
   pub is : new ≡ old ++ record { entry = record { who = who; step = step; reply = reply }; image = image } ∷ []
   pub legal : Legal s new
 
-abbrev pub AddedOr : Start → List Moment → List Moment → ℕ → Step → Option Refusal → Type 0
-AddedOr s old new who step None = new ≡ old
-AddedOr s old new who step (Some refusal) = Added s old new who step (Refused refusal)
+-- the refusal was added, or nothing where memory was wanting; a repository counts no turns
+abbrev pub AddedOr : Start → List Moment → List Moment → ℕ → Step → StepRefusal → Type 0
+AddedOr s old new who step steps.Memory = new ≡ old
+AddedOr s old new who step steps.TurnsSpent = ⊥
+AddedOr s old new who step (steps.Refused refusal) = Added s old new who step (Refused (refusal_of refusal))
 
 -- what a step does to the history, by its answer
 abbrev pub Did : {X : Type 0} → Start → List Moment → List Moment → ℕ → Step → (X → Reply) → Result X StepRefusal → Type 0
 Did s old new who step ok (Ok x) = Added s old new who step (ok x)
-Did s old new who step ok (Err e) = AddedOr s old new who step (told_refusal e)
+Did s old new who step ok (Err e) = AddedOr s old new who step e
 
 -- no record swap has failed
 abbrev pub IsLive : Start → List Moment → Type 0
@@ -28,4 +31,4 @@ IsLive s log = (world_of s log).deposed ≡ false
 -- the step may go on: it added nothing; or it was refused, since a record swap failed before
 abbrev pub Checked : Start → List Moment → List Moment → ℕ → Step → Result Unit StepRefusal → Type 0
 Checked s old new who step (Ok x) = (new ≡ old) × IsLive s new
-Checked s old new who step (Err e) = AddedOr s old new who step (told_refusal e)
+Checked s old new who step (Err e) = AddedOr s old new who step e

@@ -4,7 +4,7 @@ ghost use Rattle.esr_core.specs.Entry.{Asked, AskStep, Accepted, Moment};
 ghost use Rattle.esr_progress.specs.Asked.{asked_of, IsAskable};
 ghost use Rattle.esr_progress.specs.Accepting.{IsRefused, name_asked};
 ghost use Rattle.esr_desk.specs.Entries.{step_of};
-ghost use Rattle.esr_desk.specs.Refusals.{refusal_of, told_refusal};
+ghost use Rattle.esr_desk.specs.Refusals.{refusal_of};
 ghost use Rattle.esr_desk.specs.Start.{Start, world_of};
 ghost use Rattle.esr_repo.specs.Next.{IsLive, AddedOr};
 ghost use Rattle.esr_repo.specs.May.{MaySwap, MayRefuse};
@@ -68,7 +68,7 @@ impl<D: Depot, K: Told> Repo<D, K> {
     pub(crate) fn refuse_command(&mut self, step: Step, refusal: Refusal) -> StepRefusal
         requires live { IsLive K.start self.old }
         requires why { (command : Asked) × (step_of step ≡ AskStep command) × IsRefused (world_of K.start self.old) (name_asked command) command refusal }
-        ensures { AddedOr K.start self.old self.new 0 (step_of step) (told_refusal result) }
+        ensures { AddedOr K.start self.old self.new 0 (step_of step) result }
     {
         match command_refusal(refusal) {
             Some(refusal) => self.refuse(0, step, refusal),

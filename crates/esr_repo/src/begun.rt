@@ -1,5 +1,5 @@
 //! A repository of a container that was opened.
-ghost use Rattle.std.specs.Prelude.{◌≡◌, ◌≤◌, []};
+ghost use Rattle.std.specs.Prelude.{◌≡◌, ◌≤◌, ◌^◌, true, []};
 ghost use Rattle.esr_repo.specs.Begun.{IsBegun};
 
 use crate::{Repo, Told};
@@ -13,6 +13,7 @@ impl<D: Depot, K: Told> Repo<D, K> {
         requires begun { IsBegun K.start K.clock K.past (D.look opening.depot)
             (record { cluster = opening.cluster; root = opening.root; plan = opening.progress; next = opening.next.number }) }
         requires counted { K.faults ≤ D.faults opening.depot }
+        requires calm { K.start.quiet ≡ true → 2 ^ 41 ≤ (D.look opening.depot).sure }
         ensures { result ≡ [] }
     {
         Repo::new(

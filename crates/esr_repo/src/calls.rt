@@ -1,5 +1,5 @@
 //! The steps that call the container for a blob.
-ghost use Rattle.std.specs.Prelude.{◌≡◌, true, false, ◌⊎◌, ◌<◌, [], Option, Some, None, IfOk, IfErr, IfSome};
+ghost use Rattle.std.specs.Prelude.{◌≡◌, true, false, ◌⊎◌, ◌<◌, ◌^◌, [], length, IsTrue, Option, Some, None, IfOk, IfErr, IfSome};
 ghost use Rattle.esr_model.specs.Names.{Latest};
 ghost use Rattle.esr_core.specs.Entry.{BeginStep, CommitStep, LatestStep, FetchStep, WasBegun, WasReplaced};
 ghost use Rattle.esr_core.specs.Entry.{Refused as RefusedAs, DepotFault as FaultOf};
@@ -70,6 +70,7 @@ impl<D: Depot, K: Told> Repo<D, K> {
         ensures room { IfOk result (λ s. D.Stage.room s.stage ≡ room) }
         ensures contents { IfOk result (λ s. Holds K.start (D.Stage.contents s.stage) []) }
         ensures count { IfOk result (λ s. D.Stage.faults s.stage ≡ 0) }
+        ensures sure { IfOk result (λ s. K.start.quiet ≡ true → length self.old < 2 ^ 41 → IsTrue (D.Stage.is_sure s.stage)) }
         ensures why { IfErr result (λ e. (e ≡ Memory) ⊎ (e ≡ Refused DepotFault)) }
     {
         Self::laws();
@@ -185,6 +186,7 @@ impl<D: Depot, K: Told> Repo<D, K> {
         requires may { MayFetch K.start self.old who (name_of name) }
         ensures step { FetchDid D.Fetch.left K.start self.old self.new who (name_of name) result }
         ensures count { IfOk result (λ o. IfSome o (λ f. D.Fetch.faults f ≡ 0)) }
+        ensures sure { IfOk result (λ o. IfSome o (λ f. K.start.quiet ≡ true → length self.old < 2 ^ 41 → IsTrue (D.Fetch.is_sure f))) }
         ensures why { IfErr result (λ e. (e ≡ Memory) ⊎ (e ≡ Refused DepotFault)) }
     {
         Self::laws();

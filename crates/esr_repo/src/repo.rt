@@ -1,6 +1,7 @@
 //! A container beside the history of its steps, and what is kept of the world that they lead to.
 ghost use Rattle.std.specs.Prelude.{◌≡◌, ℕ, [], List, Option, None};
 ghost use Rattle.esr_desk.specs.Start.{Legal};
+ghost use Rattle.esr_repo.specs.Calm.{IsCalm};
 ghost use Rattle.esr_repo.specs.Counted.{IsCounted};
 ghost use Rattle.esr_repo.specs.Deposed.{AreDeposedSo};
 ghost use Rattle.esr_repo.specs.KeptFaults.{IsKeptOfFaults};
@@ -45,6 +46,7 @@ impl<D: Depot, K: Told> Model for Repo<D, K> {
     ghost coded = { Prim.hlevel (codes, blobs_code) };
 
     ghost use Rattle.esr_repo.specs.Log.{log_of};
+    ghost use Rattle.esr_repo.specs.Calm.{IsCalm};
     ghost use Rattle.esr_repo.specs.KeptFaults.{IsKeptOfFaults};
     ghost use Rattle.esr_repo.specs.Whole.{IsWhole};
 
@@ -52,7 +54,8 @@ impl<D: Depot, K: Told> Model for Repo<D, K> {
 
     ghost invariant = { λ r. IsWhole (D.look r.depot) K.start K.clock K.past r.history.items
         (record { cluster = r.cluster; root = r.root; plan = r.progress; next = r.next.number }) r.deposed
-        × IsKeptOfFaults K.faults (D.faults r.depot) r.history.items r.deposed };
+        × IsKeptOfFaults K.faults (D.faults r.depot) r.history.items r.deposed
+        × IsCalm K.start.quiet (D.look r.depot).sure r.history.items };
 }
 
 impl<D: Depot, K: Told> Repo<D, K> {
@@ -68,6 +71,7 @@ impl<D: Depot, K: Told> Repo<D, K> {
         requires whole { IsWhole (D.look depot) K.start K.clock K.past []
             (record { cluster = cluster; root = root; plan = progress; next = next.number }) None }
         requires faults { IsKeptOfFaults K.faults (D.faults depot) [] None }
+        requires calm { IsCalm K.start.quiet (D.look depot).sure [] }
         ensures { result ≡ [] }
     {
         Repo {
@@ -92,6 +96,9 @@ impl<D: Depot, K: Told> Repo<D, K> {
         // that failed.
         ensures counted { IsCounted K.faults (D.faults result.0) result.1 }
         ensures named { AreDeposedSo result.1 }
+
+        // A container that tells that no call of it fails made none of the first 2^41 entries tell a failure.
+        ensures calm { IsCalm K.start.quiet (D.look result.0).sure result.1 }
     {
         let Repo {
             depot,

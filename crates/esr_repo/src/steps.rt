@@ -2,7 +2,7 @@
 ghost use Rattle.std.specs.Prelude.{◌≡◌, ◌⊎◌, ℕ, IfErr};
 ghost use Rattle.std.specs.Option.{unwrap_or};
 ghost use Rattle.esr_desk.specs.Entries.{step_of, answer_of};
-ghost use Rattle.esr_desk.specs.Refusals.{refusal_of, told_refusal};
+ghost use Rattle.esr_desk.specs.Refusals.{refusal_of};
 ghost use Rattle.esr_desk.specs.Start.{ticket_of};
 ghost use Rattle.esr_desk.specs.declared.refusal.StepRefusal.TheVariants.{Memory, Refused};
 ghost use Rattle.esr_repo.specs.Next.{IsLive, Checked, Did, AddedOr};
@@ -70,7 +70,7 @@ impl<D: Depot, K: Told> Repo<D, K> {
     pub(crate) fn refuse(&mut self, who: u64, step: Step, refusal: EntryRefusal) -> StepRefusal
         requires live { IsLive K.start self.old }
         requires may { MayRefuse K.start self.old who (step_of step) (refusal_of refusal) }
-        ensures step { AddedOr K.start self.old self.new who (step_of step) (told_refusal result) }
+        ensures step { AddedOr K.start self.old self.new who (step_of step) result }
         ensures kept { (k : ℕ) → ticket_of K.start self.new k ≡ ticket_of K.start self.old k }
         ensures why { (result ≡ Memory) ⊎ (result ≡ Refused refusal) }
     {

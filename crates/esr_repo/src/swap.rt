@@ -2,7 +2,7 @@
 ghost use Rattle.std.specs.Prelude.{◌≡◌, ◌⊎◌, ◌<◌, false, IfErr, vec_len, vec_capacity};
 ghost use Rattle.std.specs.Option.{unwrap_or};
 ghost use Rattle.esr_model.specs.Values.{ReadsBack};
-ghost use Rattle.esr_depot.specs.Calls.{HasCause, Called, is_wanting, has_failed};
+ghost use Rattle.esr_depot.specs.Calls.{HasCause, Serves, Called, is_wanting, has_failed};
 ghost use Rattle.esr_depot.specs.Changes.{Swapped, SwapMay};
 ghost use Rattle.esr_formats.specs.Clusters.{cluster_of, cluster_kind};
 ghost use Rattle.esr_desk.specs.Entries.{step_of, answer_of};
@@ -62,6 +62,7 @@ fn put_record<D: Depot>(
     ensures call { Called (D.look depot.old) (D.look depot.new) (λ _. Swapped (cluster_kind.text (cluster_of cluster.now)))
         (SwapMay (cluster_kind.text (cluster_of cluster.now))) result }
     ensures cause { HasCause (D.faults depot.old) (D.faults depot.new) (has_failed result) }
+    ensures sure { Serves (D.look depot.old).sure (D.look depot.new).sure (has_failed result) }
     ensures reads { ReadsBack cluster_kind (cluster_of cluster.now) }
     ensures entries { history.new.items ≡ history.old.items }
     ensures room { is_wanting result ≡ false → vec_len history.new < vec_capacity history.new }

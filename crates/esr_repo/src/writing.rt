@@ -1,5 +1,5 @@
 //! The steps by which a unit reads and writes.
-ghost use Rattle.std.specs.Prelude.{◌≡◌, ◌+◌, ◌<◌, ◌^◌, ℕ, List, [], map, Option, Some, None, true, false, IfOk, IfSome, OnOk, OnErr};
+ghost use Rattle.std.specs.Prelude.{◌≡◌, ◌+◌, ◌<◌, ◌^◌, ℕ, List, [], map, length, Option, Some, None, true, false, IsTrue, IfOk, IfSome, OnOk, OnErr};
 ghost use Rattle.esr_model.specs.Names.{Latest};
 ghost use Rattle.esr_model.specs.Values.{Bytes};
 ghost use Rattle.esr_core.specs.Entry.{Moment, AskStep, TakeStep, DrawStep, BeginStep, CommitStep, LatestStep, FetchStep, RaiseStep, SettleStep, DoneStep, FailedStep, FinishStep, DroppedStep, LookStep, Accepted, DrawnFrom, WasBegun, WasReplaced, RaisedTo, WasSettled, HasEnded, Looked};
@@ -68,6 +68,7 @@ impl<D: Depot, K: Told> Repo<D, K> {
         ensures room { IfOk result (λ s. D.Stage.room s.stage ≡ room) }
         ensures contents { IfOk result (λ s. Holds K.start (D.Stage.contents s.stage) []) }
         ensures count { IfOk result (λ s. D.Stage.faults s.stage ≡ 0) }
+        ensures sure { IfOk result (λ s. K.start.quiet ≡ true → length self.old < 2 ^ 41 → IsTrue (D.Stage.is_sure s.stage)) }
     {
         self.check(ticket, Step::Begin { name })?;
         self.call_begin(alloc, ticket, name, room)
@@ -127,6 +128,7 @@ impl<D: Depot, K: Told> Repo<D, K> {
             ≡ fetched_by D.Fetch.left (name_of name) o (ticket_of K.start self.old ticket)) }
         ensures told { IfOk result (λ o. IfSome o (λ f. (bytes : Bytes) × Holds K.start (D.Fetch.left f) bytes)) }
         ensures count { IfOk result (λ o. IfSome o (λ f. D.Fetch.faults f ≡ 0)) }
+        ensures sure { IfOk result (λ o. IfSome o (λ f. K.start.quiet ≡ true → length self.old < 2 ^ 41 → IsTrue (D.Fetch.is_sure f))) }
         ensures kept { OnErr result (ticket_of K.start self.new ticket ≡ ticket_of K.start self.old ticket) }
     {
         self.check(ticket, Step::Fetch { name })?;

@@ -9,7 +9,7 @@ use Rattle.esr_core.specs.Allowed.{AreDistinct}
 use Rattle.esr_progress.specs.Asked.{HasShards, IsAskable}
 use Rattle.esr_script.specs.declared.item.AskedIndex.{AskedIndex as LineIndex}
 use Rattle.esr_run.specs.Script.{has_shards, have_shards, is_named, has_name, have_own_names, is_askable}
-use Rattle.esr_run.specs.Commands.{index_of_line, command_of_line}
+use Rattle.esr_complete.specs.Lines.{index_of_line, command_of_line}
 
 both : (a b : Bool) → (a && b) ≡ true → (a ≡ true) × (b ≡ true)
 both true b e = (refl, e)

@@ -1,9 +1,9 @@
 -- How a run ends.
-use Rattle.std.proofs.Common.{◌≡◌, ◌⊎◌, ℕ, ◌<◌, Bool, true, List, [], ◌∷◌, Option, Some, None, is_some, inl, inr, refl, sym, ap, ◌∙◌, subst}
-use Rattle.std.specs.Prelude.{unwrap_or}
+use Rattle.std.proofs.Common.{◌≡◌, ◌⊎◌, ℕ, ◌<◌, ◌≤◌, ◌^◌, Bool, true, false, List, [], ◌∷◌, ◌++◌, Option, Some, None, is_some, inl, inr, refl, sym, ap, ◌∙◌, subst}
+use Rattle.std.specs.Prelude.{unwrap_or, ◌&&◌}
 use Rattle.std.specs.Io.KnownBytes.{Appends}
 use Rattle.esr_model.specs.Values.{Bytes}
-use Rattle.esr_core.specs.Entry.{Entry, Moment}
+use Rattle.esr_core.specs.Entry.{Step, Entry, Moment}
 use Rattle.esr_core.specs.World.{World}
 use Rattle.esr_depot.specs.Image.{Image as Held}
 use Rattle.esr_depot.specs.Look.{Look, now}
@@ -11,7 +11,12 @@ use Rattle.esr_depot.specs.Calls.{HasCause, Stays}
 use Rattle.esr_formats.specs.Clusters.{cluster_of}
 use Rattle.esr_formats.specs.Roots.{root_of}
 use Rattle.esr_desk.specs.Start.{Start}
-use Rattle.esr_desk.specs.Sources.{TellsFiles}
+use Rattle.esr_desk.specs.Sources.{AreSources}
+use Rattle.esr_desk.specs.Once.{AreOnce}
+use Rattle.esr_repo.specs.Calm.{IsCalm}
+use Rattle.esr_quiet.specs.Asked.{asked_steps}
+use Rattle.esr_complete.specs.Lines.{steps_of}
+use Rattle.esr_run.specs.Made.{MadeFirst}
 use Rattle.esr_opening.specs.Opening.{Kept, IsFault, IsOpening, IsOpenRefused}
 use Rattle.esr_opening.specs.declared.refusal.OpenRefusal.{OpenRefusal}
 use Rattle.esr_opening.specs.declared.refusal.OpenRefusal.TheVariants as refusals
@@ -33,12 +38,20 @@ use Rattle.esr_run.proofs.Keeping.{untouched_kept, refused_kept, every_image_kep
 
 -- ---- what is told at the start
 
-pub tells_files : (files : Telling) (size : ℕ) (l : Look) (w : World) (is_there : Bytes → Bytes → ℕ → Option Bool) → TellsFiles (start_of files size l w) files is_there
-tells_files files size l w is_there place name number known = inl (by (files place name number) known)
+pub are_sources : (files : Telling) (size : ℕ) (quiet : Bool) (l : Look) (w : World) → AreSources (start_of files size quiet l w) files.files files.is_there files.is_quiet
+are_sources files size quiet l w = record {
+  told = λ place name number known. inl (by (files.files place name number) known);
+  steady = λ place name number e. both files.is_quiet (files.is_there place name number) e;
+}
   where
     by : (o : Option (List (Bytes × Bytes))) → is_some o ≡ true → o ≡ Some (unwrap_or o [])
     by None e = absurd cc
     by (Some x) e = refl
+
+    both : (a : Bool) (o : Option Bool) → (a && unwrap_or o false) ≡ true → (a ≡ true) × (o ≡ Some true)
+    both true None e = absurd cc
+    both true (Some b) e = (refl, ap (λ (x : Bool). Some x) e)
+    both false o e = absurd cc
 
 -- ---- what became of the container
 
@@ -63,25 +76,32 @@ unopened laws count files before after old_faults new_faults history faults refu
     record { refusal = refusal; refused = refused; every_image = refused_kept laws files count.fetch before after old_faults new_faults refusal refused; empty = empty; faults_are = are }
 
 -- what is told of the history by the container alone, as the run tells it
-abbrev Begun : Telling → ℕ → Look → Kept → Start
-Begun files size mid k = start_of files size mid (begun_world (now mid) (cluster_of k.cluster) (root_of k.root))
+abbrev pub Begun : Telling → ℕ → Bool → Look → Kept → Start
+Begun files size quiet mid k = start_of files size quiet mid (begun_world (now mid) (cluster_of k.cluster) (root_of k.root))
 
-pub opened_run : {S F H T : Type 0} (laws : Laws) (count : Counts S F H T) (files : Telling) (size : ℕ) (before mid after : Look) (k : Kept) (history : List Entry) (faults : List (Fault S F H T)) → IsOpening before mid k
-    → LegalRun (Begun files size mid k) mid.clock after history → IsPast (Begun files size mid k) mid.clock mid.since after history → AreShown count (Begun files size mid k) (log_of after mid.clock history) faults → IsOpenedRun count files size before after history faults
-opened_run {S} {F} {H} {T} laws count files size before mid after k history faults o legal past shown =
-    let is = start_is files size before mid k o in
+unfoldable pub opened_run : {S F H T : Type 0} (laws : Laws) (count : Counts S F H T) (files : Telling) (size moment : ℕ) (lines : List ScriptLine) (quiet : Bool) (before mid after : Look) (k : Kept) (history : List Entry) (faults : List (Fault S F H T)) → IsOpening before mid k → (2 ^ 62 ≤ before.sure → quiet ≡ true)
+    → LegalRun (Begun files size quiet mid k) mid.clock after history → IsPast (Begun files size quiet mid k) mid.clock mid.since after history → AreShown count (Begun files size quiet mid k) (log_of after mid.clock history) faults
+    → AreOnce (Begun files size quiet mid k) (log_of after mid.clock history) → IsCalm quiet after.sure history → MadeFirst (Begun files size quiet mid k) (steps_of moment lines) [] (log_of after mid.clock history)
+    → IsOpenedRun count files size moment lines before after history faults
+opened_run {S} {F} {H} {T} laws count files size moment lines quiet before mid after k history faults o quiet_is legal past shown once calm made =
+    let is = start_is files size quiet before mid k o in
     let run = subst (λ (s : Start). LegalRun s mid.clock after history) is legal in
     let was = subst (λ (s : Start). IsPast s mid.clock mid.since after history) is past in
     record {
       world = _;
       clock = mid.clock;
+      quiet = quiet;
+      quiet_is = quiet_is;
       later = o.left.later;
       opened = λ i e. o.opens i _ _ e;
       order = o.order;
       legal = run;
-      every_image = every_image_kept laws files size before mid after k history o run was;
-      answered = answers_stay laws files size before mid after k history o run was;
+      every_image = every_image_kept laws files size quiet before mid after k history o run was;
+      answered = answers_stay laws files size quiet before mid after k history o run was;
       shown = subst (λ (s : Start). AreShown {S = S} {F = F} {H = H} {T = T} count s (log_of after mid.clock history) faults) is shown;
+      once = subst (λ (s : Start). AreOnce s (log_of after mid.clock history)) is once;
+      calm = calm;
+      asked = (made.rest, ap (λ (l : List Step). l ++ made.rest) (ap asked_steps made.grew.is ∙ made.grew.asked refl) ∙ made.is);
     }
 
 -- ---- verdicts
@@ -90,10 +110,10 @@ pub verdict_carried : (status : ℕ) (text : Bytes) (lines : List ScriptLine) (h
 verdict_carried status text lines history Cause (inl wanting) cause = inl wanting
 verdict_carried status text lines history Cause (inr told) cause = inr (record { end = Carried lines history; status_is = told.0; text_is = told.1; cause = cause })
 
-pub verdict_opening : {S F H T : Type 0} (status : ℕ) (text : Bytes) (count : Counts S F H T) (files : Telling) (size : ℕ) (before after : Look) (old_faults new_faults : ℕ) (lines : List ScriptLine) (history : List Entry) (faults : List (Fault S F H T))
-    → IsTold status text (Some (Carried lines history)) → IsOpenedRun count files size before after history faults → IsVerdict status text (IsOpenCause count files size before after old_faults new_faults lines history faults)
-verdict_opening status text count files size before after old_faults new_faults lines history faults told run =
-    verdict_carried status text lines history (IsOpenCause count files size before after old_faults new_faults lines history faults) told (refl, refl, run)
+pub verdict_opening : {S F H T : Type 0} (status : ℕ) (text : Bytes) (count : Counts S F H T) (files : Telling) (size moment : ℕ) (before after : Look) (old_faults new_faults : ℕ) (lines : List ScriptLine) (history : List Entry) (faults : List (Fault S F H T))
+    → IsTold status text (Some (Carried lines history)) → IsOpenedRun count files size moment lines before after history faults → IsVerdict status text (IsOpenCause count files size moment before after old_faults new_faults lines history faults)
+verdict_opening status text count files size moment before after old_faults new_faults lines history faults told run =
+    verdict_carried status text lines history (IsOpenCause count files size moment before after old_faults new_faults lines history faults) told (refl, refl, run)
 
 told_end : (status : ℕ) (text : Bytes) (Cause : RunEnd → Type 0) (end : RunEnd) → IsTold status text (Some end) → Cause end → IsVerdict status text Cause
 told_end status text Cause end (inl wanting) cause = inl wanting
@@ -110,13 +130,13 @@ has_fetch count faults old_faults new_faults fetch are (inl cause) = inl cause
 has_fetch count faults old_faults new_faults None are (inr failed) = absurd failed
 has_fetch count faults old_faults new_faults (Some fetch) are (inr failed) = inr (subst (λ fs. HasFetch count.fetch fs) (sym are) (record { fetch = fetch; listed_so = inl refl; failed = failed }))
 
-pub verdict_refused : {S F H T : Type 0} (status : ℕ) (text : Bytes) (count : Counts S F H T) (files : Telling) (size : ℕ) (before after : Look) (old_faults new_faults : ℕ) (lines : List ScriptLine) (history : List Entry) (faults : List (Fault S F H T))
-    (refusal : OpenRefusal F) → IsTold status text (end_of_refusal refusal) → IsOpenRefused count.fetch before after old_faults new_faults refusal → history ≡ [] → faults ≡ listed (fetch_of refusal) → IsVerdict status text (IsOpenCause count files size before after old_faults new_faults lines history faults)
-verdict_refused status text count files size before after old_faults new_faults lines history faults refusals.Memory told refused empty are = told_none status text (IsOpenCause count files size before after old_faults new_faults lines history faults) told
-verdict_refused status text count files size before after old_faults new_faults lines history faults (refusals.DepotFault fetch) told refused empty are =
-    told_end status text (IsOpenCause count files size before after old_faults new_faults lines history faults) OpenFault told (empty, record { fetch = fetch; refused = refused; shown = has_fetch count faults old_faults new_faults fetch are refused.0 })
-verdict_refused status text count files size before after old_faults new_faults lines history faults (refusals.Damaged name why) told refused empty are = told_end status text (IsOpenCause count files size before after old_faults new_faults lines history faults) (Damaged name) told (empty, (why, refused))
-verdict_refused status text count files size before after old_faults new_faults lines history faults (refusals.TermsSpent term) told refused empty are = told_end status text (IsOpenCause count files size before after old_faults new_faults lines history faults) NoTerm told (empty, (term, refused))
+pub verdict_refused : {S F H T : Type 0} (status : ℕ) (text : Bytes) (count : Counts S F H T) (files : Telling) (size moment : ℕ) (before after : Look) (old_faults new_faults : ℕ) (lines : List ScriptLine) (history : List Entry) (faults : List (Fault S F H T))
+    (refusal : OpenRefusal F) → IsTold status text (end_of_refusal refusal) → IsOpenRefused count.fetch before after old_faults new_faults refusal → history ≡ [] → faults ≡ listed (fetch_of refusal) → IsVerdict status text (IsOpenCause count files size moment before after old_faults new_faults lines history faults)
+verdict_refused status text count files size moment before after old_faults new_faults lines history faults refusals.Memory told refused empty are = told_none status text (IsOpenCause count files size moment before after old_faults new_faults lines history faults) told
+verdict_refused status text count files size moment before after old_faults new_faults lines history faults (refusals.DepotFault fetch) told refused empty are =
+    told_end status text (IsOpenCause count files size moment before after old_faults new_faults lines history faults) OpenFault told (empty, record { fetch = fetch; refused = refused; shown = has_fetch count faults old_faults new_faults fetch are refused.0 })
+verdict_refused status text count files size moment before after old_faults new_faults lines history faults (refusals.Damaged name why) told refused empty are = told_end status text (IsOpenCause count files size moment before after old_faults new_faults lines history faults) (Damaged name) told (empty, (why, refused))
+verdict_refused status text count files size moment before after old_faults new_faults lines history faults (refusals.TermsSpent term) told refused empty are = told_end status text (IsOpenCause count files size moment before after old_faults new_faults lines history faults) NoTerm told (empty, (term, refused))
 
 pub verdict_stopped : {S F H T : Type 0} (status : ℕ) (text : Bytes) (count : Counts S F H T) (given : Given) (files : Telling) (reader : ℕ) (before after : Look) (old_faults new_faults : ℕ) (history : List Entry) (faults : List (Fault S F H T)) (end : Option RunEnd)
     → IsTold status text end → StoppedBy (wanted_of (job_of given.words)) given.script given.faults reader end → IsUntouched files before after history faults → IsVerdict status text (IsCauseOf count given files reader before after old_faults new_faults history faults)
@@ -132,9 +152,9 @@ verdict_stopped status text count given files reader before after old_faults new
 
 -- from the opening on, with the words and the script
 with_script : {S F H T : Type 0} (count : Counts S F H T) (given : Given) (files : Telling) (reader size : ℕ) (before after : Look) (old_faults new_faults : ℕ) (lines : List ScriptLine) (history : List Entry) (faults : List (Fault S F H T)) (end : RunEnd)
-    → part_size_of (wanted_of (job_of given.words)) ≡ Some size → IsScript given lines → IsOpenCause count files size before after old_faults new_faults lines history faults end → IsCauseOf count given files reader before after old_faults new_faults history faults end
+    → part_size_of (wanted_of (job_of given.words)) ≡ Some size → IsScript given lines → IsOpenCause count files size given.moment before after old_faults new_faults lines history faults end → IsCauseOf count given files reader before after old_faults new_faults history faults end
 with_script count given files reader size before after old_faults new_faults lines history faults (Carried script entries) size_is is cause =
-    (cause.1, subst (IsScript given) (sym cause.0) is, record { size = size; size_is = size_is; run = cause.2 })
+    (cause.1, (record { size = size; size_is = size_is; lines = lines; script = is; run = cause.2 }, sym cause.0))
 with_script count given files reader size before after old_faults new_faults lines history faults OpenFault size_is is cause = ((lines, is), cause)
 with_script count given files reader size before after old_faults new_faults lines history faults (Damaged name) size_is is cause = ((lines, is), cause)
 with_script count given files reader size before after old_faults new_faults lines history faults NoTerm size_is is cause = ((lines, is), cause)
@@ -144,16 +164,16 @@ with_script count given files reader size before after old_faults new_faults lin
 with_script count given files reader size before after old_faults new_faults lines history faults (BadLine number) size_is is cause = absurd cause
 
 pub verdict_opened : {S F H T : Type 0} (status : ℕ) (text : Bytes) (count : Counts S F H T) (given : Given) (files : Telling) (reader size : ℕ) (before after : Look) (old_faults new_faults : ℕ) (lines : List ScriptLine) (history : List Entry) (faults : List (Fault S F H T))
-    → part_size_of (wanted_of (job_of given.words)) ≡ Some size → IsScript given lines → IsVerdict status text (IsOpenCause count files size before after old_faults new_faults lines history faults)
+    → part_size_of (wanted_of (job_of given.words)) ≡ Some size → IsScript given lines → IsVerdict status text (IsOpenCause count files size given.moment before after old_faults new_faults lines history faults)
     → IsVerdict status text (IsCauseOf count given files reader before after old_faults new_faults history faults)
 verdict_opened status text count given files reader size before after old_faults new_faults lines history faults size_is is (inl wanting) = inl wanting
 verdict_opened status text count given files reader size before after old_faults new_faults lines history faults size_is is (inr v) =
     inr (record { end = v.end; status_is = v.status_is; text_is = v.text_is; cause = with_script count given files reader size before after old_faults new_faults lines history faults v.end size_is is v.cause })
 
-pub run_opened : {S F H T : Type 0} (count : Counts S F H T) (given : Given) (files : Telling) (size : ℕ) (before after : Look) (old_faults new_faults : ℕ) (history : List Entry) (faults : List (Fault S F H T))
-    → part_size_of (wanted_of (job_of given.words)) ≡ Some size → IsUnopened count files before after old_faults new_faults history faults ⊎ IsOpenedRun count files size before after history faults → IsRunOf count given files before after old_faults new_faults history faults
-run_opened count given files size before after old_faults new_faults history faults size_is (inl unopened) = inr (inl unopened)
-run_opened count given files size before after old_faults new_faults history faults size_is (inr run) = inr (inr (record { size = size; size_is = size_is; run = run }))
+pub run_opened : {S F H T : Type 0} (count : Counts S F H T) (given : Given) (files : Telling) (size : ℕ) (lines : List ScriptLine) (before after : Look) (old_faults new_faults : ℕ) (history : List Entry) (faults : List (Fault S F H T))
+    → IsScript given lines → part_size_of (wanted_of (job_of given.words)) ≡ Some size → IsUnopened count files before after old_faults new_faults history faults ⊎ IsOpenedRun count files size given.moment lines before after history faults → IsRunOf count given files before after old_faults new_faults history faults
+run_opened count given files size lines before after old_faults new_faults history faults is size_is (inl unopened) = inr (inl unopened)
+run_opened count given files size lines before after old_faults new_faults history faults is size_is (inr run) = inr (inr (record { size = size; size_is = size_is; lines = lines; script = is; run = run }))
 
 -- ---- printed
 

@@ -117,14 +117,14 @@ entry_kept laws f part_size image shelf w log r =
 abbrev world_at : (before mid : Look) (k : Kept) → IsOpening before mid k → World
 world_at before mid k o = world_in (now before) o.cluster o.root
 
-abbrev start_at : (files : Telling) (size : ℕ) (before mid : Look) (k : Kept) → IsOpening before mid k → Start
-start_at files size before mid k o = start_of files size before (world_at before mid k o)
+abbrev start_at : (files : Telling) (size : ℕ) (quiet : Bool) (before mid : Look) (k : Kept) → IsOpening before mid k → Start
+start_at files size quiet before mid k o = start_of files size quiet before (world_at before mid k o)
 
-ran : (files : Telling) (size : ℕ) (before mid after : Look) (k : Kept) (history : List Entry) (o : IsOpening before mid k)
-    → LegalRun (start_at files size before mid k o) mid.clock after history → IsPast (start_at files size before mid k o) mid.clock mid.since after history
+ran : (files : Telling) (size : ℕ) (quiet : Bool) (before mid after : Look) (k : Kept) (history : List Entry) (o : IsOpening before mid k)
+    → LegalRun (start_at files size quiet before mid k o) mid.clock after history → IsPast (start_at files size quiet before mid k o) mid.clock mid.since after history
     → (shelf : List Shelved) (h : Holds (formats_by files) before shelf) → TellsAll (formats_by files) (world_at before mid k o) (log_of after mid.clock history)
     → Ran (formats_by files) size (image_of h.image) shelf (world_at before mid k o) (log_of after mid.clock history)
-ran files size before mid after k history o run past shelf h t =
+ran files size quiet before mid after k history o run past shelf h t =
     record {
       known = t.known;
       kept = h.kept;
@@ -135,10 +135,10 @@ ran files size before mid after k history o run past shelf h t =
       honest = t.honest;
     }
 
-pub every_image_kept : (laws : Laws) (files : Telling) (size : ℕ) (before mid after : Look) (k : Kept) (history : List Entry) (o : IsOpening before mid k)
-    → LegalRun (start_at files size before mid k o) mid.clock after history → IsPast (start_at files size before mid k o) mid.clock mid.since after history
+pub every_image_kept : (laws : Laws) (files : Telling) (size : ℕ) (quiet : Bool) (before mid after : Look) (k : Kept) (history : List Entry) (o : IsOpening before mid k)
+    → LegalRun (start_at files size quiet before mid k o) mid.clock after history → IsPast (start_at files size quiet before mid k o) mid.clock mid.since after history
     → EveryImageKept (formats_by files) (world_at before mid k o) (log_of after mid.clock history) before after
-every_image_kept laws files size before mid after k history o run past shelf h t i left =
+every_image_kept laws files size quiet before mid after k history o run past shelf h t i left =
     ⊎_elim
     (λ was. ⊎_elim
     (λ same. subst (λ (x : Held). IsKept f (image_of x) (shelf_after shelf (committed f (safe_in f (image_of x)) w log))) (some_same h.image i (sym h.told ∙ same))
@@ -158,7 +158,7 @@ every_image_kept laws files size before mid after k history o run past shelf h t
     log = log_of after mid.clock history
 
     r : Ran f size (image_of h.image) shelf w log
-    r = ran files size before mid after k history o run past shelf h t
+    r = ran files size quiet before mid after k history o run past shelf h t
 
 -- ---- settles that were answered
 
@@ -171,17 +171,17 @@ log_on : (at : ℕ → Option Image) (t : ℕ) (front : List Entry) (e : Entry) 
 log_on at t [] e back = refl
 log_on at t (x ∷ front) e back = ap (λ (l : List Moment). record { entry = x; image = at (tick t x) } ∷ l) (log_on at (tick t x) front e back)
 
-pub answers_stay : (laws : Laws) (files : Telling) (size : ℕ) (before mid after : Look) (k : Kept) (history : List Entry) (o : IsOpening before mid k)
-    → LegalRun (start_at files size before mid k o) mid.clock after history → IsPast (start_at files size before mid k o) mid.clock mid.since after history
-    → AnsweredStay (start_at files size before mid k o) mid.clock history before after
-answers_stay laws files size before mid after k history o run past shelf h t front back e n split settles i left =
+pub answers_stay : (laws : Laws) (files : Telling) (size : ℕ) (quiet : Bool) (before mid after : Look) (k : Kept) (history : List Entry) (o : IsOpening before mid k)
+    → LegalRun (start_at files size quiet before mid k o) mid.clock after history → IsPast (start_at files size quiet before mid k o) mid.clock mid.since after history
+    → AnsweredStay (start_at files size quiet before mid k o) mid.clock history before after
+answers_stay laws files size quiet before mid after k history o run past shelf h t front back e n split settles i left =
     laws.stays f size (image_of h.image) shelf w first rest m settles.ticket n (image_of i) r.known r.kept r.opened
     (subst (IsLegal f size w) log_is r.legal) (subst AreTold log_is r.told) (subst (AreHonest f w) log_is r.honest)
     settles.step settles.answered settles.there settles.raised
     (subst (λ (x : World). Leaves f size x rest (image_of i)) world_is (subst (λ (c : ℕ). Leaves f size (world_of s (log_of after mid.clock (front ++ e ∷ []))) (log_of after c back) (image_of i)) (ticks_on mid.clock front e) leaves))
   where
     s : Start
-    s = start_at files size before mid k o
+    s = start_at files size quiet before mid k o
 
     f : Formats
     f = formats_by files
@@ -199,7 +199,7 @@ answers_stay laws files size before mid after k history o run past shelf h t fro
     m = record { entry = e; image = image_at after (tick (ticks mid.clock front) e) }
 
     r : Ran f size (image_of h.image) shelf w (log_of after mid.clock history)
-    r = ran files size before mid after k history o run past shelf h t
+    r = ran files size quiet before mid after k history o run past shelf h t
 
     log_is : log_of after mid.clock history ≡ first ++ m ∷ rest
     log_is = ap (log_of after mid.clock) split ∙ log_on (image_at after) mid.clock front e back

@@ -1,4 +1,4 @@
-pub mod Going
+pub mod Making
 pub mod Reading
 pub mod Asking
 pub mod Scripts
@@ -6,3 +6,5 @@ pub mod Worlds
 pub mod Keeping
 pub mod Ending
 pub mod Counting
+pub mod Completing
+pub mod Smoothly

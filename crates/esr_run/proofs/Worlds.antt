@@ -103,11 +103,11 @@ same_tells before after k o = go (now before) refl
     go None e = ap is_some (o.untold e) ∙ sym (ap is_some e)
     go (Some i) e = ap is_some (o.swapped i e) ∙ sym (ap is_some e)
 
-pub start_is : (files : Telling) (size : ℕ) (before after : Look) (k : Kept) (o : IsOpening before after k)
-    → start_of files size after (begun_world (now after) (cluster_of k.cluster) (root_of k.root)) ≡ start_of files size before (world_in (now before) o.cluster o.root)
-start_is files size before after k o =
-    ap (λ (w : World). start_of files size after w) (begun_is before after k o)
-    ∙ ap (λ (b : Bool). let s : Start = record (start_of files size before (world_in (now before) o.cluster o.root)) { tells = b } in s) (same_tells before after k o)
+pub start_is : (files : Telling) (size : ℕ) (quiet : Bool) (before after : Look) (k : Kept) (o : IsOpening before after k)
+    → start_of files size quiet after (begun_world (now after) (cluster_of k.cluster) (root_of k.root)) ≡ start_of files size quiet before (world_in (now before) o.cluster o.root)
+start_is files size quiet before after k o =
+    ap (λ (w : World). start_of files size quiet after w) (begun_is before after k o)
+    ∙ ap (λ (b : Bool). let s : Start = record (start_of files size quiet before (world_in (now before) o.cluster o.root)) { tells = b } in s) (same_tells before after k o)
 
 -- ---- the image of the world that was opened
 
@@ -137,9 +137,9 @@ image_now files before after k o i is = go (now before) refl
 tells_so : (l : Look) → TellsSo l (is_some (now l))
 tells_so l = record { untold = λ e. ap is_some e; told = λ i e. ap is_some e }
 
-pub begins : (files : Telling) (size : ℕ) (before after : Look) (k : Kept) → IsOpening before after k → ((i : Held) → after.since after.clock i → now after ≡ Some i)
-    → IsBegun (start_of files size after (begun_world (now after) (cluster_of k.cluster) (root_of k.root))) after.clock after.since after k
-begins files size before after k o only =
+pub begins : (files : Telling) (size : ℕ) (quiet : Bool) (before after : Look) (k : Kept) → IsOpening before after k → ((i : Held) → after.since after.clock i → now after ≡ Some i)
+    → IsBegun (start_of files size quiet after (begun_world (now after) (cluster_of k.cluster) (root_of k.root))) after.clock after.since after k
+begins files size quiet before after k o only =
     let w : World = world_in (now before) o.cluster o.root in
     let is : begun_world (now after) (cluster_of k.cluster) (root_of k.root) ≡ w = begun_is before after k o in
     record {

@@ -1,9 +1,9 @@
 -- Why a run ended as it did.
-use Rattle.std.specs.Prelude.{◌≡◌, ◌⊎◌, ℕ, ◌≤◌, true, List, [], Option, Some, None, Ok, Err}
+use Rattle.std.specs.Prelude.{◌≡◌, ◌⊎◌, ℕ, ◌^◌, ◌≤◌, Bool, true, List, [], ◌++◌, Option, Some, None, Ok, Err}
 use Rattle.std.specs.Io.KnownBytes.{Appends}
 use Rattle.esr_model.specs.Values.{Bytes}
 use Rattle.esr_core.specs.World.{World, Opened}
-use Rattle.esr_core.specs.Entry.{Entry}
+use Rattle.esr_core.specs.Entry.{Step, Entry}
 use Rattle.esr_depot.specs.Image.{Image as Held}
 use Rattle.esr_depot.specs.Look.{Look, now}
 use Rattle.esr_depot.specs.Calls.{HasCause, Stays}
@@ -16,14 +16,19 @@ use Rattle.esr_opening.specs.declared.refusal.OpenRefusal.TheVariants as refusal
 use Rattle.esr_opening.specs.declared.refusal.Why.{Why}
 use Rattle.esr_opening.specs.Opening.{image_of, IsInOrder, IsOpenRefused}
 use Rattle.esr_repo.specs.Log.{log_of}
+use Rattle.esr_repo.specs.Calm.{IsCalm}
+use Rattle.esr_quiet.specs.Asked.{asked_steps}
+use Rattle.esr_complete.specs.Lines.{steps_of}
 use Rattle.esr_desk.specs.declared.fault.Fault.{Fault}
 use Rattle.esr_desk.specs.Shown.{Counts, AreShown}
+use Rattle.esr_desk.specs.Once.{AreOnce}
 use Rattle.esr_run.specs.Asked.{Wanted, ReadScript, OneCommand, NoRun, AsksScript, wanted_of, part_size_of, single_script}
 use Rattle.esr_run.specs.Script.{AreBytes, first_bad, bad_line}
 use Rattle.esr_run.specs.Ends.{RunEnd, BadWords, Unreadable, BadScript, BadLine, OpenFault, Damaged, NoTerm, Carried, text_of, exit_of, exit_at, text_at}
 use Rattle.esr_run.specs.Faults.{listed, fetch_of, HasFetch}
 use Rattle.esr_run.specs.Start.{Telling, formats_by, start_of, LegalRun}
 use Rattle.esr_run.specs.Images.{StaysKept, EveryImageKept, AnsweredStay}
+use Rattle.esr_run.specs.Complete.{IsQuietFor, IsLastTerm, Completes}
 
 -- what a run is given
 pub record Given : Type 0 where
@@ -31,6 +36,8 @@ pub record Given : Type 0 where
   -- the bytes of the script, where they are told, and the count of its reader's faults
   pub script : Option Bytes
   pub faults : ℕ
+  -- the moment of the snapshots
+  pub moment : ℕ
 
 -- the script was read, and these are its lines
 pub record AreRead (script : Option Bytes) (lines : List ScriptLine) : Type 0 where
@@ -102,23 +109,34 @@ pub record IsUnopened {S F H T : Type 0} (count : Counts S F H T) (files : Telli
   pub faults_are : faults ≡ listed (fetch_of refusal)
 
 -- It was opened, as this world, and the history is legal from there to what it has now, over its moments from this clock on.
-pub record IsOpenedRun {S F H T : Type 0} (count : Counts S F H T) (files : Telling) (size : ℕ) (before after : Look) (history : List Entry) (faults : List (Fault S F H T)) : Type 0 where
+pub record IsOpenedRun {S F H T : Type 0} (count : Counts S F H T) (files : Telling) (size moment : ℕ) (lines : List ScriptLine) (before after : Look) (history : List Entry) (faults : List (Fault S F H T)) : Type 0 where
   pub world : World
   pub clock : ℕ
+  -- whether it is taken for quiet, as it is where it was sure to serve 2^62 calls
+  pub quiet : Bool
+  pub quiet_is : 2 ^ 62 ≤ before.sure → quiet ≡ true
   pub later : before.clock ≤ clock
   pub opened : (i : Held) → now before ≡ Some i → Opened (formats_by files) (image_of i) world
   pub order : IsInOrder world
-  pub legal : LegalRun (start_of files size before world) clock after history
+  pub legal : LegalRun (start_of files size quiet before world) clock after history
   pub every_image : EveryImageKept (formats_by files) world (log_of after clock history) before after
-  pub answered : AnsweredStay (start_of files size before world) clock history before after
+  pub answered : AnsweredStay (start_of files size quiet before world) clock history before after
   -- each failure of a unit that the history tells has its cause, and the objects that failed are listed
-  pub shown : AreShown count (start_of files size before world) (log_of after clock history) faults
+  pub shown : AreShown count (start_of files size quiet before world) (log_of after clock history) faults
+  -- no blob is committed twice, but for the metadata of a finalization
+  pub once : AreOnce (start_of files size quiet before world) (log_of after clock history)
+  -- a quiet container failed in none of the first 2^41 entries
+  pub calm : IsCalm quiet after.sure history
+  -- what was asked is what the lines ask for, in order, as far as they were carried out
+  pub asked : (rest : List Step) × (asked_steps (log_of after clock history) ++ rest ≡ steps_of moment lines)
 
 -- with parts of the size for which the words ask
 pub record IsCarried {S F H T : Type 0} (count : Counts S F H T) (given : Given) (files : Telling) (before after : Look) (history : List Entry) (faults : List (Fault S F H T)) : Type 0 where
   pub size : ℕ
   pub size_is : part_size_of (wanted_of (job_of given.words)) ≡ Some size
-  pub run : IsOpenedRun count files size before after history faults
+  pub lines : List ScriptLine
+  pub script : IsScript given lines
+  pub run : IsOpenedRun count files size given.moment lines before after history faults
 
 -- The container wasn't touched, or it wasn't opened, and there is no history; or it was opened, and the history is legal from
 -- there on.
@@ -151,7 +169,7 @@ abbrev pub EndedUnopened : {S F H T : Type 0} → Counts S F H T → Look → Lo
 EndedUnopened count before after old_faults new_faults history faults end = (history ≡ []) × IsRefused count before after old_faults new_faults faults end
 
 abbrev pub IsCauseOf : {S F H T : Type 0} → Counts S F H T → Given → Telling → ℕ → Look → Look → ℕ → ℕ → List Entry → List (Fault S F H T) → RunEnd → Type 0
-IsCauseOf count given files reader before after old_faults new_faults history faults (Carried script entries) = (entries ≡ history) × IsScript given script × IsCarried count given files before after history faults
+IsCauseOf count given files reader before after old_faults new_faults history faults (Carried script entries) = (entries ≡ history) × ((c : IsCarried count given files before after history faults) × (c.lines ≡ script))
 IsCauseOf count given files reader before after old_faults new_faults history faults OpenFault = AsksLines given × EndedUnopened count before after old_faults new_faults history faults OpenFault
 IsCauseOf count given files reader before after old_faults new_faults history faults (Damaged name) = AsksLines given × EndedUnopened count before after old_faults new_faults history faults (Damaged name)
 IsCauseOf count given files reader before after old_faults new_faults history faults NoTerm = AsksLines given × EndedUnopened count before after old_faults new_faults history faults NoTerm
@@ -191,15 +209,15 @@ abbrev pub IsPrinted : ℕ → ℕ → Bytes → Option Bytes → Option Bytes �
 IsPrinted status wanted text old new old_faults new_faults = ((status ≡ 5) × HasCause old_faults new_faults true) ⊎ ((status ≡ wanted) × Appends old new text)
 
 -- the same as why a run ended so, from the opening of the container on
-abbrev pub IsOpenCause : {S F H T : Type 0} → Counts S F H T → Telling → ℕ → Look → Look → ℕ → ℕ → List ScriptLine → List Entry → List (Fault S F H T) → RunEnd → Type 0
-IsOpenCause count files size before after old_faults new_faults lines history faults (Carried script entries) = (script ≡ lines) × (entries ≡ history) × IsOpenedRun count files size before after history faults
-IsOpenCause count files size before after old_faults new_faults lines history faults OpenFault = EndedUnopened count before after old_faults new_faults history faults OpenFault
-IsOpenCause count files size before after old_faults new_faults lines history faults (Damaged name) = EndedUnopened count before after old_faults new_faults history faults (Damaged name)
-IsOpenCause count files size before after old_faults new_faults lines history faults NoTerm = EndedUnopened count before after old_faults new_faults history faults NoTerm
-IsOpenCause count files size before after old_faults new_faults lines history faults BadWords = ⊥
-IsOpenCause count files size before after old_faults new_faults lines history faults Unreadable = ⊥
-IsOpenCause count files size before after old_faults new_faults lines history faults BadScript = ⊥
-IsOpenCause count files size before after old_faults new_faults lines history faults (BadLine number) = ⊥
+abbrev pub IsOpenCause : {S F H T : Type 0} → Counts S F H T → Telling → ℕ → ℕ → Look → Look → ℕ → ℕ → List ScriptLine → List Entry → List (Fault S F H T) → RunEnd → Type 0
+IsOpenCause count files size moment before after old_faults new_faults lines history faults (Carried script entries) = (script ≡ lines) × (entries ≡ history) × IsOpenedRun count files size moment lines before after history faults
+IsOpenCause count files size moment before after old_faults new_faults lines history faults OpenFault = EndedUnopened count before after old_faults new_faults history faults OpenFault
+IsOpenCause count files size moment before after old_faults new_faults lines history faults (Damaged name) = EndedUnopened count before after old_faults new_faults history faults (Damaged name)
+IsOpenCause count files size moment before after old_faults new_faults lines history faults NoTerm = EndedUnopened count before after old_faults new_faults history faults NoTerm
+IsOpenCause count files size moment before after old_faults new_faults lines history faults BadWords = ⊥
+IsOpenCause count files size moment before after old_faults new_faults lines history faults Unreadable = ⊥
+IsOpenCause count files size moment before after old_faults new_faults lines history faults BadScript = ⊥
+IsOpenCause count files size moment before after old_faults new_faults lines history faults (BadLine number) = ⊥
 
 -- how a run ends whose container wasn't opened; None: memory was wanting
 abbrev pub end_of_refusal : {F : Type 0} → OpenRefusal F → Option RunEnd
@@ -207,3 +225,29 @@ end_of_refusal refusals.Memory = None
 end_of_refusal (refusals.DepotFault fetch) = Some OpenFault
 end_of_refusal (refusals.Damaged name why) = Some (Damaged name)
 end_of_refusal (refusals.TermsSpent term) = Some NoTerm
+
+-- ---- completeness
+
+-- from the opening on: over quiet objects memory was wanting, or the last term had come, or the container was opened and each
+-- line was answered well, unless a number was spent
+abbrev pub OpensWell : {S F H T : Type 0} → Counts S F H T → Telling → ℕ → ℕ → List ScriptLine → Look → Look → List Entry → List (Fault S F H T) → ℕ → Type 0
+OpensWell count files size moment lines before after history faults status =
+    IsQuietFor files before lines
+    → (status ≡ 8) ⊎ (IsLastTerm before ⊎ ((r : IsOpenedRun count files size moment lines before after history faults) × Completes files lines r.world r.clock after history status))
+
+-- The words ask for these lines, each of which can be carried out, over quiet objects; and no call of the script or of the
+-- output failed.
+pub record IsSmoothFor (given : Given) (files : Telling) (before : Look) (reader old_out new_out : ℕ) (lines : List ScriptLine) : Type 0 where
+  pub script : IsScript given lines
+  pub bytes : Bytes
+  pub told : given.script ≡ Some bytes
+  pub quiet : IsQuietFor files before lines
+  pub read : HasCause given.faults reader true → ⊥
+  pub printed : HasCause old_out new_out true → ⊥
+
+-- Completeness of a whole run: then memory was wanting, with status 8, or the last term had come, or each line was answered well,
+-- and the status is 0, or 1 since a command was refused by a rule, unless a number was spent.
+abbrev pub IsComplete : {S F H T : Type 0} → Counts S F H T → Given → Telling → ℕ → Look → Look → ℕ → ℕ → List Entry → List (Fault S F H T) → ℕ → Type 0
+IsComplete count given files reader before after old_out new_out history faults status =
+    (lines : List ScriptLine) → IsSmoothFor given files before reader old_out new_out lines
+    → (status ≡ 8) ⊎ (IsLastTerm before ⊎ ((c : IsCarried count given files before after history faults) × Completes files c.lines c.run.world c.run.clock after history status))

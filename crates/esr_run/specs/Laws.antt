@@ -1,16 +1,27 @@
 -- The laws of the core on which a run rests.
-use Rattle.std.specs.Prelude.{◌≡◌, ℕ, suc, ◌≤◌, List, ◌∷◌, ◌++◌, Some}
+use Rattle.std.specs.Prelude.{◌≡◌, ◌≢◌, ℕ, suc, ◌≤◌, List, [], ◌∷◌, ◌++◌, Some}
 use Rattle.std.specs.FinMap as fin
 use Rattle.esr_model.specs.Values.{Formats, ReadsBack}
 use Rattle.esr_model.specs.Image.{Image}
 use Rattle.esr_model.specs.Kept.{Kept}
 use Rattle.esr_model.specs.Shelf.{Shelved, shelf_after}
 use Rattle.esr_core.specs.World.{World, Ticket, image_of, record_of, Opened}
-use Rattle.esr_core.specs.Entry.{Moment, SettleStep, WasSettled}
+use Rattle.esr_core.specs.Entry.{Given, Gave, Moment, SettleStep, WasSettled}
 use Rattle.esr_core.specs.After.{after}
 use Rattle.esr_core.specs.History.{world_from, IsLegal, AllKnown, AreTold, AreHonest, committed}
 use Rattle.esr_core.specs.Ids.{Law}
 use Rattle.esr_core.specs.Left.{Leaves, safe_in}
+use Rattle.esr_desk.specs.Start.{Start, Legal, no_ticket, ticket_of}
+use Rattle.esr_desk.specs.declared.fault.Fault.{Fault}
+use Rattle.esr_desk.specs.Shown.{Counts, AreShown}
+use Rattle.esr_script.specs.declared.item.ScriptLine.{ScriptLine}
+use Rattle.esr_report.specs.Replies.{replies}
+use Rattle.esr_quiet.specs.Numbers.{HasNoTickets}
+use Rattle.esr_quiet.specs.Asked.{asked_steps}
+use Rattle.esr_quiet.specs.Smooth.{IsSmooth, NoneFailed}
+use Rattle.esr_quiet.specs.Refusals.{AreByRule}
+use Rattle.esr_complete.specs.Lines.{steps_of, AreKnown, entries_of}
+use Rattle.esr_complete.specs.Answers.{IsIdle, AreAnswered, EndsWell}
 
 pub record Laws : Type 0 where
   pub opened : (f : Formats) (image : Image) (shelf : List Shelved) (w : World) → Kept f image shelf → Opened f image w → Law f w shelf
@@ -21,3 +32,17 @@ pub record Laws : Type 0 where
   pub stays : (f : Formats) (part_size : ℕ) (image : Image) (shelf : List Shelved) (w : World) (before rest : List Moment) (m : Moment) (t : Ticket) (n : ℕ) (i : Image) → AllKnown f → Kept f image shelf → Opened f image w
       → IsLegal f part_size w (before ++ m ∷ rest) → AreTold (before ++ m ∷ rest) → AreHonest f w (before ++ m ∷ rest) → m.entry.step ≡ SettleStep → m.entry.reply ≡ WasSettled
       → fin.get (world_from f w before).tickets m.entry.who ≡ Some t → t.raised ≡ Some n → Leaves f part_size (after f (world_from f w before) m) rest i → suc n ≤ safe_in f i
+
+-- what steps leave of tickets
+pub record StepsStay : Type 0 where
+  pub nothing : (s : Start) (log : List Moment) (m : Moment) (k : ℕ) → Legal s (log ++ m ∷ []) → m.entry.who ≡ 0 → ((ticket op : ℕ) (unit : Given) → m.entry.reply ≢ Gave ticket op unit) → k ≢ 0 → ticket_of s (log ++ m ∷ []) k ≡ ticket_of s log k
+  pub none : (s : Start) (log : List Moment) → HasNoTickets s → ticket_of s log 0 ≡ no_ticket
+
+-- the laws of histories in which nothing fails
+pub record QuietLaws (S F H T : Type 0) : Type 0 where
+  pub fails : (c : Counts S F H T) (s : Start) (log : List Moment) (faults : List (Fault S F H T)) → IsSmooth s log → AreShown c s log faults → NoneFailed log
+  pub rules : (s : Start) (log : List Moment) → IsSmooth s log → NoneFailed log → AreByRule log
+  pub answered : (s : Start) (log : List Moment) (lines : List ScriptLine) (moment : ℕ) → IsSmooth s log → NoneFailed log → AreByRule log → IsIdle s log → AreKnown lines → asked_steps log ≡ steps_of moment lines
+      → AreAnswered lines (replies lines (entries_of log))
+  pub ends : (s : Start) (log : List Moment) (lines : List ScriptLine) (moment : ℕ) → IsSmooth s log → NoneFailed log → AreByRule log → IsIdle s log → AreKnown lines → asked_steps log ≡ steps_of moment lines
+      → EndsWell lines (entries_of log)

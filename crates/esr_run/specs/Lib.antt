@@ -4,7 +4,8 @@ pub mod Ends
 pub mod Faults
 pub mod Start
 pub mod Images
+pub mod Made
+pub mod Complete
 pub mod Laws
 pub mod Causes
 pub mod Stops
-pub mod Commands

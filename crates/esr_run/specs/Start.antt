@@ -1,5 +1,5 @@
 -- The history of a run, from what was told at its start to what the container has at its end.
-use Rattle.std.specs.Prelude.{◌≡◌, ℕ, Bool, List, [], Option, Some, is_some, unwrap_or}
+use Rattle.std.specs.Prelude.{◌≡◌, ℕ, Bool, true, false, ◌&&◌, not, nat_lt, ◌^◌, List, [], Option, Some, is_some, unwrap_or}
 use Rattle.esr_model.specs.Values.{Bytes, Formats}
 use Rattle.esr_core.specs.World.{World}
 use Rattle.esr_core.specs.World as core
@@ -10,30 +10,44 @@ use Rattle.esr_formats.specs.Formats.{formats}
 use Rattle.esr_desk.specs.Start.{Start, formats_of, world_of, Legal}
 use Rattle.esr_repo.specs.Log.{image_of, ticks, log_of}
 
--- what sources tell of the files of a place, an index name and a number
-abbrev pub Telling : Type 0
-Telling = Bytes → Bytes → ℕ → Option (List (Bytes × Bytes))
+-- What sources tell: of the files of a place, an index name and a number, whether that place exists, and that no shard whose
+-- place exists ever fails.
+pub record Telling : Type 0 where
+  pub files : Bytes → Bytes → ℕ → Option (List (Bytes × Bytes))
+  pub is_there : Bytes → Bytes → ℕ → Option Bool
+  pub is_quiet : Bool
 
 -- whether they tell them, and which they are
 abbrev pub known_by : Telling → Bytes → Bytes → ℕ → Bool
-known_by files = λ place name number. is_some (files place name number)
+known_by telling = λ place name number. is_some (telling.files place name number)
 
 abbrev pub told_by : Telling → Bytes → Bytes → ℕ → List (Bytes × Bytes)
-told_by files = λ place name number. unwrap_or (files place name number) []
+told_by telling = λ place name number. unwrap_or (telling.files place name number) []
 
 -- the texts, with these files
 abbrev pub formats_by : Telling → Formats
-formats_by files = formats (known_by files) (told_by files)
+formats_by telling = formats (known_by telling) (told_by telling)
 
--- What is told at the start of a run: by the sources, by the words, and by the container as it is given; with the world that
--- opening makes of it.
-abbrev pub start_of : Telling → ℕ → Look → World → Start
-start_of files size l world =
+-- no shard of that place fails
+abbrev pub steady_by : Telling → Bytes → Bytes → ℕ → Bool
+steady_by telling = λ place name number. telling.is_quiet && unwrap_or (telling.is_there place name number) false
+
+-- a container that is sure to serve so many calls serves all that a run asks of it
+abbrev pub is_calm_by : ℕ → Bool
+is_calm_by sure = not (nat_lt sure (2 ^ 41))
+
+-- What is told at the start of a run: by the sources, by the words, and by the container as it is given, which is quiet or not;
+-- with the world that opening makes of it.
+abbrev pub start_of : Telling → ℕ → Bool → Look → World → Start
+start_of telling size quiet l world =
     record {
-      known = known_by files;
-      told = told_by files;
+      known = known_by telling;
+      told = told_by telling;
       part_size = size;
       tells = is_some (now l);
+      quiet = quiet;
+      steady = steady_by telling;
+      alone = true;
       world = world;
     }
 

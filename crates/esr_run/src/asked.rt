@@ -1,5 +1,5 @@
 //! What a run is asked for.
-ghost use Rattle.std.specs.Prelude.{◌≡◌, ◌≤◌, ◌^◌, true, Some, Ok, IfOk, IfErr};
+ghost use Rattle.std.specs.Prelude.{◌≡◌, ◌≤◌, ◌^◌, ℕ, true, Some, Ok, IfOk, IfErr};
 ghost use Rattle.esr_script.specs.Jobs.{job_of, IsOptions};
 ghost use Rattle.esr_run.specs.Asked.{ReadScript, wanted_of, part_size_of, single_script};
 ghost use Rattle.esr_run.specs.Causes.{Given, IsScript, IsScriptFor, IsReadFor};
@@ -94,7 +94,7 @@ pub(crate) fn asked_for<I: Lines>(
 ) -> Result<Asked, Stop>
     ensures size { IfOk result (λ a. part_size_of (wanted_of (job_of words.now)) ≡ Some a.part_size) }
     ensures bound { IfOk result (λ a. (1 ≤ a.part_size) × (a.part_size ≤ 2 ^ 30)) }
-    ensures script { IfOk result (λ a. IsScript (record { words = words.now; script = I.left script.old; faults = I.faults script.old }) a.script) }
+    ensures script { IfOk result (λ a. (moment : ℕ) → IsScript (record { words = words.now; script = I.left script.old; faults = I.faults script.old; moment = moment }) a.script) }
     ensures reader { IsReadFor (wanted_of (job_of words.now)) (I.left script.old) (I.left script.new) (I.faults script.old) (I.faults script.new) }
     ensures err { IfErr result (λ e. StoppedBy (wanted_of (job_of words.now)) (I.left script.old) (I.faults script.old) (I.faults script.new) (end_of e)) }
 {

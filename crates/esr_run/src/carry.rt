@@ -1,10 +1,17 @@
 //! The lines of a script are carried out, in order.
-ghost use Rattle.std.specs.Prelude.{◌≡◌, ◌≤◌, ◌^◌, true, None};
-ghost use Rattle.esr_desk.specs.Sources.{TellsFiles};
-ghost use Rattle.esr_desk.specs.Grew.{Grew};
+ghost use Rattle.std.specs.Prelude.{◌≡◌, ◌⊎◌, ◌≤◌, ◌^◌, ◌∷◌, [], true, None, OnOk};
+ghost use Rattle.esr_core.specs.Entry.{AskStep, LookStep};
+ghost use Rattle.esr_desk.specs.Sources.{AreSources};
+ghost use Rattle.esr_desk.specs.Grew.{NoneOut};
+ghost use Rattle.esr_quiet.specs.Asked.{GrewAsking};
+ghost use Rattle.esr_quiet.specs.Numbers.{HasNoTickets};
+ghost use Rattle.esr_complete.specs.Answers.{IsIdle};
+ghost use Rattle.esr_complete.specs.Lines.{command_of_line, steps_of_item, steps_of};
+ghost use Rattle.esr_run.specs.Made.{MadeFirst, HasStopped, LineMade, LineRests, AreMade, AreDone};
 ghost use Rattle.esr_run.specs.Script.{is_askable, is_carried, first_bad};
 
 use crate::command::command_of;
+use crate::law::steps_stay;
 use esr_desk::{Desk, StepRefusal};
 use esr_drive::work;
 use esr_names::SnapName;
@@ -20,20 +27,50 @@ fn ask<Q: Desk>(
     indices: &[AskedIndex],
     moment: u64,
 ) -> Result<(), StepRefusal>
-    requires { is_askable indices.now ≡ true }
-    ensures { Grew Q.start (Q.seen desk.old) (Q.seen desk.new) }
+    requires askable { is_askable indices.now ≡ true }
+    requires numbered { HasNoTickets Q.start }
+    ensures made { LineMade Q.start (AskStep (command_of_line name.now indices.now moment) ∷ []) (Q.seen desk.old) (Q.seen desk.new) result }
+    ensures rests { Q.start.alone ≡ true → NoneOut Q.start (Q.seen desk.old) → LineRests Q.start (Q.seen desk.new) result }
 {
-    let command = command_of(alloc, name, indices, moment)?;
-    desk.ask(alloc, &command)?;
-    Ok(())
+    steps_stay();
+    let Ok(command) = command_of(alloc, name, indices, moment) else {
+        return Err(StepRefusal::Memory);
+    };
+    match desk.ask(alloc, &command) {
+        Ok(_) => Ok(()),
+        Err(refusal) => Err(refusal),
+    }
 }
 
 /// Asks for the snapshots of the safe root.
 fn list<Q: Desk>(alloc: Global, desk: &mut Q) -> Result<(), StepRefusal>
-    ensures { Grew Q.start (Q.seen desk.old) (Q.seen desk.new) }
+    requires numbered { HasNoTickets Q.start }
+    ensures made { LineMade Q.start (LookStep ∷ []) (Q.seen desk.old) (Q.seen desk.new) result }
+    ensures rests { Q.start.alone ≡ true → NoneOut Q.start (Q.seen desk.old) → LineRests Q.start (Q.seen desk.new) result }
 {
-    desk.look(alloc)?;
-    Ok(())
+    steps_stay();
+    match desk.look(alloc) {
+        Ok(_) => Ok(()),
+        Err(refusal) => Err(refusal),
+    }
+}
+
+/// Works all units that are ready.
+fn wait<Q: Desk<Shard = S::Shard>, S: Sources, G: Gate>(
+    alloc: Global,
+    desk: &mut Q,
+    sources: &S,
+    gate: &G,
+    part_size: u64,
+) -> Result<(), StepRefusal>
+    requires sources { AreSources Q.start (S.files sources.now) (S.is_there sources.now) (S.is_quiet sources.now) }
+    requires size { part_size ≡ Q.start.part_size }
+    requires sized { (1 ≤ part_size) × (part_size ≤ 2 ^ 30) }
+    requires numbered { HasNoTickets Q.start }
+    ensures made { LineMade Q.start [] (Q.seen desk.old) (Q.seen desk.new) result }
+    ensures rests { Q.start.alone ≡ true → NoneOut Q.start (Q.seen desk.old) → LineRests Q.start (Q.seen desk.new) result }
+{
+    work(alloc, desk, sources, gate, part_size)
 }
 
 fn carry_line<Q: Desk<Shard = S::Shard>, S: Sources, G: Gate>(
@@ -46,14 +83,16 @@ fn carry_line<Q: Desk<Shard = S::Shard>, S: Sources, G: Gate>(
     moment: u64,
 ) -> Result<(), StepRefusal>
     requires carried { is_carried item.now ≡ true }
-    requires sources { TellsFiles Q.start (S.files sources.now) (S.is_there sources.now) }
+    requires sources { AreSources Q.start (S.files sources.now) (S.is_there sources.now) (S.is_quiet sources.now) }
     requires size { part_size ≡ Q.start.part_size }
     requires sized { (1 ≤ part_size) × (part_size ≤ 2 ^ 30) }
-    ensures { Grew Q.start (Q.seen desk.old) (Q.seen desk.new) }
+    requires numbered { HasNoTickets Q.start }
+    ensures made { LineMade Q.start (steps_of_item moment item.now) (Q.seen desk.old) (Q.seen desk.new) result }
+    ensures rests { Q.start.alone ≡ true → NoneOut Q.start (Q.seen desk.old) → LineRests Q.start (Q.seen desk.new) result }
 {
     match item {
         Item::Snapshot { name, indices } => ask(alloc, desk, name, indices.as_slice(), moment),
-        Item::Wait => work(alloc, desk, sources, gate, part_size),
+        Item::Wait => wait(alloc, desk, sources, gate, part_size),
         Item::List => list(alloc, desk),
         _ => Ok(()),
     }
@@ -71,21 +110,47 @@ fn carry_lines<Q: Desk<Shard = S::Shard>, S: Sources, G: Gate>(
     moment: u64,
 ) -> Result<(), AllocError>
     requires carried { first_bad lines.now ≡ None }
-    requires sources { TellsFiles Q.start (S.files sources.now) (S.is_there sources.now) }
+    requires sources { AreSources Q.start (S.files sources.now) (S.is_there sources.now) (S.is_quiet sources.now) }
     requires size { part_size ≡ Q.start.part_size }
     requires sized { (1 ≤ part_size) × (part_size ≤ 2 ^ 30) }
-    ensures { Grew Q.start (Q.seen desk.old) (Q.seen desk.new) }
+    requires numbered { HasNoTickets Q.start }
+    ensures made { MadeFirst Q.start (steps_of moment lines.now) (Q.seen desk.old) (Q.seen desk.new) }
+    ensures rests { OnOk result (Q.start.alone ≡ true → NoneOut Q.start (Q.seen desk.old) → AreMade Q.start (steps_of moment lines.now) (Q.seen desk.old) (Q.seen desk.new) ⊎ HasStopped (Q.seen desk.new)) }
 {
     let mut left = lines;
     while let [line, rest @ ..] = left {
         match carry_line(alloc, desk, &line.item, sources, gate, part_size, moment) {
-            Ok(()) | Err(StepRefusal::Refused(_)) => {}
+            Ok(()) => {}
+            Err(StepRefusal::Refused(_)) => {}
             Err(StepRefusal::Memory) => return Err(AllocError),
             Err(StepRefusal::TurnsSpent) => return Ok(()),
         }
         left = rest;
     }
     Ok(())
+}
+
+/// Works all units that are ready after the last line.
+fn work_out<Q: Desk<Shard = S::Shard>, S: Sources, G: Gate>(
+    alloc: Global,
+    desk: &mut Q,
+    sources: &S,
+    gate: &G,
+    part_size: u64,
+) -> Result<(), AllocError>
+    requires sources { AreSources Q.start (S.files sources.now) (S.is_there sources.now) (S.is_quiet sources.now) }
+    requires size { part_size ≡ Q.start.part_size }
+    requires sized { (1 ≤ part_size) × (part_size ≤ 2 ^ 30) }
+    requires numbered { HasNoTickets Q.start }
+    ensures grew { GrewAsking Q.start [] (Q.seen desk.old) (Q.seen desk.new) }
+    ensures done { OnOk result (Q.start.alone ≡ true → NoneOut Q.start (Q.seen desk.old) → IsIdle Q.start (Q.seen desk.new) ⊎ HasStopped (Q.seen desk.new)) }
+{
+    match work(alloc, desk, sources, gate, part_size) {
+        Ok(()) => Ok(()),
+        Err(StepRefusal::Memory) => Err(AllocError),
+        Err(StepRefusal::TurnsSpent) => Ok(()),
+        Err(StepRefusal::Refused(_)) => Ok(()),
+    }
 }
 
 /// Carries out the lines, and works all units that are ready then.
@@ -99,14 +164,15 @@ pub(crate) fn carry<Q: Desk<Shard = S::Shard>, S: Sources, G: Gate>(
     moment: u64,
 ) -> Result<(), AllocError>
     requires carried { first_bad lines.now ≡ None }
-    requires sources { TellsFiles Q.start (S.files sources.now) (S.is_there sources.now) }
+    requires sources { AreSources Q.start (S.files sources.now) (S.is_there sources.now) (S.is_quiet sources.now) }
     requires size { part_size ≡ Q.start.part_size }
     requires sized { (1 ≤ part_size) × (part_size ≤ 2 ^ 30) }
-    ensures { Grew Q.start (Q.seen desk.old) (Q.seen desk.new) }
+    requires numbered { HasNoTickets Q.start }
+    ensures made { MadeFirst Q.start (steps_of moment lines.now) (Q.seen desk.old) (Q.seen desk.new) }
+    ensures done { OnOk result (Q.start.alone ≡ true → NoneOut Q.start (Q.seen desk.old) → AreDone Q.start (steps_of moment lines.now) (Q.seen desk.old) (Q.seen desk.new) ⊎ HasStopped (Q.seen desk.new)) }
 {
-    carry_lines(alloc, desk, lines, sources, gate, part_size, moment)?;
-    match work(alloc, desk, sources, gate, part_size) {
-        Err(StepRefusal::Memory) => Err(AllocError),
-        _ => Ok(()),
+    match carry_lines(alloc, desk, lines, sources, gate, part_size, moment) {
+        Ok(()) => work_out(alloc, desk, sources, gate, part_size),
+        Err(AllocError) => Err(AllocError),
     }
 }

@@ -1,7 +1,7 @@
 //! The command that a line asks for.
 ghost use Rattle.std.specs.Prelude.{◌≡◌, map, IfOk};
 ghost use Rattle.esr_progress.specs.Asked.{asked_of, asked_index_of};
-ghost use Rattle.esr_run.specs.Commands.{index_of_line, command_of_line};
+ghost use Rattle.esr_complete.specs.Lines.{index_of_line, command_of_line};
 
 use esr_names::SnapName;
 use esr_progress::{AskedIndex, AskedIndices, Command};

@@ -2,7 +2,7 @@
 ghost use Rattle.std.specs.Prelude.{◌≡◌, Some};
 ghost use Rattle.esr_depot.specs.Image.{Image};
 ghost use Rattle.esr_depot.specs.Look.{now};
-ghost use Rattle.esr_run.specs.Laws.{Laws};
+ghost use Rattle.esr_run.specs.Laws.{Laws, StepsStay, QuietLaws};
 
 use esr_depot::Depot;
 
@@ -15,6 +15,23 @@ pub(crate) fn laws()
     esr_core::shelf_is_determined();
     esr_core::each_left_image_is_kept();
     esr_core::answered_settles_stay();
+}
+
+/// What steps leave of tickets.
+pub(crate) fn steps_stay()
+    ensures { StepsStay }
+{
+    esr_quiet::other_tickets_stay();
+    esr_quiet::tickets_are_numbered();
+}
+
+/// The laws of histories in which nothing fails, for the objects of a run.
+pub(crate) fn quiet_laws<S, F, H, T>()
+    ensures { QuietLaws S F H T }
+{
+    esr_quiet::no_unit_fails::<S, F, H, T>();
+    esr_quiet::only_rules_refuse();
+    esr_complete::smooth_runs_are_answered();
 }
 
 /// Since now a crash leaves no image but that of now.

@@ -1,8 +1,12 @@
 //! A whole run.
-ghost use Rattle.std.specs.Prelude.{◌≡◌, ◌⊎◌, ◌<◌, ◌≤◌, ◌^◌, [], Some, None, vec_len, vec_capacity};
-ghost use Rattle.esr_desk.specs.Sources.{TellsFiles};
+ghost use Rattle.std.specs.Prelude.{◌≡◌, ◌⊎◌, ◌<◌, ◌≤◌, ◌^◌, ℕ, true, [], Some, None, OnOk, IsErr, vec_len, vec_capacity};
+ghost use Rattle.esr_desk.specs.Sources.{AreSources};
 ghost use Rattle.esr_repo.specs.Begun.{IsBegun};
+ghost use Rattle.esr_desk.specs.Once.{AreOnce};
 ghost use Rattle.esr_desk.specs.Shown.{AreShown};
+ghost use Rattle.esr_quiet.specs.Numbers.{HasNoTickets};
+ghost use Rattle.esr_complete.specs.Lines.{steps_of};
+ghost use Rattle.esr_repo.specs.Calm.{IsCalm};
 ghost use Rattle.esr_repo.specs.Log.{log_of};
 ghost use Rattle.esr_repo.specs.Counted.{IsCounted};
 ghost use Rattle.esr_repo.specs.Deposed.{AreDeposedSo};
@@ -12,13 +16,14 @@ ghost use Rattle.esr_run.specs.Asked.{wanted_of};
 ghost use Rattle.esr_run.specs.Ends.{Carried};
 ghost use Rattle.esr_run.specs.Script.{first_bad};
 ghost use Rattle.esr_run.specs.Start.{LegalRun};
-ghost use Rattle.esr_run.specs.Causes.{Given, IsReadFor, IsTold, IsVerdict, IsUnopened, IsOpenedRun, IsOpenCause, IsRunOf, IsCauseOf, IsEndOf};
+ghost use Rattle.esr_run.specs.Causes.{Given, IsReadFor, IsTold, IsVerdict, IsUnopened, IsOpenedRun, IsOpenCause, IsRunOf, IsCauseOf, IsEndOf, OpensWell, IsComplete};
+ghost use Rattle.esr_run.specs.Made.{MadeFirst, HasStopped, AreDone};
 
 use crate::asked::{Asked, asked_for};
 use crate::carry::carry;
 use crate::ended::Ended;
 use crate::fault::{faults_of, room_for_one};
-use crate::law::{laws, only_now};
+use crate::law::{laws, only_now, quiet_laws};
 use crate::stop::Stop;
 use crate::unopened::{ended_at, stop_of};
 use crate::verdict::{Verdict, print_verdict, reported, wanting};
@@ -48,7 +53,8 @@ fn verdict_after(
     script: &Script,
     history: &History,
 ) -> Verdict
-    ensures { IsTold result.status result.text (Some (Carried script.now history.now)) }
+    ensures told { IsTold result.status result.text (Some (Carried script.now history.now)) }
+    ensures wanting { IsErr carried → result.status ≡ 8 }
 {
     match carried {
         Ok(()) => reported(alloc, script, history),
@@ -70,11 +76,16 @@ fn carry_on<D: Depot, S: Sources, T: Targets, G: Gate, K: Told>(
     Result<(), AllocError>,
 )
     requires fresh { repo ≡ [] }
-    requires sources { TellsFiles K.start (S.files sources.now) (S.is_there sources.now) }
+    requires sources { AreSources K.start (S.files sources.now) (S.is_there sources.now) (S.is_quiet sources.now) }
     requires size { asked.now.part_size ≡ K.start.part_size }
     requires sized { (1 ≤ asked.now.part_size) × (asked.now.part_size ≤ 2 ^ 30) }
     requires good { first_bad asked.now.script ≡ None }
+    requires numbered { HasNoTickets K.start }
+    requires alone { K.start.alone ≡ true }
     ensures shown { AreShown (record { stage = D.Stage.faults; fetch = D.Fetch.faults; shard = S.Shard.faults; target = T.Target.faults; made_for = λ h. (S.Shard.origin h).address }) K.start result.0 result.1 }
+    ensures once { AreOnce K.start result.0 }
+    ensures made { MadeFirst K.start (steps_of moment asked.now.script) [] result.0 }
+    ensures done { OnOk result.2 (AreDone K.start (steps_of moment asked.now.script) [] result.0 ⊎ HasStopped result.0) }
 {
     let mut desk = Solo::<D, K, S::Shard, T::Target>::new(alloc, repo);
     let lines = asked.script.as_slice();
@@ -103,7 +114,9 @@ fn run_told<D: Depot, S: Sources, T: Targets, G: Gate, K: Told>(
     requires begun { IsBegun K.start K.clock K.past (D.look opening.depot)
         (record { cluster = opening.cluster; root = opening.root; plan = opening.progress; next = opening.next.number }) }
     requires counted { K.faults ≤ D.faults opening.depot }
-    requires sources { TellsFiles K.start (S.files sources.now) (S.is_there sources.now) }
+    requires calm { K.start.quiet ≡ true → 2 ^ 41 ≤ (D.look opening.depot).sure }
+    requires alone { K.start.alone ≡ true }
+    requires sources { AreSources K.start (S.files sources.now) (S.is_there sources.now) (S.is_quiet sources.now) }
     requires size { asked.now.part_size ≡ K.start.part_size }
     requires sized { (1 ≤ asked.now.part_size) × (asked.now.part_size ≤ 2 ^ 30) }
     requires good { first_bad asked.now.script ≡ None }
@@ -113,6 +126,10 @@ fn run_told<D: Depot, S: Sources, T: Targets, G: Gate, K: Told>(
         K.start (log_of (D.look result.0.depot) K.clock result.0.history) result.1 }
     ensures counted { IsCounted K.faults (D.faults result.0.depot) result.0.history }
     ensures named { AreDeposedSo result.0.history }
+    ensures once { AreOnce K.start (log_of (D.look result.0.depot) K.clock result.0.history) }
+    ensures calm { IsCalm K.start.quiet (D.look result.0.depot).sure result.0.history }
+    ensures made { MadeFirst K.start (steps_of moment asked.now.script) [] (log_of (D.look result.0.depot) K.clock result.0.history) }
+    ensures done { (result.0.verdict.status ≡ 8) ⊎ (AreDone K.start (steps_of moment asked.now.script) [] (log_of (D.look result.0.depot) K.clock result.0.history) ⊎ HasStopped (log_of (D.look result.0.depot) K.clock result.0.history)) }
     ensures told { IsTold result.0.verdict.status result.0.verdict.text (Some (Carried asked.now.script result.0.history)) }
 {
     let repo = Repo::<D, K>::from_opening(alloc, opening);
@@ -143,14 +160,16 @@ fn open_and_carry<D: Depot, S: Sources, T: Targets, G: Gate>(
     requires room { vec_len room < vec_capacity room }
     requires sized { (1 ≤ asked.now.part_size) × (asked.now.part_size ≤ 2 ^ 30) }
     requires good { first_bad asked.now.script ≡ None }
-    ensures run { IsUnopened (record { stage = D.Stage.faults; fetch = D.Fetch.faults; shard = S.Shard.faults; target = T.Target.faults; made_for = λ h. (S.Shard.origin h).address }) (S.files sources.now) (D.look depot) (D.look result.0.depot) (D.faults depot) (D.faults result.0.depot) result.0.history result.1
-        ⊎ IsOpenedRun (record { stage = D.Stage.faults; fetch = D.Fetch.faults; shard = S.Shard.faults; target = T.Target.faults; made_for = λ h. (S.Shard.origin h).address }) (S.files sources.now) asked.now.part_size (D.look depot) (D.look result.0.depot) result.0.history result.1 }
+    ensures run { IsUnopened (record { stage = D.Stage.faults; fetch = D.Fetch.faults; shard = S.Shard.faults; target = T.Target.faults; made_for = λ h. (S.Shard.origin h).address }) (record { files = S.files sources.now; is_there = S.is_there sources.now; is_quiet = S.is_quiet sources.now }) (D.look depot) (D.look result.0.depot) (D.faults depot) (D.faults result.0.depot) result.0.history result.1
+        ⊎ IsOpenedRun (record { stage = D.Stage.faults; fetch = D.Fetch.faults; shard = S.Shard.faults; target = T.Target.faults; made_for = λ h. (S.Shard.origin h).address }) (record { files = S.files sources.now; is_there = S.is_there sources.now; is_quiet = S.is_quiet sources.now }) asked.now.part_size moment asked.now.script (D.look depot) (D.look result.0.depot) result.0.history result.1 }
+    ensures complete { OpensWell (record { stage = D.Stage.faults; fetch = D.Fetch.faults; shard = S.Shard.faults; target = T.Target.faults; made_for = λ h. (S.Shard.origin h).address }) (record { files = S.files sources.now; is_there = S.is_there sources.now; is_quiet = S.is_quiet sources.now }) asked.now.part_size moment asked.now.script (D.look depot) (D.look result.0.depot) result.0.history result.1 result.0.verdict.status }
     ensures told { IsVerdict result.0.verdict.status result.0.verdict.text
-        (IsOpenCause (record { stage = D.Stage.faults; fetch = D.Fetch.faults; shard = S.Shard.faults; target = T.Target.faults; made_for = λ h. (S.Shard.origin h).address }) (S.files sources.now) asked.now.part_size (D.look depot) (D.look result.0.depot) (D.faults depot) (D.faults result.0.depot) asked.now.script result.0.history result.1) }
+        (IsOpenCause (record { stage = D.Stage.faults; fetch = D.Fetch.faults; shard = S.Shard.faults; target = T.Target.faults; made_for = λ h. (S.Shard.origin h).address }) (record { files = S.files sources.now; is_there = S.is_there sources.now; is_quiet = S.is_quiet sources.now }) asked.now.part_size moment (D.look depot) (D.look result.0.depot) (D.faults depot) (D.faults result.0.depot) asked.now.script result.0.history result.1) }
     ensures counted { IsCounted (D.faults depot) (D.faults result.0.depot) result.0.history }
     ensures named { AreDeposedSo result.0.history }
 {
     laws();
+    quiet_laws::<D::Stage, D::Fetch, S::Shard, T::Target>();
     match open_container(alloc, depot) {
         Ok(opening) => {
             only_now(&opening.depot);
@@ -173,11 +192,12 @@ fn carry_out<D: Depot, S: Sources, T: Targets, G: Gate, I: Lines>(
     gate: &G,
     moment: u64,
 ) -> (Done<D>, Faults<D::Stage, D::Fetch, S::Shard, T::Target>)
-    ensures run { IsRunOf (record { stage = D.Stage.faults; fetch = D.Fetch.faults; shard = S.Shard.faults; target = T.Target.faults; made_for = λ h. (S.Shard.origin h).address }) (record { words = words.now; script = I.left script.old; faults = I.faults script.old }) (S.files sources.now)
+    ensures run { IsRunOf (record { stage = D.Stage.faults; fetch = D.Fetch.faults; shard = S.Shard.faults; target = T.Target.faults; made_for = λ h. (S.Shard.origin h).address }) (record { words = words.now; script = I.left script.old; faults = I.faults script.old; moment = moment }) (record { files = S.files sources.now; is_there = S.is_there sources.now; is_quiet = S.is_quiet sources.now })
         (D.look depot) (D.look result.0.depot) (D.faults depot) (D.faults result.0.depot) result.0.history result.1 }
     ensures told { IsVerdict result.0.verdict.status result.0.verdict.text
-        (IsCauseOf (record { stage = D.Stage.faults; fetch = D.Fetch.faults; shard = S.Shard.faults; target = T.Target.faults; made_for = λ h. (S.Shard.origin h).address }) (record { words = words.now; script = I.left script.old; faults = I.faults script.old }) (S.files sources.now) (I.faults script.new)
+        (IsCauseOf (record { stage = D.Stage.faults; fetch = D.Fetch.faults; shard = S.Shard.faults; target = T.Target.faults; made_for = λ h. (S.Shard.origin h).address }) (record { words = words.now; script = I.left script.old; faults = I.faults script.old; moment = moment }) (record { files = S.files sources.now; is_there = S.is_there sources.now; is_quiet = S.is_quiet sources.now }) (I.faults script.new)
         (D.look depot) (D.look result.0.depot) (D.faults depot) (D.faults result.0.depot) result.0.history result.1) }
+    ensures complete { (old new : ℕ) → IsComplete (record { stage = D.Stage.faults; fetch = D.Fetch.faults; shard = S.Shard.faults; target = T.Target.faults; made_for = λ h. (S.Shard.origin h).address }) (record { words = words.now; script = I.left script.old; faults = I.faults script.old; moment = moment }) (record { files = S.files sources.now; is_there = S.is_there sources.now; is_quiet = S.is_quiet sources.now }) (I.faults script.new) (D.look depot) (D.look result.0.depot) old new result.0.history result.1 result.0.verdict.status }
     ensures reader { IsReadFor (wanted_of (job_of words.now)) (I.left script.old) (I.left script.new) (I.faults script.old) (I.faults script.new) }
     ensures counted { IsCounted (D.faults depot) (D.faults result.0.depot) result.0.history }
     ensures named { AreDeposedSo result.0.history }
@@ -208,11 +228,12 @@ pub fn run<D: Depot, S: Sources, T: Targets, G: Gate, I: Lines, O: Out>(
     moment: u64,
     out: &mut O,
 ) -> Ended<D, S::Shard, T::Target>
-    ensures legal { IsRunOf (record { stage = D.Stage.faults; fetch = D.Fetch.faults; shard = S.Shard.faults; target = T.Target.faults; made_for = λ h. (S.Shard.origin h).address }) (record { words = words.now; script = I.left script.old; faults = I.faults script.old }) (S.files sources.now)
+    ensures legal { IsRunOf (record { stage = D.Stage.faults; fetch = D.Fetch.faults; shard = S.Shard.faults; target = T.Target.faults; made_for = λ h. (S.Shard.origin h).address }) (record { words = words.now; script = I.left script.old; faults = I.faults script.old; moment = moment }) (record { files = S.files sources.now; is_there = S.is_there sources.now; is_quiet = S.is_quiet sources.now })
         (D.look depot) (D.look result.depot) (D.faults depot) (D.faults result.depot) result.history result.faults }
     ensures end { IsEndOf result.status (O.contents out.old) (O.contents out.new) (O.faults out.old) (O.faults out.new)
-        (IsCauseOf (record { stage = D.Stage.faults; fetch = D.Fetch.faults; shard = S.Shard.faults; target = T.Target.faults; made_for = λ h. (S.Shard.origin h).address }) (record { words = words.now; script = I.left script.old; faults = I.faults script.old }) (S.files sources.now) (I.faults script.new)
+        (IsCauseOf (record { stage = D.Stage.faults; fetch = D.Fetch.faults; shard = S.Shard.faults; target = T.Target.faults; made_for = λ h. (S.Shard.origin h).address }) (record { words = words.now; script = I.left script.old; faults = I.faults script.old; moment = moment }) (record { files = S.files sources.now; is_there = S.is_there sources.now; is_quiet = S.is_quiet sources.now }) (I.faults script.new)
         (D.look depot) (D.look result.depot) (D.faults depot) (D.faults result.depot) result.history result.faults) }
+    ensures complete { IsComplete (record { stage = D.Stage.faults; fetch = D.Fetch.faults; shard = S.Shard.faults; target = T.Target.faults; made_for = λ h. (S.Shard.origin h).address }) (record { words = words.now; script = I.left script.old; faults = I.faults script.old; moment = moment }) (record { files = S.files sources.now; is_there = S.is_there sources.now; is_quiet = S.is_quiet sources.now }) (I.faults script.new) (D.look depot) (D.look result.depot) (O.faults out.old) (O.faults out.new) result.history result.faults result.status }
     ensures reader { IsReadFor (wanted_of (job_of words.now)) (I.left script.old) (I.left script.new) (I.faults script.old) (I.faults script.new) }
     ensures counted { IsCounted (D.faults depot) (D.faults result.depot) result.history }
     ensures named { AreDeposedSo result.history }

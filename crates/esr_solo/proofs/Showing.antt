@@ -1,18 +1,19 @@
 -- Failures stay shown as the history goes on.
-use Rattle.std.proofs.Common.{◌≡◌, ◌⊎◌, ℕ, false, List, [], ◌∷◌, ◌++◌, length, Some, None, Option, Result, Ok, Err, refl, sym, ap, ◌∙◌, subst, inl, inr, ⊎_elim, append_assoc}
+use Rattle.std.proofs.Common.{◌≡◌, ◌⊎◌, ℕ, List, [], ◌∷◌, ◌++◌, length, Some, Result, Ok, Err, refl, sym, ap, ◌∙◌, subst, inl, inr, ⊎_elim, append_assoc}
 use Rattle.esr_model.specs.Values.{Has}
 use Rattle.esr_core.specs.Entry.{Step, Reply, Refused, Refusal, FailedStep, HasEnded, Why, Moment}
 use Rattle.esr_desk.specs.declared.fault.Fault.{Fault}
 use Rattle.esr_desk.specs.declared.fault.By.{By}
 use Rattle.esr_desk.specs.declared.fault.By.TheVariants as by
 use Rattle.esr_desk.specs.declared.refusal.StepRefusal.{StepRefusal}
-use Rattle.esr_desk.specs.Refusals.{told_refusal}
+use Rattle.esr_desk.specs.declared.refusal.StepRefusal.TheVariants as steps
+use Rattle.esr_desk.specs.Refusals.{refusal_of}
 use Rattle.esr_desk.specs.Start.{Start}
 use Rattle.esr_desk.specs.Shown.{Counts, IsShown, IsListed, IsReport, IsShownAt, AreShown}
 use Rattle.esr_repo.specs.Next.{Added, AddedOr, Did}
 use Rattle.esr_solo.specs.Kept.{listed_at}
 
-no_end : {A : Type 0} (front : List A) (x : A) (back : List A) → [] ≡ front ++ x ∷ back → ⊥
+pub no_end : {A : Type 0} (front : List A) (x : A) (back : List A) → [] ≡ front ++ x ∷ back → ⊥
 no_end [] x back e = cc
 no_end (f ∷ front) x back e = cc
 
@@ -144,14 +145,15 @@ added {S} {F} {H} {T} c s old new who step reply faults none a h =
 refused_no : (step : Step) (refusal : Refusal) → IsNoReportOf step (Refused refusal)
 refused_no step refusal why e d = cc
 
-pub added_or : {S F H T : Type 0} (c : Counts S F H T) (s : Start) (old new : List Moment) (who : ℕ) (step : Step) (refusal : Option Refusal) (faults : List (Fault S F H T)) → AddedOr s old new who step refusal → AreShown c s old faults → AreShown c s new faults
-added_or {S} {F} {H} {T} c s old new who step None faults e h = subst (λ (l : List Moment). AreShown {S = S} {F = F} {H = H} {T = T} c s l faults) (sym e) h
-added_or c s old new who step (Some refusal) faults a h = added c s old new who step (Refused refusal) faults (refused_no step refusal) a h
+pub added_or : {S F H T : Type 0} (c : Counts S F H T) (s : Start) (old new : List Moment) (who : ℕ) (step : Step) (e : StepRefusal) (faults : List (Fault S F H T)) → AddedOr s old new who step e → AreShown c s old faults → AreShown c s new faults
+added_or {S} {F} {H} {T} c s old new who step steps.Memory faults same h = subst (λ (l : List Moment). AreShown {S = S} {F = F} {H = H} {T = T} c s l faults) (sym same) h
+added_or c s old new who step steps.TurnsSpent faults never h = absurd never
+added_or c s old new who step (steps.Refused refusal) faults a h = added c s old new who step (Refused (refusal_of refusal)) faults (refused_no step (refusal_of refusal)) a h
 
 -- a step of a repository that isn't the report of a failure
 pub did : {X S F H T : Type 0} (c : Counts S F H T) (s : Start) (old new : List Moment) (who : ℕ) (step : Step) (ok : X → Reply) (result : Result X StepRefusal) (faults : List (Fault S F H T)) → ((x : X) → IsNoReportOf step (ok x)) → Did s old new who step ok result → AreShown c s old faults → AreShown c s new faults
 did c s old new who step ok (Ok x) faults none d h = added c s old new who step (ok x) faults (none x) d h
-did c s old new who step ok (Err e) faults none d h = added_or c s old new who step (told_refusal e) faults d h
+did c s old new who step ok (Err e) faults none d h = added_or c s old new who step e faults d h
 
 -- the same objects
 pub same_objects : {S F H T : Type 0} (c : Counts S F H T) (s : Start) (log : List Moment) (faults same : List (Fault S F H T)) → same ≡ faults → AreShown c s log faults → AreShown c s log same

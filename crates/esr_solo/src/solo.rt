@@ -1,5 +1,6 @@
 //! A repository with a count of turns, and the objects that failed.
 ghost use Rattle.std.specs.Prelude.{◌≡◌, ◌+◌, ◌≤◌, ◌^◌, [], length};
+ghost use Rattle.esr_desk.specs.Once.{AreOnce};
 ghost use Rattle.esr_desk.specs.Shown.{AreShown};
 ghost use Rattle.esr_solo.specs.Turns.{turns_of};
 
@@ -34,12 +35,14 @@ impl<D: Depot, K: Told, H: Shard, T: Target> Model for Solo<D, K, H, T> {
 
     ghost use Rattle.std.specs.Prelude.{◌≡◌, ◌+◌, ◌^◌, length};
     ghost use Rattle.esr_desk.specs.Shown.{AreShown};
+    ghost use Rattle.esr_desk.specs.Once.{AreOnce};
 
     ghost view = { λ s. s.repo };
 
     ghost invariant = { λ s. (length s.repo + s.left ≡ 2 ^ 40)
         × AreShown (record { stage = D.Stage.faults; fetch = D.Fetch.faults; shard = H.faults; target = T.faults; made_for = λ h. (H.origin h).address })
-        K.start s.repo s.faults.items };
+        K.start s.repo s.faults.items
+        × AreOnce K.start s.repo };
 }
 
 impl<D: Depot, K: Told, H: Shard, T: Target> Solo<D, K, H, T> {
@@ -67,6 +70,7 @@ impl<D: Depot, K: Told, H: Shard, T: Target> Solo<D, K, H, T> {
         ensures repo { result.0 ≡ self }
         ensures shown { AreShown (record { stage = D.Stage.faults; fetch = D.Fetch.faults; shard = H.faults; target = T.faults; made_for = λ h. (H.origin h).address })
             K.start result.0 result.1 }
+        ensures once { AreOnce K.start result.0 }
     {
         let Solo {
             repo,

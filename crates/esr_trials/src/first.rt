@@ -40,7 +40,11 @@ fn run_in_memory(
 }
 
 /// Whether each line of the table is the name and the text of a blob.
-fn holds_all(alloc: Global, depot: &mut MemDepot, table: &str) -> Result<bool, CallError> {
+pub(crate) fn holds_all(
+    alloc: Global,
+    depot: &mut MemDepot,
+    table: &str,
+) -> Result<bool, CallError> {
     for line in table.lines() {
         let Some((name, text)) = line.split_once(' ') else {
             return Ok(false);

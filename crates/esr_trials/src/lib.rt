@@ -6,6 +6,14 @@ mod failing;
 #[cfg(test)]
 mod first;
 #[cfg(test)]
+mod names;
+#[cfg(test)]
+mod parts;
+#[cfg(test)]
+mod refused;
+#[cfg(test)]
 mod reopened;
 #[cfg(test)]
 mod setting;
+#[cfg(test)]
+mod streams;

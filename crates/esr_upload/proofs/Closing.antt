@@ -24,7 +24,7 @@ use Rattle.esr_desk.specs.Start.{Start, formats_of, ticket_of}
 use Rattle.esr_desk.specs.Conditions.{CanEnd}
 use Rattle.esr_desk.specs.Taken.{after_writes}
 use Rattle.esr_upload.specs.Surveyed.{printed, TellsAll}
-use Rattle.esr_upload.specs.Stored.{IsAt}
+use Rattle.esr_upload.specs.Stored.{IsAt, AreBelow}
 use Rattle.esr_desk.specs.Damage.{IsAhead}
 use Rattle.esr_upload.specs.Trouble.{BadBase}
 use Rattle.esr_upload.specs.Entries.{new_count, entries_at, all_blobs, StoredAll}
@@ -34,6 +34,10 @@ use Rattle.esr_upload.proofs.Modelled.{entries_model, id_model, blobs_model, as_
 use Rattle.esr_upload.proofs.Adding.{with_snap_is}
 use Rattle.esr_upload.proofs.Snapped.{snap_ahead}
 use Rattle.esr_upload.proofs.Faults.{bad_base, has_file}
+
+-- a ticket that has committed nothing
+pub none_below : (t : Ticket) (id : ℕ) → t.noted ≡ [] → AreBelow t id
+none_below t id none = λ name has. absurd (subst (λ (names : List BlobName). Has names name) none has)
 
 abbrev snap_with : List CodeEntry → Id → SnapValue
 snap_with es uuid = record { files = es; uuid = uuid }

@@ -22,7 +22,8 @@ use Rattle.esr_reuse.specs.declared.reuse.Planned.{Planned}
 use Rattle.esr_desk.specs.Start.{Start, formats_of, ticket_of}
 use Rattle.esr_desk.specs.Conditions.{CanDraw}
 use Rattle.esr_desk.specs.Taken.{TookWork}
-use Rattle.esr_desk.specs.Grew.{Grew}
+use Rattle.esr_desk.specs.Grew.{GrewBy}
+use Rattle.esr_desk.specs.Sources.{AreSources}
 use Rattle.esr_desk.specs.Shown.{IsOf}
 use Rattle.esr_upload.specs.Surveyed.{TellsAll}
 use Rattle.esr_upload.specs.Stored.{IsAt}
@@ -87,6 +88,7 @@ module _ (s : Start) (told : Option (List (Bytes × Bytes))) (is_there : Option 
     uuid_is = ap (λ (t : Ticket). t.uuid) has.has_base.is ∙ unit.uuid_is;
     from = refl;
     drawn = ap (λ (m : ℕ). m + 1) count;
+    unnoted = ap (λ (t : Ticket). t.noted) has.has_base.is ∙ unit.unnoted;
     based = λ tells. based_in read.base (has.has_base.based tells);
     none = has.none;
     whole = has.whole;
@@ -112,6 +114,25 @@ took_shard work root op copy t uuid at name place is took =
     let took_it = subst (λ (w : CodeWork). TookWork w root op copy t) is took in
     (ap (λ (x : Ticket). x.work) took_it.1, ap (λ (x : Ticket). x.base) took_it.1)
 
+-- a shard's unit that was taken, with what is told of its shard
+pub took_unit : (s : Start) (files : Bytes → Bytes → ℕ → Option (List (Bytes × Bytes))) (is_there : Bytes → Bytes → ℕ → Option Bool) (is_quiet : Bool) (work : CodeWork) (root : Option Root) (op : ℕ) (copy : Copied) (t : Ticket) (uuid : Id) (at : ShardId) (name place : Bytes)
+    → AreSources s files is_there is_quiet → work ≡ works.Shard uuid at name place → TookWork work root op copy t
+    → (told : Option (List (Bytes × Bytes))) (there : Option Bool) → told ≡ files place name at.number → there ≡ is_there place name at.number
+    → IsUnit s told there at.index.number at.number uuid.number (option_map number_of copy.base) t
+took_unit s files is_there is_quiet work root op copy t uuid at name place sources is took told there told_is there_is =
+    let took_it = subst (λ (w : CodeWork). TookWork w root op copy t) is took in
+    subst (λ (x : Ticket). IsUnit s told there at.index.number at.number uuid.number (option_map number_of copy.base) x) (sym took_it.1) (record {
+      at = record { out = refl; unsettled = refl; work = refl };
+      undrawn = refl;
+      unnoted = refl;
+      uuid_is = refl;
+      base_is = refl;
+      tells = λ known. elim (sources.told place name at.number known) [
+        | inl is ↦ inl (told_is ∙ is)
+        | inr absent ↦ inr (there_is ∙ absent)
+      ];
+    })
+
 -- the ticket is that of the address that its shard was made for
 pub took_of : (work : CodeWork) (root : Option Root) (op : ℕ) (copy : Copied) (t : Ticket) (uuid : Id) (at : ShardId) (name place : Bytes) → work ≡ works.Shard uuid at name place → TookWork work root op copy t
     → (a : Address) → a ≡ address place name at.number → IsOf t a
@@ -124,7 +145,7 @@ took_of work root op copy t uuid at name place is took a made =
       name = ap (λ (x : Ticket). x.name) took_it.1;
     })
 
-pub drew_went : (s : Start) (old new : List Moment) (who first n : ℕ) → Grew s old new → ticket_of s new who ≡ record (ticket_of s old who) { first = first; drawn = n } → Went s old new who
+pub drew_went : (s : Start) (old new : List Moment) (who first n : ℕ) → GrewBy s who old new → ticket_of s new who ≡ record (ticket_of s old who) { first = first; drawn = n } → Went s old new who
 drew_went s old new who first n grew is =
     let t = ticket_of s old who in
     record { grew = grew; worked = record { first = first; drawn = n; noted = t.noted; wrote = t.wrote; read = t.read; is = is } }

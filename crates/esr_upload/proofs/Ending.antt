@@ -6,7 +6,7 @@ use Rattle.esr_core.specs.Entry.{Step, DoneStep, HasEnded, Reply, Moment}
 use Rattle.esr_desk.specs.Start.{Start, ticket_of}
 use Rattle.esr_desk.specs.Outcome.{Stepped}
 use Rattle.esr_desk.specs.Last.{IsLast}
-use Rattle.esr_desk.specs.Grew.{Grew}
+use Rattle.esr_desk.specs.Grew.{GrewBy}
 use Rattle.esr_upload.specs.Refused.{HasDone}
 use Rattle.esr_upload.specs.Worked.{Worked, Went}
 use Rattle.esr_upload.proofs.Going.{worked_none, worked_on}
@@ -16,7 +16,7 @@ if_err (Ok x) h = tt
 if_err (Err e) h = h
 
 -- a step that left the ticket
-pub went_same : (s : Start) (old new : List Moment) (who : ℕ) → Grew s old new → ticket_of s new who ≡ ticket_of s old who → Went s old new who
+pub went_same : (s : Start) (old new : List Moment) (who : ℕ) → GrewBy s who old new → ticket_of s new who ≡ ticket_of s old who → Went s old new who
 went_same s old new who grew same = record { grew = grew; worked = subst (λ (t : Ticket). Worked (ticket_of s old who) t) (sym same) (worked_none (ticket_of s old who)) }
 
 pub last_of : (s : Start) (old new : List Moment) (who : ℕ) (step : Step) (reply : Reply) → Stepped s old new who step reply → IsLast new who step reply

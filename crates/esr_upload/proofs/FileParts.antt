@@ -1,13 +1,12 @@
 -- One part of a file.
-use Rattle.std.proofs.Common.{◌≡◌, ◌≢◌, ℕ, ◌<◌, ◌≤◌, Bool, true, false, List, [], ◌∷◌, Option, Some, None, Result, Ok, Err, IfErr, IsErrAnd, refl, sym, ap, ◌∙◌, subst, arith, if◌then◌else◌}
+use Rattle.std.proofs.Common.{◌≡◌, ◌≢◌, ℕ, Bool, true, false, List, [], ◌∷◌, Option, Some, None, Result, Ok, Err, IfErr, IsErrAnd, refl, sym, ap, ◌∙◌, subst, if◌then◌else◌}
 use Rattle.std.specs.Io.KnownBytes.{append_known}
 use Rattle.esr_names.specs.declared.blob.BlobName.{BlobName as CodeName}
 use Rattle.esr_model.specs.Names.{BlobName, Latest}
 use Rattle.esr_model.specs.Values.{Bytes}
 use Rattle.esr_core.specs.World.{Ticket}
-use Rattle.esr_core.specs.Entry.{Step, Reply, WasBegun, Refusal, Moment}
+use Rattle.esr_core.specs.Entry.{Moment}
 use Rattle.esr_core.specs.Allowed.{IsMetadata}
-use Rattle.esr_depot.specs.Calls.{up, HasCause}
 use Rattle.esr_core.specs.After.{committing, is_latest}
 use Rattle.esr_depot.specs.declared.depot.Commit.{Commit}
 use Rattle.esr_depot.specs.declared.depot.Commit.TheVariants as commits
@@ -20,31 +19,14 @@ use Rattle.esr_desk.specs.declared.refusal.EntryRefusal.TheVariants.{DepotFault}
 use Rattle.esr_desk.specs.Start.{Start, ticket_of, told_bytes}
 use Rattle.esr_desk.specs.Conditions.{CanCommit, Holds}
 use Rattle.esr_desk.specs.Taken.{begun_by, committed_by, tried}
-use Rattle.esr_desk.specs.Outcome.{Stepped, Refusing}
-use Rattle.esr_desk.specs.Refusals.{told_refusal}
-use Rattle.esr_desk.specs.Last.{WasRefused}
-use Rattle.esr_desk.specs.Grew.{Grew}
+use Rattle.esr_desk.specs.Grew.{GrewBy, grew_by_on}
 use Rattle.esr_upload.specs.Pieces.{CanStore, PutPart}
 use Rattle.esr_upload.specs.Worked.{Worked, Went}
-use Rattle.esr_upload.proofs.Going.{worked_none, grew_on, outcome_grew}
-
--- the last step was refused
-pub refusing_last : (s : Start) (old new : List Moment) (who : ℕ) (step : Step) (refusal : Option Refusal) → Refusing s old new who step refusal → WasRefused new who refusal
-refusing_last s old new who step None h = tt
-refusing_last s old new who step (Some refusal) h = (step, record { front = h.front; image = h.image; is = h.is })
+use Rattle.esr_upload.proofs.Going.{worked_none}
 
 pub err_passed : {T E : Type 0} (r : Result T E) (P : E → Type 0) (e : E) → IsErrAnd r (λ y. y ≡ e) → P e → IfErr r P
 err_passed (Ok x) P e h k = absurd h
 err_passed (Err y) P e h k = subst P (sym h) k
-
-pub refused_grew : (s : Start) (old new : List Moment) (who : ℕ) (step : Step) (e : StepRefusal) → Refusing s old new who step (told_refusal e) → Grew s old new
-refused_grew s old new who step e h = outcome_grew {X = ℕ} s old new who step (λ x. WasBegun) (Err e) h
-
-pub made_grew : (s : Start) (old new : List Moment) (who : ℕ) (step : Step) (reply : Reply) → Stepped s old new who step reply → Grew s old new
-made_grew s old new who step reply h = outcome_grew {X = ℕ} s old new who step (λ x. reply) (Ok 0) h
-
-pub has_fault : (before now : ℕ) (failed : Bool) → HasCause before now failed → failed ≡ true → 0 < now
-has_fault before now failed cause was = let rose : up before ≤ now = cause.rose was in omega (arith, rose)
 
 -- ---- what the steps make of the ticket
 
@@ -83,17 +65,17 @@ worked_committing : (name : BlobName) (o : Option Bytes) (t : Ticket) → Worked
 worked_committing name None t = record { first = t.first; drawn = t.drawn; noted = name ∷ t.noted; wrote = t.wrote; read = t.read; is = refl }
 worked_committing name (Some bytes) t = record { first = t.first; drawn = t.drawn; noted = name ∷ t.noted; wrote = (name, bytes) ∷ t.wrote; read = t.read; is = refl }
 
-pub went_same : (s : Start) (old new : List Moment) (who : ℕ) → Grew s old new → ticket_of s new who ≡ ticket_of s old who → Went s old new who
+pub went_same : (s : Start) (old new : List Moment) (who : ℕ) → GrewBy s who old new → ticket_of s new who ≡ ticket_of s old who → Went s old new who
 went_same s old new who grew same = record { grew = grew; worked = subst (λ (t : Ticket). Worked (ticket_of s old who) t) (sym same) (worked_none (ticket_of s old who)) }
 
 -- a part that was begun is refused
-pub went_refused : (s : Start) (old mid new : List Moment) (who : ℕ) → Grew s old mid → Grew s mid new → ticket_of s mid who ≡ ticket_of s old who → ticket_of s new who ≡ ticket_of s mid who → Went s old new who
-went_refused s old mid new who first second begun kept = went_same s old new who (grew_on s old mid new first second) (kept ∙ begun)
+pub went_refused : (s : Start) (old mid new : List Moment) (who : ℕ) → GrewBy s who old mid → GrewBy s who mid new → ticket_of s mid who ≡ ticket_of s old who → ticket_of s new who ≡ ticket_of s mid who → Went s old new who
+went_refused s old mid new who first second begun kept = went_same s old new who (grew_by_on s who old mid new first second) (kept ∙ begun)
 
-went_committed : (s : Start) (old mid new : List Moment) (who : ℕ) (name : BlobName) (o : Option Bytes) → Grew s old mid → Grew s mid new
+went_committed : (s : Start) (old mid new : List Moment) (who : ℕ) (name : BlobName) (o : Option Bytes) → GrewBy s who old mid → GrewBy s who mid new
     → ticket_of s new who ≡ committing name o (ticket_of s old who) → Went s old new who
 went_committed s old mid new who name o first second is = record {
-  grew = grew_on s old mid new first second;
+  grew = grew_by_on s who old mid new first second;
   worked = subst (λ (t : Ticket). Worked (ticket_of s old who) t) (sym is) (worked_committing name o (ticket_of s old who));
 }
 
@@ -120,6 +102,6 @@ part_put s left_old left_new before now hasher_old hasher_new old mid new name n
       short = λ full. copied.short full;
     }
 
-pub went_put : (s : Start) (left_old left_new : Option Bytes) (hasher_old hasher_new : Hasher) (old mid new : List Moment) (who : ℕ) (name : BlobName) (size : ℕ) → Grew s old mid → Grew s mid new
+pub went_put : (s : Start) (left_old left_new : Option Bytes) (hasher_old hasher_new : Hasher) (old mid new : List Moment) (who : ℕ) (name : BlobName) (size : ℕ) → GrewBy s who old mid → GrewBy s who mid new
     → PutPart s left_old left_new hasher_old hasher_new (ticket_of s old who) (ticket_of s new who) name size true → Went s old new who
 went_put s left_old left_new hasher_old hasher_new old mid new who name size first second put = went_committed s old mid new who name (told_bytes s put.piece) first second (put.whole refl).1

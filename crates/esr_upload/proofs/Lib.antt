@@ -1,4 +1,5 @@
 pub mod Going
+pub mod Noting
 pub mod Pieces
 pub mod FileParts
 pub mod Storing

@@ -1,18 +1,20 @@
 -- The parts of a file, one after another.
-use Rattle.std.proofs.Common.{◌≡◌, inl, inr, ℕ, zero, suc, ◌+◌, ◌-◌, ◌*◌, ◌/◌, ◌%◌, ◌<◌, ◌≤◌, ◌^◌, min, nat_le, Bool, true, false, List, [], ◌∷◌, ◌++◌, length, take, drop, Option, Some, None, refl, sym, ap, ◌∙◌, subst, arith, add-one, append_assoc, length-append, if◌then◌else◌}
+use Rattle.std.proofs.Common.{◌≡◌, ◌⊎◌, inl, inr, ℕ, zero, suc, ◌+◌, ◌-◌, ◌*◌, ◌/◌, ◌%◌, ◌<◌, ◌≤◌, ◌^◌, min, nat_le, Bool, true, false, List, [], ◌∷◌, ◌++◌, length, take, drop, Option, Some, None, refl, sym, ap, ◌∙◌, subst, arith, add-one, append_assoc, length-append, if◌then◌else◌}
 use Rattle.std.proofs.lemmas.Bool.{cases_Bool, leb-true, leb-false}
 use Rattle.std.proofs.lemmas.List.{length-drop, take_all, take-append-le, drop-append-le}
 use Rattle.std.proofs.Math.Nat.{le-mul_of_pos_right}
+use Rattle.std.specs.List.{AllByRecursion}
 use Rattle.std.specs.Io.KnownBytes.{Consumes, IsAtEnd}
 use Rattle.esr_names.specs.declared.blob.ShardId.{ShardId}
 use Rattle.esr_names.specs.declared.blob.BlobName.{BlobName as CodeName}
 use Rattle.esr_names.specs.declared.blob.BlobName.TheVariants as code
 use Rattle.esr_names.specs.Layout.{IsName}
 use Rattle.esr_model.specs.Names.{BlobName, File, Part}
-use Rattle.esr_model.specs.Values.{Bytes}
+use Rattle.esr_model.specs.Values.{Bytes, Has}
 use Rattle.esr_model.specs.Parts.{part_count, parts_from}
 use Rattle.esr_model.specs.Uploads.{pieces, pairs, file_blobs}
 use Rattle.esr_core.specs.World.{Ticket, Work, Shard, Swap, swap_of}
+use Rattle.esr_core.specs.Steps.{Drew}
 use Rattle.esr_core.specs.Ready.{IsShard}
 use Rattle.esr_core.specs.After.{committing}
 use Rattle.esr_core.specs.Texts.{IsMetaOf}
@@ -24,8 +26,10 @@ use Rattle.esr_formats.specs.Names.{name_of}
 use Rattle.esr_formats.specs.Shards.{entry_of}
 use Rattle.esr_desk.specs.Start.{Start, formats_of, told_bytes}
 use Rattle.esr_desk.specs.Taken.{after_writes}
-use Rattle.esr_upload.specs.Stored.{MayStore}
+use Rattle.esr_upload.specs.Stored.{MayStore, IsAt, IsFileBelow, AreBelow}
 use Rattle.esr_upload.specs.Pieces.{CanStore, blob_name, cut, PutParts}
+use Rattle.esr_upload.proofs.Writing.{writes_on, writes_keep, writes_at}
+use Rattle.esr_upload.proofs.Noting.{noted_all}
 
 -- ---- which parts may be stored
 
@@ -46,56 +50,104 @@ no_swap s t i k is = subst (λ (w : Work). ◌≡◌ {A = Option Swap} (swap_of 
 of_shard : (t : Ticket) (i k : ℕ) → t.work ≡ Shard i k → IsShard t.work
 of_shard t i k is = subst IsShard (sym is) tt
 
-whole_can : (s : Start) (t : Ticket) (at : ShardId) (e : CodeEntry) → MayStore t at.index.number at.number e.name.number → at.number < 1024 → CanStore s t (code.Whole at e.name)
+-- the name of the next part of a file isn't noted
+abbrev IsFresh : Ticket → CodeName → Type 0
+IsFresh t name = Has t.noted (name_of name) → ⊥
+
+whole_can : (s : Start) (t : Ticket) (at : ShardId) (e : CodeEntry) → IsAt t at.index.number at.number → Drew t e.name.number → at.number < 1024 → IsFresh t (code.Whole at e.name) → CanStore s t (code.Whole at e.name)
 unfolding IsName
-whole_can s t at e may few = record {
+whole_can s t at e is drew few fresh = record {
   layout = few;
   own = λ meta. no_file_meta at.index.number at.number e.name.number meta.0 meta.1;
   may = λ bytes. record {
-    out = may.out;
-    unsettled = may.unsettled;
-    may = inr (no_swap s t at.index.number at.number may.work, (may.work, may.drew), of_shard t at.index.number at.number may.work);
-    stored = λ is. cc;
+    out = is.out;
+    unsettled = is.unsettled;
+    may = inr (no_swap s t at.index.number at.number is.work, (is.work, drew), of_shard t at.index.number at.number is.work);
+    stored = λ same. cc;
+    once = λ other noted. fresh noted;
   };
 }
 
-part_can : (s : Start) (t : Ticket) (at : ShardId) (e : CodeEntry) (k : ℕ) → MayStore t at.index.number at.number e.name.number → at.number < 1024 → k < 2 ^ 61 → CanStore s t (code.Part at e.name k)
+part_can : (s : Start) (t : Ticket) (at : ShardId) (e : CodeEntry) (k : ℕ) → IsAt t at.index.number at.number → Drew t e.name.number → at.number < 1024 → k < 2 ^ 61 → IsFresh t (code.Part at e.name k) → CanStore s t (code.Part at e.name k)
 unfolding IsName
-part_can s t at e k may few low = record {
+part_can s t at e k is drew few low fresh = record {
   layout = (few, low);
   own = λ meta. no_part_meta at.index.number at.number e.name.number k meta.0 meta.1;
   may = λ bytes. record {
-    out = may.out;
-    unsettled = may.unsettled;
-    may = inr (no_swap s t at.index.number at.number may.work, (may.work, may.drew), of_shard t at.index.number at.number may.work);
-    stored = λ is. cc;
+    out = is.out;
+    unsettled = is.unsettled;
+    may = inr (no_swap s t at.index.number at.number is.work, (is.work, drew), of_shard t at.index.number at.number is.work);
+    stored = λ same. cc;
+    once = λ other noted. fresh noted;
   };
 }
 
-can_store : (s : Start) (t : Ticket) (at : ShardId) (e : CodeEntry) (k : ℕ) → MayStore t at.index.number at.number e.name.number → at.number < 1024 → k < 2 ^ 61 → CanStore s t (part_name at e k)
-can_store s t at e k may few low =
-    elim (nat_le e.print.len e.part_size) as (λ b. CanStore s t (if b then code.Whole at e.name else code.Part at e.name k)) [
-      | true ↦ whole_can s t at e may few
-      | false ↦ part_can s t at e k may few low
+can_store : (s : Start) (t : Ticket) (at : ShardId) (e : CodeEntry) (k : ℕ) → IsAt t at.index.number at.number → Drew t e.name.number → at.number < 1024 → k < 2 ^ 61 → IsFresh t (part_name at e k) → CanStore s t (part_name at e k)
+can_store s t at e k is drew few low =
+    elim (nat_le e.print.len e.part_size) as (λ b. IsFresh t (if b then code.Whole at e.name else code.Part at e.name k) → CanStore s t (if b then code.Whole at e.name else code.Part at e.name k)) [
+      | true ↦ whole_can s t at e is drew few
+      | false ↦ part_can s t at e k is drew few low
     ]
 
-may_committing : (name : BlobName) (o : Option Bytes) (t : Ticket) (i n id : ℕ) → MayStore t i n id → MayStore (committing name o t) i n id
-may_committing name None t i n id may = record { out = may.out; unsettled = may.unsettled; work = may.work; drew = record { from = may.drew.from; below = may.drew.below } }
-may_committing name (Some bytes) t i n id may = record { out = may.out; unsettled = may.unsettled; work = may.work; drew = record { from = may.drew.from; below = may.drew.below } }
+-- ---- each part once
 
-may_after : (s : Start) (ws : List (BlobName × Bytes)) (t : Ticket) (i n id : ℕ) → MayStore t i n id → MayStore (after_writes s ws t) i n id
-may_after s [] t i n id may = may
-may_after s (w ∷ ws) t i n id may = may_after s ws (committing w.0 (told_bytes s w.1) t) i n id (may_committing w.0 (told_bytes s w.1) t i n id may)
+cut_all : (P : BlobName → Type 0) (name : ℕ → BlobName) (size j k end : ℕ) (bytes : Bytes) → ((i : ℕ) → i < end → P (name i)) → j + k ≤ end → AllByRecursion (λ (w : BlobName × Bytes). P w.0) (cut name size j k bytes)
+unfolding cut
+cut_all P name size j zero end bytes each le = tt
+cut_all P name size j (suc k) end bytes each le =
+    let here : j < end = omega (arith, le) in
+    let rest : suc j + k ≤ end = omega (arith, le) in
+    (each j here, cut_all P name size (suc j) k end (drop size bytes) each rest)
+
+-- of a file with an id below, or a part of this file before this one
+abbrev IsBefore : ShardId → CodeEntry → ℕ → BlobName → Type 0
+IsBefore at e k name = IsFileBelow e.name.number name ⊎ ((i : ℕ) × (i < k) × (blob_name at e i ≡ name))
+
+not_below : (at : ShardId) (e : CodeEntry) (k : ℕ) → IsFileBelow e.name.number (blob_name at e k) → ⊥
+not_below at e k =
+    elim (nat_le e.print.len e.part_size) as (λ b. IsFileBelow e.name.number (name_of (if b then code.Whole at e.name else code.Part at e.name k)) → ⊥) [
+      | true ↦ λ (low : e.name.number < e.name.number). omega (arith, low)
+      | false ↦ λ (low : e.name.number < e.name.number). omega (arith, low)
+    ]
+
+number_is : (index number file i k : ℕ) → Part index number file i ≡ Part index number file k → i ≡ k
+number_is index number file i k same = cc
+
+-- the parts of a file have different names
+parts_differ : (at : ShardId) (e : CodeEntry) (i k : ℕ) → i < k → k < code_count e.print.len e.part_size → blob_name at e i ≡ blob_name at e k → ⊥
+parts_differ at e i k less =
+    let parts : ℕ = (e.print.len + e.part_size - 1) / e.part_size in
+    elim (nat_le e.print.len e.part_size) as (λ b. k < (if b then 1 else parts) → name_of (if b then code.Whole at e.name else code.Part at e.name i) ≡ name_of (if b then code.Whole at e.name else code.Part at e.name k) → ⊥) [
+      | true ↦ λ (one : k < 1) same. omega (arith, less, one)
+      | false ↦ λ within same. let number : i ≡ k = number_is at.index.number at.number e.name.number i k same in omega (arith, less, number)
+    ]
+
+next_fresh : (s : Start) (old : Ticket) (bytes : Bytes) (at : ShardId) (e : CodeEntry) (k : ℕ) → AreBelow old e.name.number → k < code_count e.print.len e.part_size
+    → Has (after_writes s (cut (blob_name at e) e.part_size 0 k bytes) old).noted (blob_name at e k) → ⊥
+next_fresh s old bytes at e k below within noted =
+    let all : 0 + k ≤ k = omega arith in
+    let before : IsBefore at e k (blob_name at e k) =
+    noted_all (IsBefore at e k) s (cut (blob_name at e) e.part_size 0 k bytes) old (cut_all (IsBefore at e k) (blob_name at e) e.part_size 0 k k bytes (λ i less. inr (i, less, refl)) all) (λ name has. inl (below name has)) (blob_name at e k) noted in
+    elim before [
+      | inl low ↦ not_below at e k low
+      | inr part ↦ parts_differ at e part.0 k part.1 within part.2
+    ]
 
 -- the next part may be stored
-pub can_store_next : (s : Start) (old now : Ticket) (ws : List (BlobName × Bytes)) (at : ShardId) (e : CodeEntry) (k : ℕ) (name : CodeName) → MayStore old at.index.number at.number e.name.number → at.number < 1024 → 1 ≤ e.part_size → k * e.part_size < 2 ^ 61
-    → now ≡ after_writes s ws old → name ≡ part_name at e k → CanStore s now name
-can_store_next s old now ws at e k name may few some low is named =
+pub can_store_next : (s : Start) (old now : Ticket) (bytes : Bytes) (at : ShardId) (e : CodeEntry) (k : ℕ) (name : CodeName) → MayStore old at.index.number at.number e.name.number → at.number < 1024 → 1 ≤ e.part_size → k * e.part_size < 2 ^ 61
+    → k < code_count e.print.len e.part_size → now ≡ after_writes s (cut (blob_name at e) e.part_size 0 k bytes) old → name ≡ part_name at e k → CanStore s now name
+can_store_next s old now bytes at e k name may few some low within is named =
+    let ws : List (BlobName × Bytes) = cut (blob_name at e) e.part_size 0 k bytes in
     let less : k ≤ k * e.part_size = le-mul_of_pos_right k some in
     let number : k < 2 ^ 61 = omega (arith, less, low) in
-    let here = can_store s (after_writes s ws old) at e k (may_after s ws old at.index.number at.number e.name.number may) few number in
-    let own = subst (λ (t : Ticket). CanStore s t (part_name at e k)) (sym is) here in
-    subst (λ (n : CodeName). CanStore s now n) (sym named) own
+    let first : now.first ≡ old.first = writes_keep (λ (t : Ticket). t.first) (λ t n w. refl) s ws old now is in
+    let drawn : now.drawn ≡ old.drawn = writes_keep (λ (t : Ticket). t.drawn) (λ t n w. refl) s ws old now is in
+    let from : old.first ≤ e.name.number = may.drew.from in
+    let end : e.name.number < old.first + old.drawn = may.drew.below in
+    let out = writes_at s ws old now at.index.number at.number is (record { out = may.out; unsettled = may.unsettled; work = may.work }) in
+    let drew : Drew now e.name.number = record { from = omega (arith, first, from); below = omega (arith, first, drawn, end) } in
+    let fresh : IsFresh now (part_name at e k) = subst (λ (t : Ticket). IsFresh t (part_name at e k)) (sym is) (next_fresh s old bytes at e k may.below within) in
+    subst (λ (n : CodeName). CanStore s now n) (sym named) (can_store s now at e k out drew few number fresh)
 
 -- ---- one part more
 
@@ -122,10 +174,6 @@ cut_more name size j (suc k) bytes piece len le =
     let number : suc j + k ≡ j + suc k = omega arith in
     let more : cut name size (suc j) (suc k) (drop size bytes ++ piece) ≡ cut name size (suc j) k (drop size bytes) ++ (name (j + suc k), piece) ∷ [] = rw number at (cut_more name size (suc j) k (drop size bytes) piece rest le) in
     rw (front, back) (ap (λ (ws : List (BlobName × Bytes)). (name j, take size bytes) ∷ ws) more)
-
-writes_on : (s : Start) (ws us : List (BlobName × Bytes)) (t : Ticket) → after_writes s (ws ++ us) t ≡ after_writes s us (after_writes s ws t)
-writes_on s [] us t = refl
-writes_on s (w ∷ ws) us t = writes_on s ws us (committing w.0 (told_bytes s w.1) t)
 
 pub cut_put : (s : Start) (at : ShardId) (e : CodeEntry) (k : ℕ) (bytes piece : Bytes) (name : CodeName) (a b c : Ticket) → length bytes ≡ k * e.part_size → length piece ≤ e.part_size
     → b ≡ after_writes s (cut (blob_name at e) e.part_size 0 k bytes) a → c ≡ committing (name_of name) (told_bytes s piece) b → name ≡ part_name at e k

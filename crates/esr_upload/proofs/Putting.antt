@@ -1,8 +1,9 @@
 -- What the steps of a ticket answer, and a blob that is written and committed.
-use Rattle.std.proofs.Common.{◌≡◌, ◌≢◌, ℕ, Bool, true, false, List, [], Option, Some, None, Result, Ok, Err, IfErr, OnOk, ◌<◌, arith, refl, sym, ap, ◌∙◌, subst}
+use Rattle.std.proofs.Common.{◌≡◌, ◌≢◌, inl, inr, ℕ, Bool, true, false, List, [], Option, Some, None, Result, Ok, Err, IfErr, OnOk, ◌<◌, arith, refl, sym, ap, ◌∙◌, subst}
 use Rattle.std.specs.Io.KnownBytes.{append_known}
 use Rattle.std.specs.Prelude.{if◌then◌else◌}
-use Rattle.std.specs.Result.{IsErrAnd, is_err}
+use Rattle.std.specs.Result.{IsErr, IsErrAnd, is_err}
+use Rattle.std.proofs.lemmas.Bool.{cases_Bool}
 use Rattle.esr_names.specs.declared.blob.BlobName.{BlobName as CodeName}
 use Rattle.esr_depot.specs.Calls.{HasCause}
 use Rattle.esr_depot.specs.declared.depot.Commit.{Commit}
@@ -11,26 +12,21 @@ use Rattle.esr_formats.specs.Names.{name_of}
 use Rattle.esr_model.specs.Names.{BlobName, Root, Latest, Snap, Meta, IndexMeta, ShardSnap, ShardIndex, File, Part, TestMaster, TestNode}
 use Rattle.esr_model.specs.Values.{Bytes}
 use Rattle.esr_core.specs.World.{Ticket}
-use Rattle.esr_core.specs.Entry.{Step, BeginStep, WasBegun, Refusal, Moment}
+use Rattle.esr_core.specs.Entry.{BeginStep, WasBegun, Moment}
 use Rattle.esr_core.specs.After.{is_latest, committing}
 use Rattle.esr_core.specs.Allowed.{IsMetadata}
 use Rattle.esr_desk.specs.declared.refusal.StepRefusal.{StepRefusal}
 use Rattle.esr_desk.specs.declared.refusal.StepRefusal.TheVariants as steps
 use Rattle.esr_desk.specs.declared.refusal.EntryRefusal.TheVariants as refusals
 use Rattle.esr_desk.specs.Start.{Start, ticket_of, told_bytes}
-use Rattle.esr_desk.specs.Outcome.{Refusing, Outcome}
+use Rattle.esr_desk.specs.Outcome.{Outcome}
 use Rattle.esr_desk.specs.Taken.{begun_by, committed_by, tried}
-use Rattle.esr_desk.specs.Last.{WasRefused}
-use Rattle.esr_desk.specs.Grew.{Grew}
+use Rattle.esr_desk.specs.Grew.{GrewBy, outcome_grew_by}
+use Rattle.esr_desk.specs.Shown.{Faulty}
 use Rattle.esr_upload.specs.declared.trouble.Trouble.{Trouble}
 use Rattle.esr_upload.specs.declared.trouble.Trouble.TheVariants as troubles
 use Rattle.esr_upload.specs.Worked.{Worked, Went}
-use Rattle.esr_upload.proofs.Going.{worked_none, outcome_grew}
-
--- a step that was refused is the last entry
-pub refusing_last : (s : Start) (old new : List Moment) (who : ℕ) (step : Step) (refusal : Option Refusal) → Refusing s old new who step refusal → WasRefused new who refusal
-refusing_last s old new who step None h = tt
-refusing_last s old new who step (Some refusal) h = (step, record { front = h.front; image = h.image; is = h.is })
+use Rattle.esr_upload.proofs.Going.{worked_none}
 
 not_latest : (name : BlobName) (t : Ticket) → name ≢ Latest → (if is_latest name then tried t else t) ≡ t
 not_latest (Root n) t other = refl
@@ -63,14 +59,14 @@ begun_same name (Err (steps.Refused (refusals.IdsSpent next))) t other = refl
 begun_same name (Err (steps.Refused (refusals.NameTaken name2))) t other = refl
 
 -- a history that went on, without the ticket
-pub went_same : (s : Start) (old new : List Moment) (who : ℕ) → Grew s old new → ticket_of s new who ≡ ticket_of s old who → Went s old new who
+pub went_same : (s : Start) (old new : List Moment) (who : ℕ) → GrewBy s who old new → ticket_of s new who ≡ ticket_of s old who → Went s old new who
 went_same s old new who grew same = record { grew = grew; worked = subst (λ (t : Ticket). Worked (ticket_of s old who) t) (sym same) (worked_none (ticket_of s old who)) }
 
 -- the begin of another blob than `index.latest`, whatever it was answered
 pub begun_went : {X : Type 0} (s : Start) (old new : List Moment) (who : ℕ) (name : BlobName) (result : Result X StepRefusal) → name ≢ Latest → Outcome s old new who (BeginStep name) (λ x. WasBegun) result
     → ticket_of s new who ≡ begun_by name result (ticket_of s old who) → Went s old new who
 begun_went s old new who name result other step own =
-    went_same s old new who (outcome_grew s old new who (BeginStep name) (λ x. WasBegun) result step) (own ∙ begun_same name result (ticket_of s old who) other)
+    went_same s old new who (outcome_grew_by s old new who (BeginStep name) (λ x. WasBegun) result step) (own ∙ begun_same name result (ticket_of s old who) other)
 
 -- the bytes of a stage that began empty
 pub told_append : (s : Start) (bytes : Bytes) → append_known (told_bytes s []) bytes ≡ told_bytes s bytes
@@ -90,8 +86,25 @@ on_ok (Ok x) P ok h = h
 on_ok (Err e) P ok h = absurd cc
 
 -- an object that failed has a count of faults above 0
-pub has_risen : (before now : ℕ) (failed : Bool) → HasCause before now failed → failed ≡ true → 0 < now
+has_risen : (before now : ℕ) (failed : Bool) → HasCause before now failed → failed ≡ true → 0 < now
 has_risen before now failed cause is = let rose = cause.rose is in omega arith
+
+true_false : (b : Bool) → b ≡ true → b ≡ false → ⊥
+true_false b one other = cc
+
+-- and it is not one of a quiet container, where that is sure not to fail
+pub is_faulty : (s : Start) (before now : ℕ) (failed : Bool) → HasCause before now failed → (s.quiet ≡ true → failed ≡ false) → failed ≡ true → Faulty s now
+is_faulty s before now failed cause never is = (
+  has_risen before now failed cause is,
+  elim (cases_Bool s.quiet) [
+    | inl quiet ↦ absurd (true_false failed is (never quiet))
+    | inr other ↦ other
+  ],
+)
+
+pub never_err : {T E : Type 0} (result : Result T E) → (IsErr result → ⊥) → is_err result ≡ false
+never_err (Ok x) never = refl
+never_err (Err e) never = absurd (never refl)
 
 -- a blob of no finalization's metadata that is committed is added
 pub committed_done : (s : Start) (name at : CodeName) (contents : Option Bytes) (bytes : Bytes) (commit : Commit) (old mid new : Ticket) → at ≡ name → (IsMetadata (name_of name) → ⊥)

@@ -1,6 +1,7 @@
 -- The base of a shard's ticket is fetched and read.
-use Rattle.std.proofs.Common.{◌≡◌, ◌<◌, inl, inr, ℕ, Bool, true, false, List, [], ◌∷◌, Option, Some, None, refl, sym, ap, ◌∙◌, subst}
-use Rattle.std.specs.Prelude.{if◌then◌else◌}
+use Rattle.std.proofs.Common.{◌≡◌, ◌<◌, inl, inr, ℕ, Bool, true, false, List, [], ◌∷◌, Option, Some, None, IfSome, Result, Err, refl, sym, ap, ◌∙◌, subst, arith}
+use Rattle.std.proofs.lemmas.Bool.{cases_Bool}
+use Rattle.std.specs.Prelude.{if◌then◌else◌, IsTrue}
 use Rattle.esr_names.specs.declared.ids.Id.{Id}
 use Rattle.esr_names.specs.declared.blob.ShardId.{ShardId}
 use Rattle.esr_names.specs.declared.blob.BlobName.TheVariants as names
@@ -11,6 +12,9 @@ use Rattle.esr_core.specs.World.{Ticket}
 use Rattle.esr_core.specs.Entry.{FetchStep, WasAbsent, Moment}
 use Rattle.esr_core.specs.After.{fetching}
 use Rattle.esr_core.specs.Allowed.{Based}
+use Rattle.esr_depot.specs.Calls.{HasCause, has_failed}
+use Rattle.esr_depot.specs.declared.error.CallError.{CallError}
+use Rattle.esr_depot.specs.declared.error.CallError.TheVariants.{Failed}
 use Rattle.esr_json.specs.declared.refusal.Reason.{Reason}
 use Rattle.esr_json.specs.declared.refusal.ReadRefusal.{ReadRefusal}
 use Rattle.esr_json.specs.declared.refusal.ReadRefusal.TheVariants as refusals
@@ -20,10 +24,12 @@ use Rattle.esr_formats.specs.Shards.{shard_index_kind}
 use Rattle.esr_desk.specs.Start.{Start, formats_of, ticket_of, told_bytes}
 use Rattle.esr_desk.specs.Outcome.{Stepped, fetch_reply}
 use Rattle.esr_desk.specs.Taken.{fetched_by}
+use Rattle.esr_desk.specs.Grew.{stepped_grew_by}
+use Rattle.esr_desk.specs.Shown.{Faulty}
 use Rattle.esr_upload.specs.Base.{HasBase}
 use Rattle.esr_upload.specs.Stored.{IsAt}
 use Rattle.esr_upload.specs.Trouble.{BadBase}
-use Rattle.esr_upload.specs.Worked.{Worked}
+use Rattle.esr_upload.specs.Worked.{Worked, Went}
 use Rattle.esr_upload.proofs.Going.{worked_none}
 
 -- ---- what a fetch makes of the ticket
@@ -32,10 +38,45 @@ fetching_worked : (t : Ticket) (name : BlobName) (left : Option Bytes) → Worke
 fetching_worked t name None = worked_none t
 fetching_worked t name (Some bytes) = record { first = t.first; drawn = t.drawn; noted = t.noted; wrote = t.wrote; read = (name, bytes) ∷ t.read; is = refl }
 
+fetched_worked : {F : Type 0} (left : F → Option Bytes) (t : Ticket) (name : BlobName) (o : Option F) → Worked t (fetched_by left name o t)
+fetched_worked left t name None = worked_none t
+fetched_worked left t name (Some f) = fetching_worked t name (left f)
+
+-- a fetch that was answered
+pub fetch_went : {F : Type 0} (left : F → Option Bytes) (o : Option F) (s : Start) (old new : List Moment) (who : ℕ) (name : BlobName) → Stepped s old new who (FetchStep name) (fetch_reply o)
+    → ticket_of s new who ≡ fetched_by left name o (ticket_of s old who) → Went s old new who
+fetch_went left o s old new who name step own = record {
+  grew = stepped_grew_by s old new who (FetchStep name) (fetch_reply o) step;
+  worked = subst (λ (t : Ticket). Worked (ticket_of s old who) t) (sym own) (fetched_worked left (ticket_of s old who) name o);
+}
+
 -- the name of an index is one of the layout
 pub index_name : (shard : ShardId) (base : Id) → shard.number < 1024 → IsName (names.ShardIndex shard base)
 unfolding IsName
 index_name shard base few = few
+
+-- ---- a fetch failed
+
+-- what is ensured of the fetch that came
+pub fetch_came : {F : Type 0} (o : Option F) (f : F) (P : F → Type 0) → o ≡ Some f → IfSome o P → P f
+fetch_came (Some g) f P is holds = let same : g ≡ f = cc in subst P same holds
+fetch_came None f P is holds = absurd cc
+
+-- where the container is quiet none does
+pub failed_read : {T : Type 0} (s : Start) (before now : ℕ) (result : Result T CallError) (e : CallError) (sure : Bool) → result ≡ Err e → e ≡ Failed → HasCause before now (has_failed result) → (s.quiet ≡ true → IsTrue sure)
+    → (IsTrue sure → has_failed result ≡ false) → Faulty s now
+failed_read {T} s before now result e sure is failed cause quiet serves =
+    let did : has_failed result ≡ true = ap (λ (r : Result T CallError). has_failed r) is ∙ ap (λ (x : CallError). has_failed {T = T} (Err x)) failed in
+    let rose = cause.rose did in (
+      omega (arith, rose),
+      elim (cases_Bool s.quiet) [
+        | inl calm ↦ absurd (contra (has_failed result) did (serves (quiet calm)))
+        | inr other ↦ other
+      ],
+    )
+  where
+    contra : (b : Bool) → b ≡ true → b ≡ false → ⊥
+    contra b x y = cc (x, y)
 
 -- ---- the base is at fault
 

@@ -1,5 +1,6 @@
 -- How the unit of a shard ends where it isn't done.
-use Rattle.std.proofs.Common.{◌≡◌, ◌≢◌, inl, inr, ℕ, true, false, List, [], ◌∷◌, ◌++◌, append_assoc, Option, Some, None, option_map, Result, Ok, Err, IfErr, refl, sym, ap, ◌∙◌, subst}
+use Rattle.std.proofs.Common.{◌≡◌, ◌≢◌, ◌<◌, inl, inr, ℕ, Bool, true, false, List, [], ◌∷◌, ◌++◌, append_assoc, Option, Some, None, option_map, Result, Ok, Err, IfErr, refl, sym, ap, ◌∙◌, subst, arith}
+use Rattle.std.proofs.lemmas.Bool.{cases_Bool}
 use Rattle.std.specs.Result.{IsErrAnd}
 use Rattle.esr_hash.specs.declared.print.Print.{Print}
 use Rattle.esr_names.specs.declared.ids.Id.{Id}
@@ -11,6 +12,7 @@ use Rattle.esr_core.specs.World.{Ticket, Work, Shard}
 use Rattle.esr_core.specs.Entry.{Why, OfDepot, OfSource, OfChange, OfDamage, FailedStep, HasEnded, Refused, DepotFault, Moment}
 use Rattle.esr_formats.specs.Ids.{number_of}
 use Rattle.esr_source.specs.declared.address.Address.{Address}
+use Rattle.esr_source.specs.Address.{address}
 use Rattle.esr_desk.specs.declared.entry.Why.TheVariants as whys
 use Rattle.esr_desk.specs.declared.refusal.StepRefusal.{StepRefusal}
 use Rattle.esr_desk.specs.declared.refusal.StepRefusal.TheVariants as steps
@@ -20,12 +22,12 @@ use Rattle.esr_desk.specs.declared.fault.By.{By}
 use Rattle.esr_desk.specs.declared.fault.By.TheVariants as shows
 use Rattle.esr_desk.specs.declared.unit.UnitRefusal.TheVariants as units
 use Rattle.esr_desk.specs.Entries.{why_of}
-use Rattle.esr_desk.specs.Refusals.{told_refusal}
 use Rattle.esr_desk.specs.Start.{Start, ticket_of}
+use Rattle.esr_desk.specs.Sources.{AreSources}
 use Rattle.esr_desk.specs.Outcome.{Waited, Stepped}
-use Rattle.esr_desk.specs.Last.{WasRefused}
+use Rattle.esr_desk.specs.Last.{IsRefusal}
 use Rattle.esr_desk.specs.Damage.{IsBase, IsBad, WasMissing, BaseFault}
-use Rattle.esr_desk.specs.Shown.{Counts, Matters, HadFault, IsOf, IsUntold, DepotShown, SourceShown, ReadShown, IsShown}
+use Rattle.esr_desk.specs.Shown.{Counts, Matters, HadFault, IsOf, IsUntold, FaultyShard, DepotShown, SourceShown, ReadShown, IsShown}
 use Rattle.esr_upload.specs.declared.cause.Cause.{Cause}
 use Rattle.esr_upload.specs.declared.trouble.Trouble.{Trouble}
 use Rattle.esr_upload.specs.declared.trouble.Trouble.TheVariants as troubles
@@ -37,6 +39,48 @@ use Rattle.esr_upload.specs.Worked.{Worked, Went}
 pub passed : {T E : Type 0} (r : Result T E) (P : E → Type 0) (e : E) → IsErrAnd r (λ x. x ≡ e) → P e → IfErr r P
 passed (Ok x) P e is holds = tt
 passed (Err y) P e is holds = subst P (sym is) holds
+
+-- ---- a refusal that leaves the ticket out
+
+-- where a refusal ends no ticket, it is the refusal itself
+refusal_same : {S F H T : Type 0} (e refusal : StepRefusal) → cause_refused {S = S} {F = F} {H = H} {T = T} e ≡ Err refusal → e ≡ refusal
+refusal_same steps.Memory refusal is = cc
+refusal_same steps.TurnsSpent refusal is = cc
+refusal_same (steps.Refused refusals.DepotFault) refusal is = cc
+refusal_same (steps.Refused (refusals.CleanupRunning op)) refusal is = cc
+refusal_same (steps.Refused (refusals.NameInUse uuid)) refusal is = cc
+refusal_same (steps.Refused (refusals.TooMany limit)) refusal is = cc
+refusal_same (steps.Refused (refusals.Deposed entry)) refusal is = cc
+refusal_same (steps.Refused (refusals.Aborted by)) refusal is = cc
+refusal_same (steps.Refused (refusals.StaleTerm own now)) refusal is = cc
+refusal_same (steps.Refused (refusals.GenerationsSpent spent)) refusal is = cc
+refusal_same (steps.Refused (refusals.TermsSpent spent)) refusal is = cc
+refusal_same (steps.Refused (refusals.IdsSpent next)) refusal is = cc
+refusal_same (steps.Refused (refusals.NameTaken name)) refusal is = cc
+
+damaged_memory : {S F H T : Type 0} (at : ShardId) (base : Option Id) (refusal : StepRefusal) → damaged_by {S = S} {F = F} {H = H} {T = T} at base ≡ Err refusal → steps.Memory ≡ refusal
+damaged_memory at None refusal is = cc
+damaged_memory at (Some b) refusal is = cc
+
+-- a trouble that leaves the ticket out is a step's refusal
+pub stopped : {S F H T : Type 0} (stage_faults : S → ℕ) (fetch_faults : F → ℕ) (n : ℕ) (files : Option (List (Bytes × Bytes))) (s : Start) (log : List Moment) (who : ℕ) (at : ShardId) (base : Option Id) (shard : H) (trouble : Trouble S F) (refusal : StepRefusal)
+    → Shown stage_faults fetch_faults n files s log who trouble → cause_by {S = S} {F = F} {H = H} {T = T} at base shard trouble ≡ Err refusal → IsRefusal s log who refusal
+stopped {S} {F} {H} {T} stage_faults fetch_faults n files s log who at base shard (troubles.Step e) refusal shown is = subst (λ (r : StepRefusal). IsRefusal s log who r) (refusal_same {S = S} {F = F} {H = H} {T = T} e refusal is) shown
+stopped stage_faults fetch_faults n files s log who at base shard troubles.Source refusal shown is = absurd cc
+stopped stage_faults fetch_faults n files s log who at base shard (troubles.Stage stage) refusal shown is = absurd cc
+stopped stage_faults fetch_faults n files s log who at base shard (troubles.Fetch fetch) refusal shown is = absurd cc
+stopped stage_faults fetch_faults n files s log who at base shard (troubles.Changed first second) refusal shown is = absurd cc
+stopped {S} {F} {H} {T} stage_faults fetch_faults n files s log who at base shard troubles.Base refusal shown is = subst (λ (r : StepRefusal). IsRefusal s log who r) (damaged_memory {S = S} {F = F} {H = H} {T = T} at base refusal is) (tt, tt)
+
+-- ---- the shard of a steady address
+
+pub steady_shard : (s : Start) (files : Bytes → Bytes → ℕ → Option (List (Bytes × Bytes))) (is_there : Bytes → Bytes → ℕ → Option Bool) (is_quiet : Bool) (place name : Bytes) (number : ℕ) (a : Address) (sure : Bool) (before now : ℕ)
+    → AreSources s files is_there is_quiet → a ≡ address place name number → (is_quiet ≡ true → is_there place name number ≡ Some true → sure ≡ true) → before ≡ 0 → (sure ≡ true → now ≡ before)
+    → s.steady a.place a.index a.number ≡ true → now ≡ 0
+steady_shard s files is_there is_quiet place name number a sure before now sources made serves none stays steady =
+    let told : s.steady place name number ≡ true = sym (ap (λ (b : Address). s.steady b.place b.index b.number) made) ∙ steady in
+    let calm = sources.steady place name number told in
+    stays (serves calm.0 calm.1) ∙ none
 
 -- ---- what shows a cause goes on while others step
 
@@ -88,7 +132,7 @@ module _ {S F H T : Type 0} (c : Counts S F H T) (s : Start) (old new : List Mom
 
   shown_on : (why : Why) (b : By S F H T) → IsShown c s old who why b → IsShown c s new who why b
   shown_on OfDepot b h = depot_on b h
-  shown_on OfSource b h = subst (λ (t : Ticket). SourceShown c t b) (sym waited.alone) h
+  shown_on OfSource b h = subst (λ (t : Ticket). SourceShown c s t b) (sym waited.alone) h
   shown_on (OfChange first_len first_digest second_len second_digest) b h = change_on b ((first_len ≡ second_len) → (first_digest ≡ second_digest) → ⊥) h
   shown_on (OfDamage name) b h = damage_on b name h
 
@@ -104,7 +148,7 @@ module _ {S F H T : Type 0} (c : Counts S F H T) (files : Option (List (Bytes ×
   abbrev pub Caused : Cause S F H T → Type 0
   Caused cause = IsShown c s log who (why_of cause.why) cause.by × IsChangeOfUntold files cause.why
 
-  refused_shows : (index number : ℕ) (refusal : StepRefusal) (cause : Cause S F H T) → (ticket_of s log who).work ≡ Shard index number → WasRefused log who (told_refusal refusal) → cause_refused {S = S} {F = F} {H = H} {T = T} refusal ≡ Ok cause → Caused cause
+  refused_shows : (index number : ℕ) (refusal : StepRefusal) (cause : Cause S F H T) → (ticket_of s log who).work ≡ Shard index number → IsRefusal s log who refusal → cause_refused {S = S} {F = F} {H = H} {T = T} refusal ≡ Ok cause → Caused cause
   refused_shows index number steps.Memory cause work was is = cc
   refused_shows index number steps.TurnsSpent cause work was is = cc
   refused_shows index number (steps.Refused refusals.DepotFault) cause work was is =
@@ -112,13 +156,13 @@ module _ {S F H T : Type 0} (c : Counts S F H T) (files : Option (List (Bytes ×
       let same : entry ≡ cause = cc in
       subst Caused same (
         record {
-          front = was.1.front;
-          moment = record { entry = record { who = who; step = was.0; reply = Refused DepotFault }; image = was.1.image };
+          front = was.0.1.front;
+          moment = record { entry = record { who = who; step = was.0.0; reply = Refused DepotFault }; image = was.0.1.image };
           back = [];
-          is = was.1.is;
+          is = was.0.1.is;
           of = refl;
           reply = refl;
-          matters = subst (λ (w : Work). Matters w was.0) (sym work) tt;
+          matters = subst (λ (w : Work). Matters w was.0.0) (sym work) tt;
         },
         tt,
       )
@@ -150,23 +194,33 @@ module _ {S F H T : Type 0} (c : Counts S F H T) (files : Option (List (Bytes ×
       (subst (λ (n : ℕ). BaseFault s log who (ShardIndex bad.index bad.number n)) three bad.fault)) in
       subst Caused same ((record { index = at.index.number; number = at.number; base = b.number; work = work; base_is = base_is; name_is = refl }, fault), tt)
 
+  -- the shard has failed, whose address isn't steady
+  shard_faulty : (shard : H) → 0 < c.shard shard → (s.steady (c.made_for shard).place (c.made_for shard).index (c.made_for shard).number ≡ true → c.shard shard ≡ 0) → FaultyShard s (c.shard shard) (c.made_for shard)
+  shard_faulty shard some quiet = (
+    some,
+    elim (cases_Bool (s.steady (c.made_for shard).place (c.made_for shard).index (c.made_for shard).number)) [
+      | inl calm ↦ let none = quiet calm in absurd (omega (arith, some, none))
+      | inr other ↦ other
+    ],
+  )
+
   caused : (at : ShardId) (base : Option Id) (shard : H) (trouble : Trouble S F) (cause : Cause S F H T) → (ticket_of s log who).work ≡ Shard at.index.number at.number → (ticket_of s log who).base ≡ option_map number_of base
-      → IsOf (ticket_of s log who) (c.made_for shard) → Shown c.stage c.fetch (c.shard shard) files s log who trouble → IsChangeUntold s (ticket_of s log who) trouble
-      → cause_by {S = S} {F = F} {H = H} {T = T} at base shard trouble ≡ Ok cause → Caused cause
-  caused at base shard (troubles.Step refusal) cause work base_is of shown untold is = refused_shows at.index.number at.number refusal cause work shown is
-  caused at base shard troubles.Source cause work base_is of shown untold is =
+      → IsOf (ticket_of s log who) (c.made_for shard) → (s.steady (c.made_for shard).place (c.made_for shard).index (c.made_for shard).number ≡ true → c.shard shard ≡ 0)
+      → Shown c.stage c.fetch (c.shard shard) files s log who trouble → IsChangeUntold s (ticket_of s log who) trouble → cause_by {S = S} {F = F} {H = H} {T = T} at base shard trouble ≡ Ok cause → Caused cause
+  caused at base shard (troubles.Step refusal) cause work base_is of quiet shown untold is = refused_shows at.index.number at.number refusal cause work shown is
+  caused at base shard troubles.Source cause work base_is of quiet shown untold is =
       let made : Cause S F H T = record { why = whys.Source; by = shows.Object (objects.Shard shard) } in
-      let same : made ≡ cause = cc in subst Caused same ((shown, of), tt)
-  caused at base shard (troubles.Stage stage) cause work base_is of shown untold is =
+      let same : made ≡ cause = cc in subst Caused same ((shard_faulty shard shown quiet, of), tt)
+  caused at base shard (troubles.Stage stage) cause work base_is of quiet shown untold is =
       let made : Cause S F H T = record { why = whys.Depot; by = shows.Object (objects.Stage stage) } in
       let same : made ≡ cause = cc in subst Caused same (shown, tt)
-  caused at base shard (troubles.Fetch fetch) cause work base_is of shown untold is =
+  caused at base shard (troubles.Fetch fetch) cause work base_is of quiet shown untold is =
       let made : Cause S F H T = record { why = whys.Depot; by = shows.Object (objects.Fetch fetch) } in
       let same : made ≡ cause = cc in subst Caused same (shown, tt)
-  caused at base shard (troubles.Changed first second) cause work base_is of shown untold is =
+  caused at base shard (troubles.Changed first second) cause work base_is of quiet shown untold is =
       let made : Cause S F H T = record { why = whys.Changed first second; by = shows.Nothing } in
       let same : made ≡ cause = cc in subst Caused same ((two_parts first second shown.0, untold), shown.1)
-  caused at base shard troubles.Base cause work base_is of shown untold is = base_shows at base cause work base_is shown is
+  caused at base shard troubles.Base cause work base_is of quiet shown untold is = base_shows at base cause work base_is shown is
 
 -- ---- the end
 
@@ -180,13 +234,13 @@ of_on old new address worked of = record {
 
 module _ {S F H T : Type 0} (c : Counts S F H T) (files : Option (List (Bytes × Bytes))) (s : Start) (old mid : List Moment) (who : ℕ) (at : ShardId) (base : Option Id) (shard : H) (trouble : Trouble S F) (cause : Cause S F H T)
     (went : Went s old mid who) (work : (ticket_of s old who).work ≡ Shard at.index.number at.number) (base_is : (ticket_of s old who).base ≡ option_map number_of base) (of : IsOf (ticket_of s old who) (c.made_for shard))
-    (shown : Shown c.stage c.fetch (c.shard shard) files s mid who trouble) (untold : IsChangeUntold s (ticket_of s mid who) trouble) (is : cause_by {S = S} {F = F} {H = H} {T = T} at base shard trouble ≡ Ok cause) where
+    (quiet : s.steady (c.made_for shard).place (c.made_for shard).index (c.made_for shard).number ≡ true → c.shard shard ≡ 0) (shown : Shown c.stage c.fetch (c.shard shard) files s mid who trouble) (untold : IsChangeUntold s (ticket_of s mid who) trouble) (is : cause_by {S = S} {F = F} {H = H} {T = T} at base shard trouble ≡ Ok cause) where
   -- before the report
   pub cause_shown : IsShown c s mid who (why_of cause.why) cause.by × IsChangeOfUntold files cause.why
   cause_shown =
       let work_mid : (ticket_of s mid who).work ≡ Shard at.index.number at.number = ap (λ (t : Ticket). t.work) went.worked.is ∙ work in
       let base_mid : (ticket_of s mid who).base ≡ option_map number_of base = ap (λ (t : Ticket). t.base) went.worked.is ∙ base_is in
-      caused c files s mid who at base shard trouble cause work_mid base_mid (of_on (ticket_of s old who) (ticket_of s mid who) (c.made_for shard) went.worked of) shown untold is
+      caused c files s mid who at base shard trouble cause work_mid base_mid (of_on (ticket_of s old who) (ticket_of s mid who) (c.made_for shard) went.worked of) quiet shown untold is
 
   -- the ticket has ended as failed
   pub failed_end : (new : List Moment) → Stepped s mid new who (FailedStep (why_of cause.why)) HasEnded → ticket_of s new who ≡ record (ticket_of s mid who) { out = false } → IsUnitRefused c files s old new who (units.Failed cause.why)

@@ -43,19 +43,20 @@ read_once faults s t troubles.Base h = tt
 
 untold_at : (s : Start) (told : Option (List (Bytes × Bytes))) (old new : Ticket) (index number : ℕ) → Worked old new → old.work ≡ Shard index number
     → (s.known old.place old.name number ≡ true → told ≡ Some (s.told old.place old.name number)) → told ≡ None → IsUntold s new
-untold_at s told old new index number worked work tells none = λ i k work_new.
+untold_at s told old new index number worked work tells none =
     let place : new.place ≡ old.place = ap (λ (t : Ticket). t.place) worked.is in
-    let name : new.name ≡ old.name = ap (λ (t : Ticket). t.name) worked.is in
-    let same : Shard i k ≡ Shard index number = sym work_new ∙ ap (λ (t : Ticket). t.work) worked.is ∙ work in
-    let number_is : k ≡ number = cc in
-    elim (cases_Bool (s.known new.place new.name k)) [
-      | inl known ↦
-          let of_place : s.known old.place new.name k ≡ true = subst (λ (p : Bytes). s.known p new.name k ≡ true) place known in
-          let of_name : s.known old.place old.name k ≡ true = subst (λ (n : Bytes). s.known old.place n k ≡ true) name of_place in
-          let of_number : s.known old.place old.name number ≡ true = subst (λ (n : ℕ). s.known old.place old.name n ≡ true) number_is of_name in
-          absurd (some_none (s.told old.place old.name number) (sym (tells of_number) ∙ none))
-      | inr unknown ↦ unknown
-    ]
+    let name : new.name ≡ old.name = ap (λ (t : Ticket). t.name) worked.is in (
+      index,
+      number,
+      ap (λ (t : Ticket). t.work) worked.is ∙ work,
+      elim (cases_Bool (s.known new.place new.name number)) [
+        | inl known ↦
+            let of_place : s.known old.place new.name number ≡ true = subst (λ (p : Bytes). s.known p new.name number ≡ true) place known in
+            let of_name : s.known old.place old.name number ≡ true = subst (λ (n : Bytes). s.known old.place n number ≡ true) name of_place in
+            absurd (some_none (s.told old.place old.name number) (sym (tells of_name) ∙ none))
+        | inr unknown ↦ unknown
+      ],
+    )
 
 -- a file that changed after its shard was listed
 pub change_untold : {S F : Type 0} (stage_faults : S → ℕ) (fetch_faults : F → ℕ) (n : ℕ) (told : Option (List (Bytes × Bytes))) (listed : Option (List ListedFile)) (s : Start) (old new : List Moment) (who index number : ℕ) (uuid : Id) (base : IndexValue) (ps : List Planned) (first : ℕ) (trouble : Trouble S F)

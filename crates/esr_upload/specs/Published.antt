@@ -29,6 +29,7 @@ use Rattle.esr_upload.specs.Surveyed.{printed, TellsAll, IsShort, ListsAsMany, n
 pub record IsUnit (s : Start) (told : Option (List (Bytes × Bytes))) (is_there : Option Bool) (index number uuid : ℕ) (base : Option ℕ) (t : Ticket) : Type 0 where
   pub at : IsAt t index number
   pub undrawn : t.drawn ≡ 0
+  pub unnoted : t.noted ≡ []
   pub uuid_is : t.uuid ≡ uuid
   pub base_is : t.base ≡ base
   pub tells : s.known t.place t.name number ≡ true → (told ≡ Some (s.told t.place t.name number)) ⊎ (is_there ≡ Some false)
@@ -72,12 +73,13 @@ pub record HasIndex (s : Start) (index number : ℕ) (uuid : Id) (old new : Tick
   pub whole : IsShardIndex base
   pub unlisted : find (has_uuid uuid) base.snapshots ≡ None
 
--- The ticket of a shard has drawn an id for each file that reuses nothing and one more.
+-- The ticket of a shard has drawn an id for each file that reuses nothing and one more, and has committed nothing yet.
 pub record HasDrawn (s : Start) (told : Option (List (Bytes × Bytes))) (listed : Option (List ListedFile)) (index number : ℕ) (uuid : Id) (base : IndexValue) (ps : List Planned) (first : ℕ) (t : Ticket) : Type 0 where
   pub at : IsAt t index number
   pub uuid_is : t.uuid ≡ uuid.number
   pub from : t.first ≡ first
   pub drawn : t.drawn ≡ new_count ps + 1
+  pub unnoted : t.noted ≡ []
   pub based : s.tells ≡ true → Based (formats_of s) t index number t.base (shard_index_of base)
   pub none : t.base ≡ None → base ≡ record { files = []; snapshots = [] }
   pub whole : IsShardIndex base

@@ -12,9 +12,8 @@ use Rattle.esr_desk.specs.declared.fault.By.{By}
 use Rattle.esr_desk.specs.declared.unit.UnitRefusal.{UnitRefusal}
 use Rattle.esr_desk.specs.declared.unit.UnitRefusal.TheVariants as units
 use Rattle.esr_desk.specs.Entries.{why_of}
-use Rattle.esr_desk.specs.Refusals.{told_refusal}
 use Rattle.esr_desk.specs.Start.{Start, ticket_of}
-use Rattle.esr_desk.specs.Last.{IsLast, WasRefused}
+use Rattle.esr_desk.specs.Last.{IsLast, IsRefusal}
 use Rattle.esr_desk.specs.Shown.{Counts, IsShown}
 use Rattle.esr_upload.specs.Worked.{Worked}
 
@@ -58,4 +57,4 @@ pub record HasFailed {S F H T : Type 0} (c : Counts S F H T) (files : Option (Li
 abbrev pub IsUnitRefused : {S F H T : Type 0} → Counts S F H T → Option (List (Bytes × Bytes)) → Start → List Moment → List Moment → ℕ → UnitRefusal → Type 0
 IsUnitRefused c files s old new who (units.Failed why) =
     ((worked : Ticket) × Worked (ticket_of s old who) worked × (ticket_of s new who ≡ record worked { out = false })) × HasFailed c files s new who why
-IsUnitRefused c files s old new who (units.Stopped refusal) = Worked (ticket_of s old who) (ticket_of s new who) × WasRefused new who (told_refusal refusal)
+IsUnitRefused c files s old new who (units.Stopped refusal) = Worked (ticket_of s old who) (ticket_of s new who) × IsRefusal s new who refusal

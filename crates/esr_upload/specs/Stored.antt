@@ -1,6 +1,7 @@
 -- A file that is stored under an id.
-use Rattle.std.specs.Prelude.{◌≡◌, ℕ, false, true, Option, Some, None}
-use Rattle.esr_model.specs.Values.{Bytes}
+use Rattle.std.specs.Prelude.{◌≡◌, ℕ, ◌<◌, false, true, Option, Some, None}
+use Rattle.esr_model.specs.Names.{BlobName, File, Part}
+use Rattle.esr_model.specs.Values.{Bytes, Has}
 use Rattle.esr_model.specs.Uploads.{file_blobs}
 use Rattle.esr_core.specs.World.{Ticket, Shard}
 use Rattle.esr_core.specs.Steps.{Drew}
@@ -11,12 +12,23 @@ use Rattle.esr_formats.specs.Shards.{entry_of}
 use Rattle.esr_desk.specs.Start.{Start}
 use Rattle.esr_desk.specs.Taken.{after_writes}
 
--- the ticket is out for the shard, and has drawn the id
+-- the name is of a file with an id below this one
+abbrev pub IsFileBelow : ℕ → BlobName → Type 0
+IsFileBelow id (File index number file) = file < id
+IsFileBelow id (Part index number file part) = file < id
+IsFileBelow id name = ⊥
+
+-- the ticket has committed files with ids below this one, and nothing else
+abbrev pub AreBelow : Ticket → ℕ → Type 0
+AreBelow t id = (name : BlobName) → Has t.noted name → IsFileBelow id name
+
+-- the ticket is out for the shard, and has drawn the id, under which it has committed nothing yet
 pub record MayStore (t : Ticket) (index number id : ℕ) : Type 0 where
   pub out : t.out ≡ true
   pub unsettled : t.settled ≡ false
   pub work : t.work ≡ Shard index number
   pub drew : Drew t id
+  pub below : AreBelow t id
 
 -- the ticket is out for the shard
 pub record IsAt (t : Ticket) (index number : ℕ) : Type 0 where

@@ -5,7 +5,7 @@ use Rattle.esr_model.specs.Values.{Bytes}
 use Rattle.esr_core.specs.World.{Ticket}
 use Rattle.esr_core.specs.Entry.{Moment}
 use Rattle.esr_desk.specs.Start.{Start, ticket_of}
-use Rattle.esr_desk.specs.Grew.{Grew}
+use Rattle.esr_desk.specs.Grew.{GrewBy}
 
 -- it has drawn ids, fetched and committed blobs at most
 pub record Worked (old new : Ticket) : Type 0 where
@@ -17,5 +17,5 @@ pub record Worked (old new : Ticket) : Type 0 where
   pub is : new ≡ record old { first = first; drawn = drawn; noted = noted; wrote = wrote; read = read }
 
 pub record Went (s : Start) (old new : List Moment) (who : ℕ) : Type 0 where
-  pub grew : Grew s old new
+  pub grew : GrewBy s who old new
   pub worked : Worked (ticket_of s old who) (ticket_of s new who)

@@ -2,10 +2,8 @@
 ghost use Rattle.std.specs.Prelude.{◌≡◌, ◌<◌, None, Some, IfOk, IfErr, option_map, []};
 ghost use Rattle.esr_model.specs.Names.{ShardIndex as IndexName};
 ghost use Rattle.esr_core.specs.After.{fetching};
-ghost use Rattle.esr_depot.specs.Calls.{HasCause, has_failed};
 ghost use Rattle.esr_formats.specs.Ids.{number_of};
 ghost use Rattle.esr_formats.specs.Shards.{shard_index_of};
-ghost use Rattle.esr_parts.specs.Reads.{Tells};
 ghost use Rattle.esr_desk.specs.Start.{ticket_of, told_bytes};
 ghost use Rattle.esr_upload.specs.Base.{HasBase};
 ghost use Rattle.esr_upload.specs.Stored.{IsAt};
@@ -13,30 +11,15 @@ ghost use Rattle.esr_upload.specs.Trouble.{Shown};
 ghost use Rattle.esr_upload.specs.Worked.{Went};
 
 use crate::trouble::Trouble;
-use esr_depot::{CallError, Fetch};
+use esr_depot::CallError;
 use esr_desk::{Desk, StepRefusal};
+use esr_fetch::read_whole;
 use esr_formats::read_shard_index;
 use esr_json::ReadRefusal;
 use esr_names::{BlobName, Id, ShardId};
 use esr_seq::Bytes;
 use esr_shardidx::ShardIndex;
 use std::alloc::Global;
-
-/// The bytes that are left, which are read to their end.
-fn read_all<F: Fetch>(alloc: Global, fetch: &mut F) -> Result<Bytes, CallError>
-    ensures told { IfOk result (λ b. Tells (F.left fetch.old) b) }
-    ensures cause { HasCause (F.faults fetch.old) (F.faults fetch.new) (has_failed result) }
-{
-    let mut bytes = Vec::new(alloc);
-    let mut buf = [0; 65536];
-    loop {
-        let got = fetch.read(&mut buf)?;
-        if got == 0 {
-            return Ok(Bytes::from_vec(bytes));
-        }
-        bytes.extend_from_slice(&buf[..got])?;
-    }
-}
 
 /// The bytes of the base, which is there.
 fn fetch_bytes<Q: Desk>(
@@ -59,7 +42,7 @@ fn fetch_bytes<Q: Desk>(
         Some(fetch) => fetch,
         None => return Err(Trouble::Base),
     };
-    match read_all(alloc, &mut fetch) {
+    match read_whole(alloc, &mut fetch) {
         Ok(bytes) => Ok(bytes),
         Err(CallError::Memory) => Err(Trouble::Step(StepRefusal::Memory)),
         Err(CallError::Failed) => Err(Trouble::Fetch { fetch }),

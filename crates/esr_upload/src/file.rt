@@ -1,5 +1,5 @@
 //! The blobs of a file.
-ghost use Rattle.std.specs.Prelude.{◌≡◌, ◌+◌, ◌<◌, ◌≤◌, ◌^◌, [], IfErr, IfOk, IfSome, OnOk, IsSomeAnd, length};
+ghost use Rattle.std.specs.Prelude.{◌≡◌, ◌+◌, ◌<◌, ◌≤◌, ◌^◌, true, [], IfErr, IfOk, IfSome, OnOk, IsSomeAnd, length};
 ghost use Rattle.esr_formats.specs.Names.{name_of};
 ghost use Rattle.esr_hash.specs.Fed.{fed_count, HasFed};
 ghost use Rattle.esr_source.specs.Files.{bytes_at};
@@ -29,6 +29,7 @@ fn start_file<Q: Desk, S: Shard>(
     ensures started { OnOk result (S.left shard.new ≡ bytes_at (S.origin shard.old).files file) }
     ensures listed { S.listed shard.new ≡ S.listed shard.old }
     ensures origin { S.origin shard.new ≡ S.origin shard.old }
+    ensures steady { (S.origin shard.old).is_sure ≡ true → S.faults shard.new ≡ S.faults shard.old }
     ensures faults { S.faults shard.old ≤ S.faults shard.new }
     ensures trouble { IfErr result (IsOfStart (S.faults shard.new)) }
 {
@@ -57,6 +58,7 @@ fn put_part<Q: Desk, S: Shard, G: Gate>(
     requires buffer { 0 < length buf.old }
     ensures listed { S.listed shard.new ≡ S.listed shard.old }
     ensures origin { S.origin shard.new ≡ S.origin shard.old }
+    ensures steady { (S.origin shard.old).is_sure ≡ true → S.faults shard.new ≡ S.faults shard.old }
     ensures buffer { length buf.new ≡ length buf.old }
     ensures put { IfOk result (PutPart Q.start (S.left shard.old) (S.left shard.new) hasher.old hasher.new (ticket_of Q.start (Q.seen desk.old) ticket) (ticket_of Q.start (Q.seen desk.new) ticket) (name_of name) size) }
     ensures faults { S.faults shard.old ≤ S.faults shard.new }
@@ -98,6 +100,7 @@ fn put_parts<Q: Desk, S: Shard, G: Gate>(
     requires buffer { 0 < length buf.old }
     ensures listed { S.listed shard.new ≡ S.listed shard.old }
     ensures origin { S.origin shard.new ≡ S.origin shard.old }
+    ensures steady { (S.origin shard.old).is_sure ≡ true → S.faults shard.new ≡ S.faults shard.old }
     ensures buffer { length buf.new ≡ length buf.old }
     ensures put { OnOk result (PutParts Q.start (S.left shard.old) (S.left shard.new) hasher.new at entry.now (ticket_of Q.start (Q.seen desk.old) ticket) (ticket_of Q.start (Q.seen desk.new) ticket)) }
     ensures faults { S.faults shard.old ≤ S.faults shard.new }
@@ -138,6 +141,7 @@ pub fn store_file<Q: Desk, S: Shard, G: Gate>(
     requires buffer { 0 < length buf.old }
     ensures listed { S.listed shard.new ≡ S.listed shard.old }
     ensures origin { S.origin shard.new ≡ S.origin shard.old }
+    ensures steady { (S.origin shard.old).is_sure ≡ true → S.faults shard.new ≡ S.faults shard.old }
     ensures buffer { length buf.new ≡ length buf.old }
     ensures stored { OnOk result (Stored Q.start (bytes_at (S.origin shard.old).files file) at.index.number at.number entry.now (ticket_of Q.start (Q.seen desk.old) ticket) (ticket_of Q.start (Q.seen desk.new) ticket)) }
     ensures faults { S.faults shard.old ≤ S.faults shard.new }

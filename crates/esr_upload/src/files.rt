@@ -1,10 +1,10 @@
 //! The files of a shard, one after another.
-ghost use Rattle.std.specs.Prelude.{◌≡◌, ◌+◌, ◌-◌, ◌<◌, ◌≤◌, ◌^◌, min, sum_by, length, IfErr, IfOk, IsSomeAnd, IfSome};
+ghost use Rattle.std.specs.Prelude.{◌≡◌, ◌+◌, ◌-◌, ◌<◌, ◌≤◌, ◌^◌, true, min, sum_by, length, IfErr, IfOk, IsSomeAnd, IfSome};
 ghost use Rattle.esr_core.specs.Steps.{Drew};
 ghost use Rattle.esr_source.specs.Files.{bytes_at};
 ghost use Rattle.esr_desk.specs.Start.{ticket_of};
 ghost use Rattle.esr_upload.specs.Entries.{is_new, new_count, len_planned, entry_at, ReadOnce, Reads, StoredOne, StoredAll};
-ghost use Rattle.esr_upload.specs.Stored.{IsAt};
+ghost use Rattle.esr_upload.specs.Stored.{IsAt, AreBelow};
 ghost use Rattle.esr_upload.specs.Trouble.{Shown};
 ghost use Rattle.esr_upload.specs.Worked.{Went};
 
@@ -85,6 +85,7 @@ fn store_one<Q: Desk, S: Shard, G: Gate>(
     requires mine { Q.holds desk.old ticket }
     requires work { IsAt (ticket_of Q.start (Q.seen desk.old) ticket) at.index.number at.number }
     requires drew { is_new plan.now.reused ≡ 1 → Drew (ticket_of Q.start (Q.seen desk.old) ticket) name.number }
+    requires below { AreBelow (ticket_of Q.start (Q.seen desk.old) ticket) name.number }
     requires few { at.number < 1024 }
     requires size { (1 ≤ part_size) × (part_size ≤ 2 ^ 30) }
     requires short { plan.now.print.len < 2 ^ 60 }
@@ -94,8 +95,10 @@ fn store_one<Q: Desk, S: Shard, G: Gate>(
     requires buffer { 0 < length buf.old }
     ensures listed { S.listed shard.new ≡ S.listed shard.old }
     ensures origin { S.origin shard.new ≡ S.origin shard.old }
+    ensures steady { (S.origin shard.old).is_sure ≡ true → S.faults shard.new ≡ S.faults shard.old }
     ensures buffer { length buf.new ≡ length buf.old }
     ensures entry { IfOk result (λ e. e ≡ entry_at part_size name.number plan.now plan.now.reused) }
+    ensures below { IfOk result (λ e. AreBelow (ticket_of Q.start (Q.seen desk.new) ticket) (name.number + is_new plan.now.reused)) }
     ensures stored { IfOk result (λ e. StoredOne Q.start (bytes_at (S.origin shard.old).files file) at.index.number at.number plan.now e (ticket_of Q.start (Q.seen desk.old) ticket) (ticket_of Q.start (Q.seen desk.new) ticket)) }
     ensures faults { S.faults shard.old ≤ S.faults shard.new }
     ensures trouble { IfErr result (Shown Q.Stage.faults Q.Fetch.faults (S.faults shard.new) (S.origin shard.old).files Q.start (Q.seen desk.new) ticket) }
@@ -129,6 +132,7 @@ pub fn store_files<Q: Desk, S: Shard, G: Gate>(
     requires work { IsAt (ticket_of Q.start (Q.seen desk.old) ticket) at.index.number at.number }
     requires from { (ticket_of Q.start (Q.seen desk.old) ticket).first ≡ first.number }
     requires drawn { (ticket_of Q.start (Q.seen desk.old) ticket).drawn ≡ new_count plans.now + 1 }
+    requires below { AreBelow (ticket_of Q.start (Q.seen desk.old) ticket) first.number }
     requires room { first.number + (new_count plans.now + 1) < 2 ^ 128 }
     requires few { at.number < 1024 }
     requires size { (1 ≤ part_size) × (part_size ≤ 2 ^ 30) }
@@ -136,7 +140,9 @@ pub fn store_files<Q: Desk, S: Shard, G: Gate>(
     requires buffer { 0 < length buf.old }
     ensures listed { S.listed shard.new ≡ S.listed shard.old }
     ensures origin { S.origin shard.new ≡ S.origin shard.old }
+    ensures steady { (S.origin shard.old).is_sure ≡ true → S.faults shard.new ≡ S.faults shard.old }
     ensures buffer { length buf.new ≡ length buf.old }
+    ensures below { IfOk result (λ es. AreBelow (ticket_of Q.start (Q.seen desk.new) ticket) (first.number + new_count plans.now)) }
     ensures stored { IfOk result (λ es. StoredAll Q.start (S.origin shard.old).files at.index.number at.number part_size first.number plans.now es (ticket_of Q.start (Q.seen desk.old) ticket) (ticket_of Q.start (Q.seen desk.new) ticket)) }
     ensures trouble { IfErr result (Shown Q.Stage.faults Q.Fetch.faults (S.faults shard.new) (S.origin shard.old).files Q.start (Q.seen desk.new) ticket) }
     ensures went { Went Q.start (Q.seen desk.old) (Q.seen desk.new) ticket }

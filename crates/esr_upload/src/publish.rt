@@ -1,6 +1,7 @@
 //! The shard's snapshot and its index.
 ghost use Rattle.std.specs.Prelude.{◌≡◌, [], ◌∷◌, ◌<◌, None, false, IfErr, OnOk, Some};
-ghost use Rattle.esr_model.specs.Values.{ReadsBack};
+ghost use Rattle.esr_model.specs.Names.{ShardSnap as SnapName, ShardIndex as IndexName};
+ghost use Rattle.esr_model.specs.Values.{ReadsBack, Has};
 ghost use Rattle.esr_core.specs.Steps.{Drew};
 ghost use Rattle.esr_shardidx.specs.Snapshots.{are_snap_files};
 ghost use Rattle.esr_shardidx.specs.Indices.{with_snap_of};
@@ -8,11 +9,11 @@ ghost use Rattle.esr_formats.specs.Shards.{shard_snap_of, shard_snap_kind, shard
 ghost use Rattle.esr_results.specs.Results.{result_of};
 ghost use Rattle.esr_desk.specs.Start.{ticket_of};
 ghost use Rattle.esr_desk.specs.Conditions.{CanEnd};
-ghost use Rattle.esr_desk.specs.Grew.{Grew};
+ghost use Rattle.esr_desk.specs.Grew.{GrewBy};
 ghost use Rattle.esr_desk.specs.Taken.{after_writes};
 ghost use Rattle.esr_upload.specs.Published.{snap_blob, index_blob, last_blobs};
 ghost use Rattle.esr_upload.specs.Refused.{HasDone};
-ghost use Rattle.esr_upload.specs.Stored.{IsAt};
+ghost use Rattle.esr_upload.specs.Stored.{IsAt, AreBelow};
 ghost use Rattle.esr_upload.specs.Trouble.{BadBase, Shown};
 ghost use Rattle.esr_upload.specs.Worked.{Went};
 
@@ -37,6 +38,7 @@ fn put_snap<Q: Desk>(
     requires work { IsAt (ticket_of Q.start (Q.seen desk.old) ticket) at.index.number at.number }
     requires few { at.number < 1024 }
     requires uuid { (ticket_of Q.start (Q.seen desk.old) ticket).uuid ≡ snap.now.uuid.number }
+    requires unnoted { Has (ticket_of Q.start (Q.seen desk.old) ticket).noted (SnapName at.index.number at.number snap.now.uuid.number) → ⊥ }
     ensures ok { OnOk result (ticket_of Q.start (Q.seen desk.new) ticket ≡ after_writes Q.start (snap_blob at snap.now ∷ []) (ticket_of Q.start (Q.seen desk.old) ticket)) }
     ensures back { OnOk result (ReadsBack shard_snap_kind (shard_snap_of snap.now)) }
     ensures trouble { IfErr result (Shown Q.Stage.faults Q.Fetch.faults 0 (Some []) Q.start (Q.seen desk.new) ticket) }
@@ -62,6 +64,7 @@ fn put_index<Q: Desk>(
     requires work { IsAt (ticket_of Q.start (Q.seen desk.old) ticket) at.index.number at.number }
     requires few { at.number < 1024 }
     requires drew { Drew (ticket_of Q.start (Q.seen desk.old) ticket) generation.number }
+    requires unnoted { Has (ticket_of Q.start (Q.seen desk.old) ticket).noted (IndexName at.index.number at.number generation.number) → ⊥ }
     ensures ok { OnOk result (ticket_of Q.start (Q.seen desk.new) ticket ≡ after_writes Q.start (index_blob at generation index.now ∷ []) (ticket_of Q.start (Q.seen desk.old) ticket)) }
     ensures back { OnOk result (ReadsBack shard_index_kind (shard_index_of index.now)) }
     ensures trouble { IfErr result (Shown Q.Stage.faults Q.Fetch.faults 0 (Some []) Q.start (Q.seen desk.new) ticket) }
@@ -88,12 +91,13 @@ fn publish<Q: Desk>(
     requires few { outcome.now.shard.number < 1024 }
     requires uuid { (ticket_of Q.start (Q.seen desk.old) ticket).uuid ≡ snap.now.uuid.number }
     requires drew { Drew (ticket_of Q.start (Q.seen desk.old) ticket) outcome.now.generation.number }
+    requires files { AreBelow (ticket_of Q.start (Q.seen desk.old) ticket) outcome.now.generation.number }
     requires ready { ReadsBack shard_snap_kind (shard_snap_of snap.now) → ReadsBack shard_index_kind (shard_index_of index.now)
         → CanEnd Q.start (after_writes Q.start (last_blobs outcome.now.shard outcome.now.generation snap.now index.now) (ticket_of Q.start (Q.seen desk.old) ticket)) (result_of outcome.now) }
     ensures ok { OnOk result (HasDone Q.start (Q.seen desk.old) (Q.seen desk.new) ticket) }
     ensures trouble { IfErr result (Shown Q.Stage.faults Q.Fetch.faults 0 (Some []) Q.start (Q.seen desk.new) ticket) }
     ensures went { IfErr result (λ e. Went Q.start (Q.seen desk.old) (Q.seen desk.new) ticket) }
-    ensures grew { Grew Q.start (Q.seen desk.old) (Q.seen desk.new) }
+    ensures grew { GrewBy Q.start ticket (Q.seen desk.old) (Q.seen desk.new) }
     ensures holds { Q.holds desk.new ticket }
 {
     put_snap(alloc, desk, ticket, outcome.shard, snap)?;
@@ -124,13 +128,14 @@ pub fn finish<Q: Desk>(
     requires few { outcome.now.shard.number < 1024 }
     requires uuid { (ticket_of Q.start (Q.seen desk.old) ticket).uuid ≡ uuid.number }
     requires drew { Drew (ticket_of Q.start (Q.seen desk.old) ticket) outcome.now.generation.number }
+    requires files { AreBelow (ticket_of Q.start (Q.seen desk.old) ticket) outcome.now.generation.number }
     requires ahead { are_snap_files [] entries ≡ false → BadBase Q.start (Q.seen desk.old) ticket }
     requires ready { ReadsBack shard_snap_kind (shard_snap_of (record { files = entries; uuid = uuid })) → ReadsBack shard_index_kind (shard_index_of (with_snap_of base.now (record { files = entries; uuid = uuid })))
         → CanEnd Q.start (after_writes Q.start (last_blobs outcome.now.shard outcome.now.generation (record { files = entries; uuid = uuid }) (with_snap_of base.now (record { files = entries; uuid = uuid }))) (ticket_of Q.start (Q.seen desk.old) ticket)) (result_of outcome.now) }
     ensures ok { OnOk result (HasDone Q.start (Q.seen desk.old) (Q.seen desk.new) ticket) }
     ensures trouble { IfErr result (Shown Q.Stage.faults Q.Fetch.faults 0 (Some []) Q.start (Q.seen desk.new) ticket) }
     ensures went { IfErr result (λ e. Went Q.start (Q.seen desk.old) (Q.seen desk.new) ticket) }
-    ensures grew { Grew Q.start (Q.seen desk.old) (Q.seen desk.new) }
+    ensures grew { GrewBy Q.start ticket (Q.seen desk.old) (Q.seen desk.new) }
     ensures holds { Q.holds desk.new ticket }
 {
     let Some(snap) = ShardSnap::new(entries, uuid) else {

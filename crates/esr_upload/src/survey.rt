@@ -28,6 +28,7 @@ fn read_file<S: Shard>(
     requires buffer { 0 < length buf.old }
     ensures listed { S.listed shard.new ≡ S.listed shard.old }
     ensures origin { S.origin shard.new ≡ S.origin shard.old }
+    ensures steady { (S.origin shard.old).is_sure ≡ true → S.faults shard.new ≡ S.faults shard.old }
     ensures buffer { length buf.new ≡ length buf.old }
     ensures name { IfOk result (λ f. f.physical ≡ file.now.name) }
     ensures hashed { IfOk result (λ f. Hashed (bytes_at (S.origin shard.old).files place) file.now.length f.print) }
@@ -50,6 +51,7 @@ pub fn survey<S: Shard>(
     requires buffer { 0 < length buf.old }
     ensures buffer { length buf.new ≡ length buf.old }
     ensures origin { S.origin shard.new ≡ S.origin shard.old }
+    ensures steady { (S.origin shard.old).is_sure ≡ true → S.faults shard.new ≡ S.faults shard.old }
     ensures surveyed { IfOk result (λ fs. Surveyed (S.origin shard.old).files (S.listed shard.new) fs) }
     ensures absent { (S.origin shard.old).is_there ≡ Some false → IsErr result }
     ensures cause { HasCause (S.faults shard.old) (S.faults shard.new) (has_failed result) }

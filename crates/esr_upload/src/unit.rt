@@ -1,12 +1,12 @@
 //! The unit of a shard.
-ghost use Rattle.std.specs.Prelude.{◌≡◌, ◌+◌, ◌<◌, ◌≤◌, ◌^◌, ℕ, List, Option, None, Some, find, false, length, option_map, IfErr, IfOk, IsErr, OnOk};
+ghost use Rattle.std.specs.Prelude.{◌≡◌, ◌+◌, ◌<◌, ◌≤◌, ◌^◌, ℕ, List, Option, None, Some, find, false, true, length, option_map, IfErr, IfOk, IsErr, OnOk};
 ghost use Rattle.esr_formats.specs.Ids.{number_of};
 ghost use Rattle.esr_formats.specs.Shards.{shard_index_of};
 ghost use Rattle.esr_shardidx.specs.Indices.{has_uuid};
 ghost use Rattle.esr_desk.specs.Start.{ticket_of};
 ghost use Rattle.esr_desk.specs.Taken.{Took};
-ghost use Rattle.esr_desk.specs.Sources.{TellsFiles};
-ghost use Rattle.esr_desk.specs.Grew.{Grew};
+ghost use Rattle.esr_desk.specs.Sources.{AreSources};
+ghost use Rattle.esr_desk.specs.Grew.{GrewBy};
 ghost use Rattle.esr_upload.specs.Entries.{new_count};
 ghost use Rattle.esr_upload.specs.Published.{IsUnit, IsPlanned, HasIndex, HasDrawn, ReadShown};
 ghost use Rattle.esr_upload.specs.Refused.{IsOfShard, told_of, HasDone, IsUnitRefused};
@@ -70,6 +70,7 @@ fn plan_files<Q: Desk, S: Shard>(
     requires buffer { 0 < length buf.old }
     ensures buffer { length buf.new ≡ length buf.old }
     ensures origin { S.origin shard.new ≡ S.origin shard.old }
+    ensures steady { (S.origin shard.old).is_sure ≡ true → S.faults shard.new ≡ S.faults shard.old }
     ensures planned { IfOk result (IsPlanned (S.origin shard.old).files (S.listed shard.new) base.now) }
     ensures absent { (S.origin shard.old).is_there ≡ Some false → IsErr result }
     ensures trouble { IfErr result (ReadShown (S.faults shard.new)) }
@@ -107,8 +108,9 @@ fn store<Q: Desk, S: Shard, G: Gate>(
     ensures trouble { IfErr result (Shown Q.Stage.faults Q.Fetch.faults (S.faults shard.new) (S.origin shard.old).files Q.start (Q.seen desk.new) ticket) }
     ensures untold { IfErr result (IsChangeUntold Q.start (ticket_of Q.start (Q.seen desk.new) ticket)) }
     ensures origin { S.origin shard.new ≡ S.origin shard.old }
+    ensures steady { (S.origin shard.old).is_sure ≡ true → S.faults shard.new ≡ S.faults shard.old }
     ensures went { IfErr result (λ e. Went Q.start (Q.seen desk.old) (Q.seen desk.new) ticket) }
-    ensures grew { Grew Q.start (Q.seen desk.old) (Q.seen desk.new) }
+    ensures grew { GrewBy Q.start ticket (Q.seen desk.old) (Q.seen desk.new) }
     ensures holds { Q.holds desk.new ticket }
 {
     let entries = store_files(
@@ -146,8 +148,9 @@ fn work<Q: Desk, S: Shard, G: Gate>(
     ensures trouble { IfErr result (Shown Q.Stage.faults Q.Fetch.faults (S.faults shard.new) (S.origin shard.old).files Q.start (Q.seen desk.new) ticket) }
     ensures untold { IfErr result (IsChangeUntold Q.start (ticket_of Q.start (Q.seen desk.new) ticket)) }
     ensures origin { S.origin shard.new ≡ S.origin shard.old }
+    ensures steady { (S.origin shard.old).is_sure ≡ true → S.faults shard.new ≡ S.faults shard.old }
     ensures went { IfErr result (λ e. Went Q.start (Q.seen desk.old) (Q.seen desk.new) ticket) }
-    ensures grew { Grew Q.start (Q.seen desk.old) (Q.seen desk.new) }
+    ensures grew { GrewBy Q.start ticket (Q.seen desk.old) (Q.seen desk.new) }
     ensures holds { Q.holds desk.new ticket }
 {
     let mut buf = [0; 65536];
@@ -183,13 +186,13 @@ pub fn run_unit<Q: Desk<Shard = S::Shard>, S: Sources, G: Gate>(
     requires mine { Q.holds desk.old unit.now.ready.ticket }
     requires fresh { Took Q.start (Q.seen desk.old) unit.now }
     requires work { IsOfShard unit.now.ready.work }
-    requires sources { TellsFiles Q.start (S.files sources.now) (S.is_there sources.now) }
+    requires sources { AreSources Q.start (S.files sources.now) (S.is_there sources.now) (S.is_quiet sources.now) }
     requires size { part_size ≡ Q.start.part_size }
     requires sized { (1 ≤ part_size) × (part_size ≤ 2 ^ 30) }
     ensures ok { OnOk result (HasDone Q.start (Q.seen desk.old) (Q.seen desk.new) unit.now.ready.ticket) }
     ensures refused { IfErr result (IsUnitRefused (record { stage = Q.Stage.faults; fetch = Q.Fetch.faults; shard = S.Shard.faults; target = Q.Target.faults; made_for = λ h. (S.Shard.origin h).address })
         (told_of (S.files sources.now) unit.now.ready.work) Q.start (Q.seen desk.old) (Q.seen desk.new) unit.now.ready.ticket) }
-    ensures grew { Grew Q.start (Q.seen desk.old) (Q.seen desk.new) }
+    ensures grew { GrewBy Q.start unit.now.ready.ticket (Q.seen desk.old) (Q.seen desk.new) }
     ensures holds { Q.holds desk.new unit.now.ready.ticket }
 {
     let ticket = unit.ready.ticket;

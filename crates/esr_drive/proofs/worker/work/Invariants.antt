@@ -1,6 +1,13 @@
-use Rattle.esr_desk.specs.Grew.{Grew}
+use Rattle.std.proofs.Common.{◌≡◌, ◌≤◌, true, [], length}
+use Rattle.esr_desk.specs.Grew.{NoneOut}
+use Rattle.esr_quiet.specs.Asked.{GrewAsking}
 use Rattle.esr_drive.proofs.worker.work.Given as goal
 
--- the history has gone on
-abbrev pub invariant-loop : goal.invariant-loop
-invariant-loop g l = Grew g.Q.Desk.start (g.Q.Desk.seen l.fn.desk) (g.Q.Desk.seen l.desk)
+-- the history has gone on, by a step at least in each round, and all tickets have ended
+abbrev pub invariant-loop-round : goal.invariant-loop-round
+invariant-loop-round g l =
+    record {
+      grew : GrewAsking g.Q.Desk.start [] (g.Q.Desk.seen l.fn.desk) (g.Q.Desk.seen l.desk);
+      rest : g.Q.Desk.start.alone ≡ true → NoneOut g.Q.Desk.start (g.Q.Desk.seen l.fn.desk) → NoneOut g.Q.Desk.start (g.Q.Desk.seen l.desk);
+      rounds : l._round ≤ length (g.Q.Desk.seen l.desk);
+    }

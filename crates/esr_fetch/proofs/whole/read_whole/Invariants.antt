@@ -1,4 +1,4 @@
-use Rattle.std.proofs.Common.{◌-◌, ◌^◌, ◌≤◌, length}
+use Rattle.std.proofs.Common.{◌≡◌, ◌-◌, ◌^◌, ◌≤◌, length}
 use Rattle.std.specs.Io.KnownBytes.{Consumes}
 use Rattle.esr_fetch.proofs.whole.read_whole.Given as goal
 
@@ -7,6 +7,7 @@ invariant-loop-bytes g l =
     record {
       took : Consumes (g.F.Fetch.left l.fn.fetch) (g.F.Fetch.left l.fetch) l.bytes.items;
       later : g.F.Counted.faults l.fn.fetch ≤ g.F.Counted.faults l.fetch;
+      sure : g.F.Fetch.is_sure l.fetch ≡ g.F.Fetch.is_sure l.fn.fetch;
     }
 
 abbrev pub decreases-loop-bytes : goal.decreases-loop-bytes

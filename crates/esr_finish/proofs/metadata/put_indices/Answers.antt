@@ -45,3 +45,8 @@ loop-index-preserved g c =
       went = went_on s old mid new who c.loop-index.invariant.went c.put_index.ensures.went;
       holds = c.put_index.ensures.holds;
     }
+
+pub returns-in_err-put_index-clause-went : goal.returns-in_err-put_index-clause-went
+returns-in_err-put_index-clause-went g c =
+    let seen = g.Q.Desk.seen in
+    went_on g.Q.Desk.start (seen c.args.desk.now) (seen c.loop-index.desk) (seen c.put_index.new.desk) c.args.ticket c.loop-index.invariant.went c.put_index.ensures.went

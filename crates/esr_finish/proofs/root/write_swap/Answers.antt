@@ -1,6 +1,7 @@
 use Rattle.esr_formats.specs.Infos.{info_of_code}
 use Rattle.esr_formats.specs.Roots.{root_of}
 use Rattle.esr_desk.specs.Start.{ticket_of}
+use Rattle.esr_finish.proofs.Runs.{went_on}
 use Rattle.esr_finish.proofs.Swaps.{root_next}
 use Rattle.esr_finish.proofs.root.write_swap.Goals as goal
 
@@ -10,3 +11,18 @@ put_root-requires-clause-may g c κs within =
     let t0 = ticket_of s (g.Q.Desk.seen c.args.desk.now) c.args.ticket in
     let t1 = ticket_of s (g.Q.Desk.seen c.put_metadata.new.desk) c.args.ticket in
     root_next s t0 t1 (info_of_code c.args.info.now) (root_of c.args.root.now) c.requires.may c.in_ok-put_metadata.ensures.ok c.put_metadata.ensures.went.worked
+
+pub returns-in_err-generation-clause-went : goal.returns-in_err-generation-clause-went
+returns-in_err-generation-clause-went g c =
+    let seen = g.Q.Desk.seen in
+    went_on g.Q.Desk.start (seen c.args.desk.now) (seen c.put_metadata.new.desk) (seen c.put_root.new.desk) c.args.ticket c.put_metadata.ensures.went c.put_root.ensures.went
+
+pub returns-clause-went : goal.returns-clause-went
+returns-clause-went g c =
+    let s = g.Q.Desk.start in
+    let who = c.args.ticket in
+    let old = g.Q.Desk.seen c.args.desk.now in
+    let metadata = g.Q.Desk.seen c.put_metadata.new.desk in
+    let root = g.Q.Desk.seen c.put_root.new.desk in
+    let new = g.Q.Desk.seen c.put_latest.new.desk in
+    went_on s old root new who (went_on s old metadata root who c.put_metadata.ensures.went c.put_root.ensures.went) c.put_latest.ensures.went

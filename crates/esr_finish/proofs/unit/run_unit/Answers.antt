@@ -1,15 +1,15 @@
 use Rattle.std.proofs.Common.{◌≡◌, Err}
 use Rattle.esr_desk.specs.Taken.{IsSettled}
 use Rattle.esr_desk.specs.declared.refusal.StepRefusal.TheVariants as steps
-use Rattle.esr_core.specs.Entry.{SettleStep, FinishStep, WasSettled, HasEnded}
 use Rattle.esr_formats.specs.Infos.{info_of_code}
 use Rattle.esr_formats.specs.Roots.{root_of}
 use Rattle.esr_desk.specs.Start.{ticket_of}
 use Rattle.esr_finish.specs.Ticket.{MayWrite}
 use Rattle.esr_finish.specs.Refused.{IsUnitRefused}
-use Rattle.esr_finish.proofs.Runs.{grew_on, outcome_grew, left_cases}
+use Rattle.esr_desk.specs.Grew.{grew_by_on}
+use Rattle.esr_finish.proofs.Runs.{left_cases}
 use Rattle.esr_finish.proofs.Swaps.{took_writes, settle_next}
-use Rattle.esr_finish.proofs.Ends.{stopped_err, settle_refused, finish_refused, fail_ends, by_stage, fault_was, by_step}
+use Rattle.esr_finish.proofs.Ends.{stopped_err, settle_grew, finish_grew, settle_refused, finish_refused, fail_ends, by_stage, fault_was, by_step}
 use Rattle.esr_finish.proofs.unit.run_unit.Goals as goal
 use Rattle.esr_finish.proofs.unit.run_unit.Goals.{In-Some}
 
@@ -53,16 +53,30 @@ returns-in_err-finish-in-Ok-clause-refused g c =
     (finish_refused s g.Q.Stage.Counted.faults old mid last new who (info_of_code c.in-Finalize.info) (root_of c.in-Some.root) c.in_err-finish-in-Ok.field-0.0 (may_write g (goal.at.returns-in_err-finish-in-Ok-clause-refused g c).In-Some) c.in-Ok.ensures.ok
     c.in_ok-settle-in-Ok.ensures.own c.in_err-finish-in-Ok.ensures.kept c.in_err-finish-in-Ok.ensures.step)
 
+pub returns-in_err-settle-in-Ok-clause-grew : goal.returns-in_err-settle-in-Ok-clause-grew
+returns-in_err-settle-in-Ok-clause-grew g c =
+    let seen = g.Q.Desk.seen in
+    settle_grew g.Q.Desk.start (seen c.args.desk.now) (seen c.write_swap.new.desk) (seen c.settle.new.self) c.args.unit.now.ready.ticket c.settle.result c.write_swap.ensures.went.grew c.settle.ensures.step
+
 pub returns-in_err-finish-in-Ok-clause-grew : goal.returns-in_err-finish-in-Ok-clause-grew
 returns-in_err-finish-in-Ok-clause-grew g c =
-    let s = g.Q.Desk.start in
-    let old = g.Q.Desk.seen c.args.desk.now in
-    let mid = g.Q.Desk.seen c.write_swap.new.desk in
-    let last = g.Q.Desk.seen c.settle.new.self in
-    let new = g.Q.Desk.seen c.finish.new.self in
-    let who = c.args.unit.now.ready.ticket in
-    grew_on s old mid new c.write_swap.ensures.went.grew
-    (grew_on s mid last new (outcome_grew s mid last who SettleStep (λ done. WasSettled) c.settle.result c.settle.ensures.step) (outcome_grew s last new who FinishStep (λ done. HasEnded) c.finish.result c.finish.ensures.step))
+    let seen = g.Q.Desk.seen in
+    finish_grew g.Q.Desk.start (seen c.args.desk.now) (seen c.write_swap.new.desk) (seen c.settle.new.self) (seen c.finish.new.self) c.args.unit.now.ready.ticket c.settle.result c.finish.result c.write_swap.ensures.went.grew c.settle.ensures.step c.finish.ensures.step
+
+pub returns-in_ok-finish-in-Ok-clause-grew : goal.returns-in_ok-finish-in-Ok-clause-grew
+returns-in_ok-finish-in-Ok-clause-grew g c =
+    let seen = g.Q.Desk.seen in
+    finish_grew g.Q.Desk.start (seen c.args.desk.now) (seen c.write_swap.new.desk) (seen c.settle.new.self) (seen c.finish.new.self) c.args.unit.now.ready.ticket c.settle.result c.finish.result c.write_swap.ensures.went.grew c.settle.ensures.step c.finish.ensures.step
+
+pub returns-in-Err-Stage-clause-grew : goal.returns-in-Err-Stage-clause-grew
+returns-in-Err-Stage-clause-grew g c =
+    let seen = g.Q.Desk.seen in
+    grew_by_on g.Q.Desk.start c.args.unit.now.ready.ticket (seen c.args.desk.now) (seen c.write_swap.new.desk) (seen c.fail.new.desk) c.write_swap.ensures.went.grew c.fail.ensures.grew
+
+pub returns-in-Err-Step-Refused-DepotFault-clause-grew : goal.returns-in-Err-Step-Refused-DepotFault-clause-grew
+returns-in-Err-Step-Refused-DepotFault-clause-grew g c =
+    let seen = g.Q.Desk.seen in
+    grew_by_on g.Q.Desk.start c.args.unit.now.ready.ticket (seen c.args.desk.now) (seen c.write_swap.new.desk) (seen c.fail-in-Err-Step-Refused-DepotFault.new.desk) c.write_swap.ensures.went.grew c.fail-in-Err-Step-Refused-DepotFault.ensures.grew
 
 pub returns-in-Err-Stage-clause-refused : goal.returns-in-Err-Stage-clause-refused
 returns-in-Err-Stage-clause-refused g c =
@@ -87,5 +101,5 @@ returns-in-Err-Step-Refused-DepotFault-clause-refused g c =
     let at = c.in-Err-Step-Refused-DepotFault in
     let step_is : at.field-0-0 ≡ steps.Refused at.field-0-0-0 = rw at.field-0-is at at.field-0-0-is in
     fail_ends s faults old mid new who (info_of_code c.in-Finalize.info) (root_of c.in-Some.root) c.fail-in-Err-Step-Refused-DepotFault.result (may_write g (goal.at.returns-in-Err-Step-Refused-DepotFault-clause-refused g c).In-Some) c.write_swap.ensures.went
-    (by_step s faults mid who (fault_was faults mid who at.field-0 at.field-0-0 at.field-0-0-0 at.field-0-is step_is (rw (at.field-0-is, step_is) at at.field-0-0-0-is) at.ensures.refused))
+    (by_step s faults mid who (fault_was s faults mid who at.field-0 at.field-0-0 at.field-0-0-0 at.field-0-is step_is (rw (at.field-0-is, step_is) at at.field-0-0-0-is) at.ensures.refused))
     c.fail-in-Err-Step-Refused-DepotFault.ensures.reported

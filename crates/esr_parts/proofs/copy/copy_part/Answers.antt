@@ -4,7 +4,7 @@ use Rattle.std.proofs.lemmas.Grind.{common_steps}
 use Rattle.std.specs.Io.KnownBytes.{append_known}
 use Rattle.esr_hash.specs.Fed.{HasFed}
 use Rattle.esr_parts.specs.Reads.{Fed}
-use Rattle.esr_parts.proofs.Pieces.{fed_more, stage_more, consumes_more, on_ok}
+use Rattle.esr_parts.proofs.Pieces.{fed_more, stage_more, consumes_more, on_ok, steady_more}
 use Rattle.esr_parts.proofs.copy.copy_part.Goals as goal
 
 pub loop-left-preserved : goal.loop-left-preserved
@@ -32,6 +32,9 @@ loop-left-preserved g c =
       name = c.write_at_gate.ensures.name ∙ inv.name;
       source = omega (arith, read.cause.later, inv.source);
       stage = omega (arith, c.write_at_gate.ensures.cause.later, inv.stage);
+      steady = steady_more (g.S.Shard.origin c.args.shard.now) (g.S.Shard.origin c.loop-left.shard) (g.S.Counted.faults c.args.shard.now) (g.S.Counted.faults c.loop-left.shard)
+          (g.S.Counted.faults c.read.new.self) inv.origin inv.steady read.sure;
+      sure = c.write_at_gate.ensures.sure ∙ inv.sure;
       room = omega (arith, room, inv.room, ap (λ (bytes : List ℕ). length bytes) same, len);
       piece = inv.piece ++ piece;
       fed = fed_more c.args.hasher.now c.loop-left.hasher c.feed.new.self inv.piece piece inv.fed fed;

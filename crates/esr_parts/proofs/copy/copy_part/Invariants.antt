@@ -1,4 +1,4 @@
-use Rattle.std.proofs.Common.{◌≡◌, ◌+◌, ◌≤◌, List, ℕ, length}
+use Rattle.std.proofs.Common.{◌≡◌, ◌+◌, ◌≤◌, true, List, ℕ, length}
 use Rattle.std.specs.Io.KnownBytes.{Consumes, append_known}
 use Rattle.esr_parts.specs.Reads.{Fed}
 use Rattle.esr_parts.proofs.copy.copy_part.Given as goal
@@ -12,6 +12,8 @@ invariant-loop-left g l =
       name : g.W.Stage.name l.stage ≡ g.W.Stage.name l.fn.stage;
       source : g.S.Counted.faults l.fn.shard ≤ g.S.Counted.faults l.shard;
       stage : g.W.Counted.faults l.fn.stage ≤ g.W.Counted.faults l.stage;
+      steady : (g.S.Shard.origin l.fn.shard).is_sure ≡ true → g.S.Counted.faults l.shard ≡ g.S.Counted.faults l.fn.shard;
+      sure : g.W.Stage.is_sure l.stage ≡ g.W.Stage.is_sure l.fn.stage;
       room : l.left ≤ g.W.Stage.room l.stage;
       piece : List ℕ;
       fed : Fed l.fn.hasher l.hasher piece;

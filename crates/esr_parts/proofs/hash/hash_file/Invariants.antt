@@ -1,4 +1,4 @@
-use Rattle.std.proofs.Common.{◌≡◌, ◌+◌, ◌≤◌, List, ℕ, length}
+use Rattle.std.proofs.Common.{◌≡◌, ◌+◌, ◌≤◌, true, List, ℕ, length}
 use Rattle.std.specs.Io.KnownBytes.{Consumes}
 use Rattle.esr_hash.specs.Fed.{HasFed}
 use Rattle.esr_source.specs.Files.{bytes_at}
@@ -11,6 +11,7 @@ invariant-loop-left g l =
       origin : g.S.Shard.origin l.shard ≡ g.S.Shard.origin l.fn.shard;
       buffer : length l.buf ≡ length l.fn.buf;
       later : g.S.Counted.faults l.fn.shard ≤ g.S.Counted.faults l.shard;
+      steady : (g.S.Shard.origin l.fn.shard).is_sure ≡ true → g.S.Counted.faults l.shard ≡ g.S.Counted.faults l.fn.shard;
       bytes : List ℕ;
       fed : HasFed l.hasher bytes;
       took : Consumes (bytes_at (g.S.Shard.origin l.fn.shard).files l.file) (g.S.Shard.left l.shard) bytes;

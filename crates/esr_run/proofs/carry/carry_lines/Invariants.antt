@@ -1,12 +1,13 @@
 use Rattle.std.proofs.Common.{◌≡◌, None, length}
-use Rattle.esr_desk.specs.Grew.{Grew}
 use Rattle.esr_run.specs.Script.{first_bad}
+use Rattle.esr_run.proofs.Making.{Front, Rests}
 use Rattle.esr_run.proofs.carry.carry_lines.Given as goal
 
 abbrev pub invariant-loop-left : goal.invariant-loop-left
 invariant-loop-left g l =
     record {
-      grew : Grew g.Q.Desk.start (g.Q.Desk.seen l.fn.desk) (g.Q.Desk.seen l.desk);
+      front : Front g.Q.Desk.start l.moment l.left l.lines (g.Q.Desk.seen l.fn.desk) (g.Q.Desk.seen l.desk);
+      rests : Rests g.Q.Desk.start (g.Q.Desk.seen l.fn.desk) (g.Q.Desk.seen l.desk);
       good : first_bad l.left ≡ None;
     }
 

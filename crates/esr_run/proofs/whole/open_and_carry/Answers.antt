@@ -1,4 +1,4 @@
-use Rattle.std.proofs.Common.{◌≤◌, inl, inr, ap, sym, ◌∙◌, subst}
+use Rattle.std.proofs.Common.{◌≤◌, inl, inr, refl, ap, sym, ◌∙◌, subst}
 use Rattle.esr_depot.specs.Look.{now}
 use Rattle.esr_formats.specs.Clusters.{cluster_of}
 use Rattle.esr_formats.specs.Roots.{root_of}
@@ -6,43 +6,45 @@ use Rattle.esr_opening.specs.Opening.{Kept}
 use Rattle.esr_run.specs.Causes.{IsTold}
 use Rattle.esr_run.specs.Faults.{listed}
 use Rattle.esr_run.proofs.Worlds.{begun_world, begins}
-use Rattle.esr_run.proofs.Ending.{tells_files, refused_at, unopened, opened_run, verdict_opening, verdict_refused}
+use Rattle.esr_run.specs.Start.{is_calm_by}
+use Rattle.esr_run.proofs.Smoothly.{calm_enough, taken_calm, opens_well, refused_well}
+use Rattle.esr_run.proofs.Ending.{are_sources, refused_at, unopened, opened_run, verdict_opening, verdict_refused}
 use Rattle.esr_run.proofs.Counting.{counted_from, counted_none, named_none}
 use Rattle.esr_run.proofs.whole.open_and_carry.Goals as goal
 
 pub run_told-requires-clause-begun : goal.run_told-requires-clause-begun
 run_told-requires-clause-begun g c κs within =
     let k : Kept = record { cluster = c.in-Ok.opening.cluster; root = c.in-Ok.opening.root; plan = c.in-Ok.opening.progress; next = c.in-Ok.opening.next.number } in
-    begins (g.S.Sources.files c.args.sources.now) c.args.asked.now.part_size (g.D.Depot.look c.args.depot) (g.D.Depot.look c.in-Ok.opening.depot) k c.in-Ok.ensures.opened c.only_now.ensures
+    begins (record { files = g.S.Sources.files c.args.sources.now; is_there = g.S.Sources.is_there c.args.sources.now; is_quiet = g.S.Sources.is_quiet c.args.sources.now }) c.args.asked.now.part_size (is_calm_by (g.D.Depot.look c.in-Ok.opening.depot).sure) (g.D.Depot.look c.args.depot) (g.D.Depot.look c.in-Ok.opening.depot) k c.in-Ok.ensures.opened c.only_now.ensures
 
 pub run_told-requires-clause-sources : goal.run_told-requires-clause-sources
 run_told-requires-clause-sources g c κs within =
-    tells_files (g.S.Sources.files c.args.sources.now) c.args.asked.now.part_size (g.D.Depot.look c.in-Ok.opening.depot) (begun_world (now (g.D.Depot.look c.in-Ok.opening.depot)) (cluster_of c.in-Ok.opening.cluster) (root_of c.in-Ok.opening.root)) (g.S.Sources.is_there c.args.sources.now)
+    are_sources (record { files = g.S.Sources.files c.args.sources.now; is_there = g.S.Sources.is_there c.args.sources.now; is_quiet = g.S.Sources.is_quiet c.args.sources.now }) c.args.asked.now.part_size (is_calm_by (g.D.Depot.look c.in-Ok.opening.depot).sure) (g.D.Depot.look c.in-Ok.opening.depot) (begun_world (now (g.D.Depot.look c.in-Ok.opening.depot)) (cluster_of c.in-Ok.opening.cluster) (root_of c.in-Ok.opening.root))
 
 pub returns-in-Ok-clause-run : goal.returns-in-Ok-clause-run
 returns-in-Ok-clause-run g c =
     let k : Kept = record { cluster = c.in-Ok.opening.cluster; root = c.in-Ok.opening.root; plan = c.in-Ok.opening.progress; next = c.in-Ok.opening.next.number } in
-    inr (opened_run c.laws.ensures _ (g.S.Sources.files c.args.sources.now) c.args.asked.now.part_size (g.D.Depot.look c.args.depot) (g.D.Depot.look c.in-Ok.opening.depot) (g.D.Depot.look c.run_told.result.0.depot) k c.run_told.result.0.history c.run_told.result.1
-    c.in-Ok.ensures.opened c.run_told.ensures.legal c.run_told.ensures.past c.run_told.ensures.shown)
+    inr (opened_run c.laws.ensures _ (record { files = g.S.Sources.files c.args.sources.now; is_there = g.S.Sources.is_there c.args.sources.now; is_quiet = g.S.Sources.is_quiet c.args.sources.now }) c.args.asked.now.part_size c.args.moment c.args.asked.now.script (is_calm_by (g.D.Depot.look c.in-Ok.opening.depot).sure) (g.D.Depot.look c.args.depot) (g.D.Depot.look c.in-Ok.opening.depot) (g.D.Depot.look c.run_told.result.0.depot) k c.run_told.result.0.history c.run_told.result.1
+    c.in-Ok.ensures.opened (taken_calm (g.D.Depot.look c.args.depot).sure (g.D.Depot.look c.in-Ok.opening.depot).sure c.in-Ok.ensures.spent) c.run_told.ensures.legal c.run_told.ensures.past c.run_told.ensures.shown c.run_told.ensures.once c.run_told.ensures.calm c.run_told.ensures.made)
 
 pub returns-in-Ok-clause-told : goal.returns-in-Ok-clause-told
 returns-in-Ok-clause-told g c =
     let k : Kept = record { cluster = c.in-Ok.opening.cluster; root = c.in-Ok.opening.root; plan = c.in-Ok.opening.progress; next = c.in-Ok.opening.next.number } in
-    verdict_opening c.run_told.result.0.verdict.status c.run_told.result.0.verdict.text (record { stage = g.D.Stage.Counted.faults; fetch = g.D.Fetch.Counted.faults; shard = g.S.Shard.Counted.faults; target = g.T.Target.Counted.faults; made_for = λ h. (g.S.Shard.Shard.origin h).address }) (g.S.Sources.files c.args.sources.now) c.args.asked.now.part_size (g.D.Depot.look c.args.depot) (g.D.Depot.look c.run_told.result.0.depot) (g.D.Counted.faults c.args.depot) (g.D.Counted.faults c.run_told.result.0.depot)
+    verdict_opening c.run_told.result.0.verdict.status c.run_told.result.0.verdict.text (record { stage = g.D.Stage.Counted.faults; fetch = g.D.Fetch.Counted.faults; shard = g.S.Shard.Counted.faults; target = g.T.Target.Counted.faults; made_for = λ h. (g.S.Shard.Shard.origin h).address }) (record { files = g.S.Sources.files c.args.sources.now; is_there = g.S.Sources.is_there c.args.sources.now; is_quiet = g.S.Sources.is_quiet c.args.sources.now }) c.args.asked.now.part_size c.args.moment (g.D.Depot.look c.args.depot) (g.D.Depot.look c.run_told.result.0.depot) (g.D.Counted.faults c.args.depot) (g.D.Counted.faults c.run_told.result.0.depot)
     c.args.asked.now.script c.run_told.result.0.history c.run_told.result.1 c.run_told.ensures.told
-    (opened_run c.laws.ensures _ (g.S.Sources.files c.args.sources.now) c.args.asked.now.part_size (g.D.Depot.look c.args.depot) (g.D.Depot.look c.in-Ok.opening.depot) (g.D.Depot.look c.run_told.result.0.depot) k c.run_told.result.0.history c.run_told.result.1
-    c.in-Ok.ensures.opened c.run_told.ensures.legal c.run_told.ensures.past c.run_told.ensures.shown)
+    (opened_run c.laws.ensures _ (record { files = g.S.Sources.files c.args.sources.now; is_there = g.S.Sources.is_there c.args.sources.now; is_quiet = g.S.Sources.is_quiet c.args.sources.now }) c.args.asked.now.part_size c.args.moment c.args.asked.now.script (is_calm_by (g.D.Depot.look c.in-Ok.opening.depot).sure) (g.D.Depot.look c.args.depot) (g.D.Depot.look c.in-Ok.opening.depot) (g.D.Depot.look c.run_told.result.0.depot) k c.run_told.result.0.history c.run_told.result.1
+    c.in-Ok.ensures.opened (taken_calm (g.D.Depot.look c.args.depot).sure (g.D.Depot.look c.in-Ok.opening.depot).sure c.in-Ok.ensures.spent) c.run_told.ensures.legal c.run_told.ensures.past c.run_told.ensures.shown c.run_told.ensures.once c.run_told.ensures.calm c.run_told.ensures.made)
 
 pub returns-in-Err-clause-run : goal.returns-in-Err-clause-run
 returns-in-Err-clause-run g c =
-    inl (unopened c.laws.ensures _ (g.S.Sources.files c.args.sources.now) (g.D.Depot.look c.args.depot) (g.D.Depot.look c.ended_at.result.depot) (g.D.Counted.faults c.args.depot) (g.D.Counted.faults c.ended_at.result.depot) c.ended_at.result.history c.faults_of.result c.in-Err.refusal
+    inl (unopened c.laws.ensures _ (record { files = g.S.Sources.files c.args.sources.now; is_there = g.S.Sources.is_there c.args.sources.now; is_quiet = g.S.Sources.is_quiet c.args.sources.now }) (g.D.Depot.look c.args.depot) (g.D.Depot.look c.ended_at.result.depot) (g.D.Counted.faults c.args.depot) (g.D.Counted.faults c.ended_at.result.depot) c.ended_at.result.history c.faults_of.result c.in-Err.refusal
     (refused_at g.D.Fetch.Counted.faults (g.D.Depot.look c.args.depot) (g.D.Depot.look c.in-Err.depot) (g.D.Depot.look c.ended_at.result.depot) (g.D.Counted.faults c.args.depot) (g.D.Counted.faults c.in-Err.depot) (g.D.Counted.faults c.ended_at.result.depot) c.in-Err.refusal
     (ap g.D.Depot.look c.ended_at.ensures.depot) (ap g.D.Counted.faults c.ended_at.ensures.depot) c.in-Err.ensures.refused)
     c.ended_at.ensures.history (c.faults_of.ensures ∙ ap listed c.stop_of-stop.ensures.fetch))
 
 pub returns-in-Err-clause-told : goal.returns-in-Err-clause-told
 returns-in-Err-clause-told g c =
-    verdict_refused c.ended_at.result.verdict.status c.ended_at.result.verdict.text (record { stage = g.D.Stage.Counted.faults; fetch = g.D.Fetch.Counted.faults; shard = g.S.Shard.Counted.faults; target = g.T.Target.Counted.faults; made_for = λ h. (g.S.Shard.Shard.origin h).address }) (g.S.Sources.files c.args.sources.now) c.args.asked.now.part_size (g.D.Depot.look c.args.depot) (g.D.Depot.look c.ended_at.result.depot) (g.D.Counted.faults c.args.depot) (g.D.Counted.faults c.ended_at.result.depot)
+    verdict_refused c.ended_at.result.verdict.status c.ended_at.result.verdict.text (record { stage = g.D.Stage.Counted.faults; fetch = g.D.Fetch.Counted.faults; shard = g.S.Shard.Counted.faults; target = g.T.Target.Counted.faults; made_for = λ h. (g.S.Shard.Shard.origin h).address }) (record { files = g.S.Sources.files c.args.sources.now; is_there = g.S.Sources.is_there c.args.sources.now; is_quiet = g.S.Sources.is_quiet c.args.sources.now }) c.args.asked.now.part_size c.args.moment (g.D.Depot.look c.args.depot) (g.D.Depot.look c.ended_at.result.depot) (g.D.Counted.faults c.args.depot) (g.D.Counted.faults c.ended_at.result.depot)
     c.args.asked.now.script c.ended_at.result.history c.faults_of.result c.in-Err.refusal
     (subst (IsTold c.ended_at.result.verdict.status c.ended_at.result.verdict.text) c.stop_of-stop.ensures.stop c.ended_at.ensures.told)
     (refused_at g.D.Fetch.Counted.faults (g.D.Depot.look c.args.depot) (g.D.Depot.look c.in-Err.depot) (g.D.Depot.look c.ended_at.result.depot) (g.D.Counted.faults c.args.depot) (g.D.Counted.faults c.in-Err.depot) (g.D.Counted.faults c.ended_at.result.depot) c.in-Err.refusal
@@ -57,3 +59,22 @@ returns-in-Err-clause-counted g c = counted_none (g.D.Counted.faults c.args.depo
 
 pub returns-in-Err-clause-named : goal.returns-in-Err-clause-named
 returns-in-Err-clause-named g c = named_none c.ended_at.result.history c.ended_at.ensures.history
+
+pub run_told-requires-clause-calm : goal.run_told-requires-clause-calm
+run_told-requires-clause-calm g c κs within = calm_enough (g.D.Depot.look c.in-Ok.opening.depot).sure
+
+pub run_told-requires-clause-alone : goal.run_told-requires-clause-alone
+run_told-requires-clause-alone g c κs within = refl
+
+pub returns-in-Ok-clause-complete : goal.returns-in-Ok-clause-complete
+returns-in-Ok-clause-complete g c =
+    let k : Kept = record { cluster = c.in-Ok.opening.cluster; root = c.in-Ok.opening.root; plan = c.in-Ok.opening.progress; next = c.in-Ok.opening.next.number } in
+    opens_well c.laws.ensures c.quiet_laws.ensures _ (record { files = g.S.Sources.files c.args.sources.now; is_there = g.S.Sources.is_there c.args.sources.now; is_quiet = g.S.Sources.is_quiet c.args.sources.now }) c.args.asked.now.part_size c.args.moment c.args.asked.now.script (is_calm_by (g.D.Depot.look c.in-Ok.opening.depot).sure) (g.D.Depot.look c.args.depot) (g.D.Depot.look c.in-Ok.opening.depot) (g.D.Depot.look c.run_told.result.0.depot) k c.run_told.result.0.history c.run_told.result.1
+    c.run_told.result.0.verdict.status c.run_told.result.0.verdict.text c.in-Ok.ensures.opened (taken_calm (g.D.Depot.look c.args.depot).sure (g.D.Depot.look c.in-Ok.opening.depot).sure c.in-Ok.ensures.spent)
+    c.run_told.ensures.legal c.run_told.ensures.past c.run_told.ensures.shown c.run_told.ensures.once c.run_told.ensures.calm c.run_told.ensures.made c.run_told.ensures.named c.requires.good c.run_told.ensures.told c.run_told.ensures.done
+
+pub returns-in-Err-clause-complete : goal.returns-in-Err-clause-complete
+returns-in-Err-clause-complete g c =
+    refused_well _ (record { files = g.S.Sources.files c.args.sources.now; is_there = g.S.Sources.is_there c.args.sources.now; is_quiet = g.S.Sources.is_quiet c.args.sources.now }) c.args.asked.now.part_size c.args.moment c.args.asked.now.script (g.D.Depot.look c.args.depot) (g.D.Depot.look c.in-Err.depot) (g.D.Depot.look c.ended_at.result.depot) (g.D.Counted.faults c.args.depot) (g.D.Counted.faults c.in-Err.depot)
+    c.ended_at.result.history c.faults_of.result c.ended_at.result.verdict.status c.ended_at.result.verdict.text c.in-Err.refusal
+    (subst (IsTold c.ended_at.result.verdict.status c.ended_at.result.verdict.text) c.stop_of-stop.ensures.stop c.ended_at.ensures.told) c.in-Err.ensures.refused c.in-Err.ensures.sure

@@ -6,9 +6,12 @@ use Rattle.esr_parts.specs.declared.copy.CopyError.{CopyError}
 use Rattle.esr_desk.specs.Refusals.{told_refusal}
 use Rattle.esr_desk.specs.Start.{ticket_of}
 use Rattle.esr_desk.specs.Outcome.{commit_reply}
+use Rattle.esr_desk.specs.Grew.{stepped_grew_by, refusing_grew_by}
 use Rattle.esr_upload.specs.declared.trouble.Trouble.TheVariants.{Step}
 use Rattle.esr_upload.specs.Trouble.{Shown}
-use Rattle.esr_upload.proofs.FileParts.{refusing_last, err_passed, refused_grew, made_grew, has_fault, begun_is, stage_holds, can_commit, went_same, went_refused, not_there, part_put, went_put}
+use Rattle.esr_upload.proofs.Going.{refusal_last}
+use Rattle.esr_upload.proofs.Putting.{is_faulty}
+use Rattle.esr_upload.proofs.FileParts.{err_passed, begun_is, stage_holds, can_commit, went_same, went_refused, not_there, part_put, went_put}
 use Rattle.esr_upload.proofs.file.put_part.Goals as goal
 
 pub begin-requires-clause-may : goal.begin-requires-clause-may
@@ -20,19 +23,20 @@ returns-in_err-named-clause-trouble g c =
     let refusal = c.in_err-named.field-0.0 in
     let log = g.Q.Desk.seen c.begin.new.self in
     err_passed c.from_residual.result (Shown g.Q.Stage.Counted.faults g.Q.Fetch.Counted.faults (g.S.Counted.faults c.args.shard.now) (g.S.Shard.origin c.args.shard.now).files s log c.args.ticket) (Step refusal)
-    c.from_residual.ensures.1 (refusing_last s (g.Q.Desk.seen c.args.desk.now) log c.args.ticket (BeginStep (name_of c.args.name)) (told_refusal refusal) c.in_err-named.ensures.step)
+    c.from_residual.ensures.1 (refusal_last s (g.Q.Desk.seen c.args.desk.now) log c.args.ticket (BeginStep (name_of c.args.name)) refusal c.in_err-named.ensures.step)
 
 pub returns-in_err-named-clause-went : goal.returns-in_err-named-clause-went
 returns-in_err-named-clause-went g c =
     let s = g.Q.Desk.start in
     let old = g.Q.Desk.seen c.args.desk.now in
     let new = g.Q.Desk.seen c.begin.new.self in
-    went_same s old new c.args.ticket (refused_grew s old new c.args.ticket (BeginStep (name_of c.args.name)) c.in_err-named.field-0.0 c.in_err-named.ensures.step)
+    went_same s old new c.args.ticket (refusing_grew_by s old new c.args.ticket (BeginStep (name_of c.args.name)) (told_refusal c.in_err-named.field-0.0) c.in_err-named.ensures.step.0)
     (begun_is s c.args.name c.begin.result (ticket_of s old c.args.ticket) (ticket_of s new c.args.ticket) c.requires.may c.begin.ensures.own)
 
 pub returns-in-Err-Stage-clause-trouble : goal.returns-in-Err-Stage-clause-trouble
 returns-in-Err-Stage-clause-trouble g c =
-    has_fault (g.Q.Stage.Counted.faults c.in_ok-named.named.stage) (g.Q.Stage.Counted.faults c.copy_part.new.stage) (is_of_stage {T = Bool} (Err c.in-Err-Stage.field-0)) c.in-Err-Stage.ensures.stage
+    is_faulty g.Q.Desk.start (g.Q.Stage.Counted.faults c.in_ok-named.named.stage) (g.Q.Stage.Counted.faults c.copy_part.new.stage) (is_of_stage {T = Bool} (Err c.in-Err-Stage.field-0)) c.in-Err-Stage.ensures.stage
+    (λ quiet. c.in-Err-Stage.ensures.sure (c.in_ok-named.ensures.sure quiet))
     (ap (λ (e : CopyError). is_of_stage {T = Bool} (Err e)) c.in-Err-Stage.field-0-is)
 
 pub commit-requires-clause-may : goal.commit-requires-clause-may
@@ -64,8 +68,8 @@ returns-clause-went g c =
     let mid = g.Q.Desk.seen c.begin.new.self in
     let new = g.Q.Desk.seen c.commit.new.self in
     went_put s (g.S.Shard.left c.args.shard.now) (g.S.Shard.left c.copy_part.new.shard) c.args.hasher.now c.copy_part.new.hasher old mid new c.args.ticket (name_of c.args.name) c.args.size
-    (made_grew s old mid c.args.ticket (BeginStep (name_of c.args.name)) WasBegun c.in_ok-named.ensures.step)
-    (made_grew s mid new c.args.ticket (CommitStep (name_of c.in_ok-named.named.name)) (commit_reply c.in_ok-commit.field-0) c.in_ok-commit.ensures.step)
+    (stepped_grew_by s old mid c.args.ticket (BeginStep (name_of c.args.name)) WasBegun c.in_ok-named.ensures.step)
+    (stepped_grew_by s mid new c.args.ticket (CommitStep (name_of c.in_ok-named.named.name)) (commit_reply c.in_ok-commit.field-0) c.in_ok-commit.ensures.step)
     (returns-clause-put g c)
 
 pub returns-in_err-commit-clause-trouble : goal.returns-in_err-commit-clause-trouble
@@ -75,7 +79,7 @@ returns-in_err-commit-clause-trouble g c =
     let log = g.Q.Desk.seen c.commit.new.self in
     err_passed c.from_residual-in_err-commit.result (Shown g.Q.Stage.Counted.faults g.Q.Fetch.Counted.faults (g.S.Counted.faults c.copy_part.new.shard) (g.S.Shard.origin c.args.shard.now).files s log c.args.ticket) (Step refusal)
     c.from_residual-in_err-commit.ensures.1
-    (refusing_last s (g.Q.Desk.seen c.begin.new.self) log c.args.ticket (CommitStep (name_of c.in_ok-named.named.name)) (told_refusal refusal) c.in_err-commit.ensures.step)
+    (refusal_last s (g.Q.Desk.seen c.begin.new.self) log c.args.ticket (CommitStep (name_of c.in_ok-named.named.name)) refusal c.in_err-commit.ensures.step)
 
 pub returns-in_err-commit-clause-went : goal.returns-in_err-commit-clause-went
 returns-in_err-commit-clause-went g c =
@@ -86,6 +90,6 @@ returns-in_err-commit-clause-went g c =
     let begun = c.in_ok-named.ensures in
     let refused = c.in_err-commit.ensures in
     went_refused s old mid new c.args.ticket
-    (made_grew s old mid c.args.ticket (BeginStep (name_of c.args.name)) WasBegun begun.step)
-    (refused_grew s mid new c.args.ticket (CommitStep (name_of c.in_ok-named.named.name)) c.in_err-commit.field-0.0 refused.step)
+    (stepped_grew_by s old mid c.args.ticket (BeginStep (name_of c.args.name)) WasBegun begun.step)
+    (refusing_grew_by s mid new c.args.ticket (CommitStep (name_of c.in_ok-named.named.name)) (told_refusal c.in_err-commit.field-0.0) refused.step.0)
     begun.own refused.kept

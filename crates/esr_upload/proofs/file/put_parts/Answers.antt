@@ -1,7 +1,8 @@
 use Rattle.std.proofs.Common.{◌≡◌, ◌<◌, ◌≤◌, ◌+◌, ◌*◌, ◌-◌, ◌^◌, min, [], ◌++◌, length, length-append, refl, ◌∙◌, arith}
+use Rattle.esr_shardidx.specs.Parts.{part_count}
 use Rattle.esr_desk.specs.Start.{ticket_of}
-use Rattle.esr_upload.specs.Pieces.{blob_name, cut}
-use Rattle.esr_upload.proofs.Going.{went_none, went_on}
+use Rattle.esr_upload.specs.Pieces.{blob_name}
+use Rattle.esr_upload.proofs.Going.{went_none, went_on, steady_on}
 use Rattle.esr_upload.proofs.Pieces.{can_store_next, cut_none, cut_put, consumes_none, consumes_more, all_put, short_put}
 use Rattle.esr_upload.proofs.file.put_parts.Goals as goal
 
@@ -10,6 +11,7 @@ loop-number-init g c = record {
   holds = c.requires.mine;
   listed = refl;
   origin = refl;
+  steady = λ sure. refl;
   buffer = refl;
   later = omega arith;
   bytes = [];
@@ -26,9 +28,11 @@ put_part-requires-clause-may g c κs within =
     let s = g.Q.Desk.start in
     let e = c.args.entry.now in
     let number = c.loop-number.number in
+    let test : number < c.part_count-number-end.result = c.loop-number-test.true in
+    let less : number < part_count e.print.len e.part_size = omega (arith, test, c.part_count-number-end.ensures.count) in
     let low : number * e.part_size < 2 ^ 61 = omega (arith, c.part_plan-size.ensures.place, c.part_plan-size.ensures.within, c.requires.short) in
-    can_store_next s (ticket_of s (g.Q.Desk.seen c.args.desk.now) c.args.ticket) (ticket_of s (g.Q.Desk.seen c.loop-number.desk) c.args.ticket) (cut (blob_name c.args.at e) e.part_size 0 number inv.bytes) c.args.at e number c.part_name-name.result
-    c.requires.may c.requires.few c.requires.size.0 low inv.is c.part_name-name.ensures
+    can_store_next s (ticket_of s (g.Q.Desk.seen c.args.desk.now) c.args.ticket) (ticket_of s (g.Q.Desk.seen c.loop-number.desk) c.args.ticket) inv.bytes c.args.at e number c.part_name-name.result
+    c.requires.may c.requires.few c.requires.size.0 low less inv.is c.part_name-name.ensures
 
 pub loop-number-preserved : goal.loop-number-preserved
 loop-number-preserved g c =
@@ -50,6 +54,7 @@ loop-number-preserved g c =
       holds = done.holds;
       listed = done.listed ∙ inv.listed;
       origin = done.origin ∙ inv.origin;
+      steady = steady_on (g.S.Shard.origin c.args.shard.now) (g.S.Shard.origin c.loop-number.shard) (g.S.Counted.faults c.args.shard.now) (g.S.Counted.faults c.loop-number.shard) (g.S.Counted.faults c.put_part.new.shard) inv.origin inv.steady done.steady;
       buffer = done.buffer ∙ inv.buffer;
       later = omega (arith, inv.later, done.faults);
       bytes = inv.bytes ++ put.piece;
@@ -84,3 +89,9 @@ returns-then-not-branch-clause-put g c =
     short_put s (g.S.Shard.left c.args.shard.now) (g.S.Shard.left c.loop-number.shard) (g.S.Shard.left c.put_part.new.shard) c.put_part.new.hasher c.args.at e
     (ticket_of s (g.Q.Desk.seen c.args.desk.now) c.args.ticket) (ticket_of s (g.Q.Desk.seen c.put_part.new.desk) c.args.ticket) inv.bytes put.piece
     inv.took put.took (put.fed.joined inv.bytes inv.fed) short.1 less
+
+pub returns-in_err-put_part-clause-went : goal.returns-in_err-put_part-clause-went
+returns-in_err-put_part-clause-went g c = went_on g.Q.Desk.start (g.Q.Desk.seen c.args.desk.now) (g.Q.Desk.seen c.loop-number.desk) (g.Q.Desk.seen c.put_part.new.desk) c.args.ticket c.loop-number.invariant.went c.put_part.ensures.went
+
+pub returns-then-not-branch-clause-went : goal.returns-then-not-branch-clause-went
+returns-then-not-branch-clause-went g c = went_on g.Q.Desk.start (g.Q.Desk.seen c.args.desk.now) (g.Q.Desk.seen c.loop-number.desk) (g.Q.Desk.seen c.put_part.new.desk) c.args.ticket c.loop-number.invariant.went c.put_part.ensures.went

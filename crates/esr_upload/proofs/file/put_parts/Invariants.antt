@@ -1,4 +1,4 @@
-use Rattle.std.proofs.Common.{◌≡◌, ◌*◌, ◌≤◌, ℕ, List, length, min}
+use Rattle.std.proofs.Common.{◌≡◌, ◌*◌, ◌≤◌, ℕ, true, List, length, min}
 use Rattle.std.specs.Io.KnownBytes.{Consumes}
 use Rattle.esr_hash.specs.Fed.{HasFed}
 use Rattle.esr_desk.specs.Start.{ticket_of}
@@ -13,6 +13,7 @@ invariant-loop-number g l =
       holds : g.Q.Desk.holds l.desk l.ticket;
       listed : g.S.Shard.listed l.shard ≡ g.S.Shard.listed l.fn.shard;
       origin : g.S.Shard.origin l.shard ≡ g.S.Shard.origin l.fn.shard;
+      steady : (g.S.Shard.origin l.fn.shard).is_sure ≡ true → g.S.Counted.faults l.shard ≡ g.S.Counted.faults l.fn.shard;
       buffer : length l.buf ≡ length l.fn.buf;
       later : g.S.Counted.faults l.fn.shard ≤ g.S.Counted.faults l.shard;
       bytes : List ℕ;

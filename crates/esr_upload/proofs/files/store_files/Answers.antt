@@ -1,14 +1,16 @@
-use Rattle.std.proofs.Common.{◌+◌, ◌<◌, ◌≤◌, IfSome, List, length, refl, sym, ◌∙◌, subst, arith}
+use Rattle.std.proofs.Common.{◌≡◌, ◌+◌, ◌<◌, ◌≤◌, IfSome, List, length, take, ap, refl, sym, ◌∙◌, subst, arith}
+use Rattle.std.proofs.lemmas.List.{take_all}
 use Rattle.esr_core.specs.World.{Ticket}
 use Rattle.esr_source.specs.Files.{bytes_at}
 use Rattle.esr_source.specs.Origin.{Origin}
 use Rattle.esr_shardidx.specs.declared.entry.FileEntry.{FileEntry as CodeEntry}
 use Rattle.esr_desk.specs.Start.{ticket_of}
-use Rattle.esr_upload.specs.Entries.{blobs_at, ReadOnce, StoredOne}
+use Rattle.esr_upload.specs.Entries.{is_new, new_count, blobs_at, ReadOnce, StoredOne}
 use Rattle.esr_upload.proofs.Planning.{count_front, count_next}
 use Rattle.esr_upload.proofs.Modelled.{reads_place}
 use Rattle.esr_upload.proofs.Writing.{writes_keep, writes_at}
-use Rattle.esr_upload.proofs.Going.{went_none, went_on}
+use Rattle.esr_upload.proofs.Going.{went_none, went_on, steady_on}
+use Rattle.esr_upload.proofs.Noting.{are_below_later}
 use Rattle.esr_upload.proofs.Storing.{StoredFirst, stored_none, stored_next, stored_all, next_short, next_read}
 use Rattle.esr_upload.proofs.files.store_files.Goals as goal
 
@@ -21,8 +23,10 @@ loop-file-init g c =
       at = c.requires.work;
       from = c.requires.from;
       drawn = c.requires.drawn;
+      below = c.requires.below;
       listed = refl;
       origin = refl;
+      steady = λ sure. refl;
       buffer = refl;
       went = went_none s (g.Q.Desk.seen c.args.desk.now) c.args.ticket;
       next = omega arith;
@@ -80,13 +84,16 @@ loop-file-preserved g c =
     let is = c.is_new.ensures in
     let from = c.from.ensures in
     let next = inv.next in
+    let after : c.loop-file.next.number + is_new p.reused ≤ c.loop-file.next.number + c.from.result = omega (arith, is, from) in
     record {
       holds = c.store_one.ensures.holds;
       at = writes_at s blobs mid new index number one.is inv.at;
       from = writes_keep (λ (t : Ticket). t.first) (λ t n w. refl) s blobs mid new one.is ∙ inv.from;
       drawn = writes_keep (λ (t : Ticket). t.drawn) (λ t n w. refl) s blobs mid new one.is ∙ inv.drawn;
+      below = are_below_later new (c.loop-file.next.number + is_new p.reused) (c.loop-file.next.number + c.from.result) after c.in_ok-entry.ensures.below;
       listed = c.store_one.ensures.listed ∙ inv.listed;
       origin = c.store_one.ensures.origin ∙ inv.origin;
+      steady = steady_on (g.S.Shard.origin c.args.shard.now) (g.S.Shard.origin c.loop-file.shard) (g.S.Counted.faults c.args.shard.now) (g.S.Counted.faults c.loop-file.shard) (g.S.Counted.faults c.store_one.new.shard) inv.origin inv.steady c.store_one.ensures.steady;
       buffer = c.store_one.ensures.buffer ∙ inv.buffer;
       went = went_on s (g.Q.Desk.seen c.args.desk.now) (g.Q.Desk.seen c.loop-file.desk) (g.Q.Desk.seen c.store_one.new.desk) who inv.went c.store_one.ensures.went;
       next = omega (arith, count, is, from, next);
@@ -102,3 +109,20 @@ returns-clause-stored g c =
     let le : length c.args.plans.now ≤ c.loop-file.file = omega arith in
     stored_all s (g.S.Shard.origin c.args.shard.now).files (g.S.Shard.listed c.args.shard.now) c.args.at.index.number c.args.at.number c.args.part_size c.args.first.number c.loop-file.file c.args.plans.now c.loop-file.entries
     (ticket_of s (g.Q.Desk.seen c.args.desk.now) who) (ticket_of s (g.Q.Desk.seen c.loop-file.desk) who) c.requires.reads le c.loop-file.invariant.stored
+
+pub returns-clause-below : goal.returns-clause-below
+returns-clause-below g c =
+    let ps = c.args.plans.now in
+    let i = c.loop-file.file in
+    let inv = c.loop-file.invariant in
+    let le : length ps ≤ i = omega arith in
+    let count : new_count (take i ps) ≡ new_count ps = ap new_count (take_all i ps le) in
+    let next = inv.next in
+    let last : c.loop-file.next.number ≤ c.args.first.number + new_count ps = omega (arith, next, count) in
+    are_below_later (ticket_of g.Q.Desk.start (g.Q.Desk.seen c.loop-file.desk) c.args.ticket) c.loop-file.next.number (c.args.first.number + new_count ps) last inv.below
+
+pub returns-in_err-entry-clause-went : goal.returns-in_err-entry-clause-went
+returns-in_err-entry-clause-went g c = went_on g.Q.Desk.start (g.Q.Desk.seen c.args.desk.now) (g.Q.Desk.seen c.loop-file.desk) (g.Q.Desk.seen c.store_one.new.desk) c.args.ticket c.loop-file.invariant.went c.store_one.ensures.went
+
+pub returns-in_err-push-clause-went : goal.returns-in_err-push-clause-went
+returns-in_err-push-clause-went g c = went_on g.Q.Desk.start (g.Q.Desk.seen c.args.desk.now) (g.Q.Desk.seen c.loop-file.desk) (g.Q.Desk.seen c.store_one.new.desk) c.args.ticket c.loop-file.invariant.went c.store_one.ensures.went

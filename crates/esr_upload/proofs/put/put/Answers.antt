@@ -1,14 +1,15 @@
 use Rattle.std.proofs.Common.{Option, Ok, Some, [], sym, ap, ◌∙◌}
+use Rattle.std.specs.Result.{is_err}
 use Rattle.std.specs.Io.KnownBytes.{append_known}
 use Rattle.esr_model.specs.Values.{Bytes}
 use Rattle.esr_core.specs.Entry.{BeginStep, CommitStep}
 use Rattle.esr_formats.specs.Names.{name_of}
 use Rattle.esr_desk.specs.Start.{ticket_of}
-use Rattle.esr_desk.specs.Refusals.{told_refusal}
 use Rattle.esr_desk.specs.Outcome.{commit_reply}
+use Rattle.esr_desk.specs.Grew.{outcome_grew_by}
 use Rattle.esr_upload.specs.Trouble.{Shown}
-use Rattle.esr_upload.proofs.Going.{went_on, outcome_grew}
-use Rattle.esr_upload.proofs.Putting.{refusing_last, begun_went, went_same, told_append, step_err, on_ok, has_risen, committed_done}
+use Rattle.esr_upload.proofs.Going.{went_on, refusal_last}
+use Rattle.esr_upload.proofs.Putting.{begun_went, went_same, told_append, step_err, on_ok, is_faulty, never_err, committed_done}
 use Rattle.esr_upload.proofs.put.put.Goals as goal
 
 pub returns-in_err-named-clause-trouble : goal.returns-in_err-named-clause-trouble
@@ -18,7 +19,7 @@ returns-in_err-named-clause-trouble g c =
     let new = g.Q.Desk.seen c.begin.new.self in
     let who = c.args.ticket in
     step_err c.from_residual.result (Shown g.Q.Stage.Counted.faults g.Q.Fetch.Counted.faults 0 (Some []) s new who) c.in_err-named.field-0.0 c.from_residual.ensures.1
-    (refusing_last s old new who (BeginStep (name_of c.args.name)) (told_refusal c.in_err-named.field-0.0) c.in_err-named.ensures.step)
+    (refusal_last s old new who (BeginStep (name_of c.args.name)) c.in_err-named.field-0.0 c.in_err-named.ensures.step)
 
 pub returns-in_err-named-clause-went : goal.returns-in_err-named-clause-went
 returns-in_err-named-clause-went g c =
@@ -29,7 +30,9 @@ returns-in_err-named-clause-went g c =
     begun_went s old new who (name_of c.args.name) c.begin.result c.requires.may.stored c.begin.ensures.step c.begin.ensures.own
 
 pub returns-then-is_err-clause-trouble : goal.returns-then-is_err-clause-trouble
-returns-then-is_err-clause-trouble g c = has_risen _ _ _ c.write.ensures.cause (sym c.is_err.ensures.value ∙ c.if-is_err.true)
+returns-then-is_err-clause-trouble g c =
+    is_faulty g.Q.Desk.start (g.Q.Stage.Counted.faults c.in_ok-named.named.stage) (g.Q.Stage.Counted.faults c.write.new.self) (is_err c.write.result) c.write.ensures.cause
+    (λ quiet. never_err c.write.result (c.write.ensures.sure_ok (c.in_ok-named.ensures.sure quiet))) (sym c.is_err.ensures.value ∙ c.if-is_err.true)
 
 pub returns-clause-ok : goal.returns-clause-ok
 returns-clause-ok g c =
@@ -49,7 +52,7 @@ returns-in_err-commit-clause-trouble g c =
     let who = c.args.ticket in
     let refusal = c.in_err-commit.field-0.0 in
     step_err c.from_residual-in_err-commit.result (Shown g.Q.Stage.Counted.faults g.Q.Fetch.Counted.faults 0 (Some []) s new who) refusal c.from_residual-in_err-commit.ensures.1
-    (refusing_last s mid new who (CommitStep (name_of c.in_ok-named.named.name)) (told_refusal refusal) c.in_err-commit.ensures.step)
+    (refusal_last s mid new who (CommitStep (name_of c.in_ok-named.named.name)) refusal c.in_err-commit.ensures.step)
 
 pub returns-in_err-commit-clause-went : goal.returns-in_err-commit-clause-went
 returns-in_err-commit-clause-went g c =
@@ -59,4 +62,4 @@ returns-in_err-commit-clause-went g c =
     let new = g.Q.Desk.seen c.commit.new.self in
     let who = c.args.ticket in
     went_on s old mid new who (begun_went s old mid who (name_of c.args.name) c.begin.result c.requires.may.stored c.begin.ensures.step c.begin.ensures.own)
-    (went_same s mid new who (outcome_grew s mid new who (CommitStep (name_of c.in_ok-named.named.name)) commit_reply c.commit.result c.commit.ensures.step) c.in_err-commit.ensures.kept)
+    (went_same s mid new who (outcome_grew_by s mid new who (CommitStep (name_of c.in_ok-named.named.name)) commit_reply c.commit.result c.commit.ensures.step) c.in_err-commit.ensures.kept)

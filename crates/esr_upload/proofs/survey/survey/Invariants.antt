@@ -1,4 +1,4 @@
-use Rattle.std.proofs.Common.{◌≡◌, ◌≤◌, Some, length}
+use Rattle.std.proofs.Common.{◌≡◌, ◌≤◌, true, Some, length}
 use Rattle.esr_upload.proofs.Surveying.{ReadFirst}
 use Rattle.esr_upload.proofs.survey.survey.Given as goal
 
@@ -9,6 +9,7 @@ invariant-loop-file g l =
       listed : g.S.Shard.listed l.shard ≡ Some l.file-items;
       buffer : length l.buf ≡ length l.fn.buf;
       later : g.S.Counted.faults l.fn.shard ≤ g.S.Counted.faults l.shard;
+      steady : (g.S.Shard.origin l.fn.shard).is_sure ≡ true → g.S.Counted.faults l.shard ≡ g.S.Counted.faults l.fn.shard;
       place_is : l.place ≡ l.file-index;
       read : ReadFirst (g.S.Shard.origin l.fn.shard).files l.file-items l.file-index l.reads;
     }

@@ -3,9 +3,11 @@ use Rattle.esr_formats.specs.Ids.{number_of}
 use Rattle.esr_core.specs.Entry.{DrawStep, DrawnFrom}
 use Rattle.esr_names.specs.declared.ids.Id.{Id}
 use Rattle.esr_desk.specs.Start.{ticket_of}
+use Rattle.esr_desk.specs.Grew.{grew_by_on, outcome_grew_by}
+use Rattle.esr_upload.specs.declared.trouble.Trouble.TheVariants.{Step}
 use Rattle.esr_upload.specs.Entries.{new_count}
 use Rattle.esr_upload.specs.Trouble.{Shown, IsChangeUntold}
-use Rattle.esr_upload.proofs.Going.{went_on, grew_on, outcome_grew}
+use Rattle.esr_upload.proofs.Going.{went_on, refusal_last, steady_on}
 use Rattle.esr_upload.proofs.Ending.{done_on, if_err, went_same}
 use Rattle.esr_upload.proofs.Drawing.{can_draw, has_drawn, drawn_for, drew_went, ok_on, err_on}
 use Rattle.esr_upload.proofs.Refusing.{passed}
@@ -27,7 +29,7 @@ returns-in_err-first-clause-went g c =
     let new = g.Q.Desk.seen c.draw.new.self in
     let n = c.count_new.result + 1 in
     if_err c.from_residual-in_err-first.result
-    (went_on s old mid new who c.base_of.ensures.went (went_same s mid new who (outcome_grew s mid new who (DrawStep n) (λ (first : Id). DrawnFrom first.number) c.draw.result c.draw.ensures.step) c.in_err-first.ensures.kept))
+    (went_on s old mid new who c.base_of.ensures.went (went_same s mid new who (outcome_grew_by s mid new who (DrawStep n) (λ (first : Id). DrawnFrom first.number) c.draw.result c.draw.ensures.step) c.in_err-first.ensures.kept))
 
 pub returns-in_err-first-clause-grew : goal.returns-in_err-first-clause-grew
 returns-in_err-first-clause-grew g c =
@@ -37,7 +39,35 @@ returns-in_err-first-clause-grew g c =
     let mid = g.Q.Desk.seen c.base_of.new.desk in
     let new = g.Q.Desk.seen c.draw.new.self in
     let n = c.count_new.result + 1 in
-    grew_on s old mid new c.base_of.ensures.went.grew (outcome_grew s mid new who (DrawStep n) (λ (first : Id). DrawnFrom first.number) c.draw.result c.draw.ensures.step)
+    grew_by_on s who old mid new c.base_of.ensures.went.grew (outcome_grew_by s mid new who (DrawStep n) (λ (first : Id). DrawnFrom first.number) c.draw.result c.draw.ensures.step)
+
+pub returns-in_err-first-clause-trouble : goal.returns-in_err-first-clause-trouble
+returns-in_err-first-clause-trouble g c =
+    let s = g.Q.Desk.start in
+    let who = c.args.ticket in
+    let mid = g.Q.Desk.seen c.base_of.new.desk in
+    let new = g.Q.Desk.seen c.draw.new.self in
+    let refusal = c.in_err-first.field-0.0 in
+    passed c.from_residual-in_err-first.result
+    (Shown g.Q.Stage.Counted.faults g.Q.Fetch.Counted.faults (g.S.Counted.faults c.plan_files.new.shard) (g.S.Shard.origin c.args.shard.now).files s new who) (Step refusal) c.from_residual-in_err-first.ensures.1
+    (refusal_last s mid new who (DrawStep (c.count_new.result + 1)) refusal c.in_err-first.ensures.step)
+
+pub returns-clause-grew : goal.returns-clause-grew
+returns-clause-grew g c =
+    let s = g.Q.Desk.start in
+    let who = c.args.ticket in
+    let old = g.Q.Desk.seen c.args.desk.now in
+    let mid = g.Q.Desk.seen c.base_of.new.desk in
+    let drawn = g.Q.Desk.seen c.draw.new.self in
+    let new = g.Q.Desk.seen c.store.new.desk in
+    let n = c.count_new.result + 1 in
+    grew_by_on s who old drawn new
+    (grew_by_on s who old mid drawn c.base_of.ensures.went.grew (outcome_grew_by s mid drawn who (DrawStep n) (λ (first : Id). DrawnFrom first.number) c.draw.result c.draw.ensures.step)) c.store.ensures.grew
+
+pub returns-clause-steady : goal.returns-clause-steady
+returns-clause-steady g c =
+    steady_on (g.S.Shard.origin c.args.shard.now) (g.S.Shard.origin c.plan_files.new.shard) (g.S.Counted.faults c.args.shard.now) (g.S.Counted.faults c.plan_files.new.shard) (g.S.Counted.faults c.store.new.shard) c.plan_files.ensures.origin
+    c.plan_files.ensures.steady c.store.ensures.steady
 
 pub returns-clause-ok : goal.returns-clause-ok
 returns-clause-ok g c =
@@ -48,7 +78,7 @@ returns-clause-ok g c =
     let drawn = g.Q.Desk.seen c.draw.new.self in
     let new = g.Q.Desk.seen c.store.new.desk in
     let n = c.count_new.result + 1 in
-    let went = drew_went s mid drawn who c.in_ok-first.first.number n (outcome_grew s mid drawn who (DrawStep n) (λ (first : Id). DrawnFrom first.number) c.draw.result c.draw.ensures.step) c.in_ok-first.ensures.own in
+    let went = drew_went s mid drawn who c.in_ok-first.first.number n (outcome_grew_by s mid drawn who (DrawStep n) (λ (first : Id). DrawnFrom first.number) c.draw.result c.draw.ensures.step) c.in_ok-first.ensures.own in
     ok_on c.store.result (done_on s old drawn new who (went_on s old mid drawn who c.base_of.ensures.went went)) c.store.ensures.ok
 
 pub returns-clause-went : goal.returns-clause-went
@@ -60,7 +90,7 @@ returns-clause-went g c =
     let drawn = g.Q.Desk.seen c.draw.new.self in
     let new = g.Q.Desk.seen c.store.new.desk in
     let n = c.count_new.result + 1 in
-    let went = drew_went s mid drawn who c.in_ok-first.first.number n (outcome_grew s mid drawn who (DrawStep n) (λ (first : Id). DrawnFrom first.number) c.draw.result c.draw.ensures.step) c.in_ok-first.ensures.own in
+    let went = drew_went s mid drawn who c.in_ok-first.first.number n (outcome_grew_by s mid drawn who (DrawStep n) (λ (first : Id). DrawnFrom first.number) c.draw.result c.draw.ensures.step) c.in_ok-first.ensures.own in
     err_on c.store.result (went_on s old drawn new who (went_on s old mid drawn who c.base_of.ensures.went went)) c.store.ensures.went
 
 pub draw-requires-clause-may : goal.draw-requires-clause-may

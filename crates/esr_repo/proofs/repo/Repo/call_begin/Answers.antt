@@ -6,6 +6,7 @@ use Rattle.esr_repo.specs.Repo.{Kept}
 use Rattle.esr_repo.proofs.BlobCalls.{Before, Pushed, pushed_as, wanting, begin_ok, begin_fault}
 use Rattle.esr_repo.proofs.Pasts.{made_whole, wanting_whole}
 use Rattle.esr_repo.proofs.Failing.{failed_so, same_faults, unfailed_faults, failed_faults}
+use Rattle.esr_repo.proofs.Calms.{calm_goes, calm_failed, calm_wanting, sure_now}
 use Rattle.esr_repo.proofs.repo.Repo.call_begin.Goals as goal
 
 pub invariant_of-self-in-Ok : goal.invariant_of-self-in-Ok
@@ -18,6 +19,7 @@ invariant_of-self-in-Ok g c =
       made_whole b g.K.Told.past c.self.invariant.0.past (g.met.D.Depot.only_now c.begin.new.self)
           (begin_ok b (g.D.Depot.look c.begin.new.self) c.args.who (name_of c.args.name) c.requires.may c.write_name.ensures.reads c.in-Ok.stage c.in-Ok.ensures.call c.reserve.new.self.items c.push_reserved.new.self.items p),
       unfailed_faults c.self.invariant.1 p (g.D.Counted.faults c.begin.new.self) refl c.in-Ok.ensures.cause.later,
+      calm_goes (g.D.Depot.look c.self.inside.depot).sure c.self.invariant.2 p (g.D.Depot.look c.begin.new.self).sure refl c.in-Ok.ensures.sure.spent,
     )
 
 pub returns-in-Ok-clause-step : goal.returns-in-Ok-clause-step
@@ -28,6 +30,9 @@ returns-in-Ok-clause-step g c =
     (begin_ok b (g.D.Depot.look c.begin.new.self) c.args.who (name_of c.args.name) c.requires.may c.write_name.ensures.reads c.in-Ok.stage c.in-Ok.ensures.call c.reserve.new.self.items c.push_reserved.new.self.items
     (record { reserved = c.reserve.ensures.items; pushed = c.push_reserved.ensures.items })).added
 
+pub returns-in-Ok-clause-sure : goal.returns-in-Ok-clause-sure
+returns-in-Ok-clause-sure g c = λ quiet below. c.in-Ok.ensures.sure_stage (sure_now g.K.Told.start.quiet (g.D.Depot.look c.self.inside.depot) g.K.Told.clock c.self.inside.history.items c.args.self.now c.self.invariant.2 c.self.view_is quiet below)
+
 pub invariant_of-self-in-Err-Memory : goal.invariant_of-self-in-Err-Memory
 invariant_of-self-in-Err-Memory g c =
     let k : Kept = record { cluster = c.self.inside.cluster; root = c.self.inside.root; plan = c.self.inside.progress; next = c.self.inside.next.number } in
@@ -35,6 +40,7 @@ invariant_of-self-in-Err-Memory g c =
     record { laws = c.laws.ensures; repo = c.self.invariant.0.repo; view = c.self.view_is; live = c.requires.live } in (
       wanting_whole b g.K.Told.past c.self.invariant.0.past (g.D.Depot.look c.begin.new.self) c.reserve.new.self.items c.reserve.ensures.items (λ _. SameImage) SameImage c.in-Err-Memory.field-0 c.in-Err-Memory.field-0-is c.in-Err-Memory.ensures.call,
       same_faults c.reserve.new.self.items (g.D.Counted.faults c.begin.new.self) c.self.invariant.1 c.in-Err-Memory.ensures.cause.later c.reserve.ensures.items,
+      calm_wanting c.self.invariant.2 (g.D.Depot.look c.begin.new.self) c.reserve.new.self.items c.reserve.ensures.items (λ _. SameImage) SameImage c.in-Err-Memory.field-0 c.in-Err-Memory.field-0-is c.in-Err-Memory.ensures.call,
     )
 
 pub returns-in-Err-Memory-clause-step : goal.returns-in-Err-Memory-clause-step
@@ -54,6 +60,7 @@ invariant_of-self-in-Err-Failed g c =
       made_whole b g.K.Told.past c.self.invariant.0.past (g.met.D.Depot.only_now c.begin.new.self)
           (begin_fault b (g.D.Depot.look c.begin.new.self) c.args.who (name_of c.args.name) c.requires.may c.write_name.ensures.reads c.in-Err-Failed.field-0 c.in-Err-Failed.field-0-is c.in-Err-Failed.ensures.call c.reserve.new.self.items c.push_reserved-in-Err-Failed.new.self.items p),
       failed_faults c.self.invariant.1 p (g.D.Counted.faults c.begin.new.self) _ c.in-Err-Failed.ensures.cause (failed_so c.in-Err-Failed.field-0 c.in-Err-Failed.field-0-is) refl,
+      calm_failed (g.D.Depot.look c.self.inside.depot).sure c.self.invariant.2 p (g.D.Depot.look c.begin.new.self).sure _ c.in-Err-Failed.ensures.sure (failed_so c.in-Err-Failed.field-0 c.in-Err-Failed.field-0-is),
     )
 
 pub returns-clause-step : goal.returns-clause-step

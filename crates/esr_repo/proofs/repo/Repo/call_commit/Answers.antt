@@ -9,6 +9,7 @@ use Rattle.esr_repo.specs.Repo.{Kept}
 use Rattle.esr_repo.proofs.BlobCalls.{Before, Pushed, pushed_as, wanting, commit_done, commit_found, commit_taken, commit_fault}
 use Rattle.esr_repo.proofs.Pasts.{made_whole, wanting_whole}
 use Rattle.esr_repo.proofs.Failing.{failed_so, same_faults, unfailed_faults, failed_faults}
+use Rattle.esr_repo.proofs.Calms.{calm_goes, calm_failed, calm_wanting}
 use Rattle.esr_repo.proofs.repo.Repo.call_commit.Goals as goal
 
 pub invariant_of-self-in-Ok-Done : goal.invariant_of-self-in-Ok-Done
@@ -21,6 +22,7 @@ invariant_of-self-in-Ok-Done g c =
       made_whole b g.K.Told.past c.self.invariant.0.past (g.met.D.Depot.only_now c.commit.new.self)
           (commit_done b (g.D.Depot.look c.commit.new.self) c.args.who (name_of c.args.stage.name) (g.D.Stage.Stage.contents c.args.stage.stage) c.requires.may.0 c.requires.may.1 c.requires.may.2 c.reads_back.ensures (g.D.Stage.Stage.name c.args.stage.stage) c.args.stage.named c.in-Ok-Done.field-0 c.in-Ok-Done.field-0-is c.in-Ok-Done.ensures.call c.reserve.new.self.items c.push_reserved.new.self.items p).0,
       unfailed_faults c.self.invariant.1 p (g.D.Counted.faults c.commit.new.self) refl c.in-Ok-Done.ensures.cause.later,
+      calm_goes (g.D.Depot.look c.self.inside.depot).sure c.self.invariant.2 p (g.D.Depot.look c.commit.new.self).sure refl c.in-Ok-Done.ensures.sure.spent,
     )
 
 pub returns-in-Ok-Done-clause-step : goal.returns-in-Ok-Done-clause-step
@@ -41,6 +43,7 @@ invariant_of-self-then-is_metadata g c =
       made_whole b g.K.Told.past c.self.invariant.0.past (g.met.D.Depot.only_now c.commit.new.self)
           (commit_found b (g.D.Depot.look c.commit.new.self) c.args.who (name_of c.args.stage.name) (g.D.Stage.Stage.contents c.args.stage.stage) c.requires.may.0 c.requires.may.1 c.requires.may.2 c.reads_back.ensures (g.D.Stage.Stage.name c.args.stage.stage) c.args.stage.named c.in-Ok-Exists.field-0 c.in-Ok-Exists.field-0-is c.in-Ok-Exists.ensures.call (c.is_metadata.ensures.yes_it_is c.if-is_metadata.true) c.reserve.new.self.items c.push_reserved-then-is_metadata.new.self.items p),
       unfailed_faults c.self.invariant.1 p (g.D.Counted.faults c.commit.new.self) refl c.in-Ok-Exists.ensures.cause.later,
+      calm_goes (g.D.Depot.look c.self.inside.depot).sure c.self.invariant.2 p (g.D.Depot.look c.commit.new.self).sure refl c.in-Ok-Exists.ensures.sure.spent,
     )
 
 pub returns-then-is_metadata-clause-step : goal.returns-then-is_metadata-clause-step
@@ -60,6 +63,7 @@ invariant_of-self-in-Ok-Exists g c =
       made_whole b g.K.Told.past c.self.invariant.0.past (g.met.D.Depot.only_now c.commit.new.self)
           (commit_taken b (g.D.Depot.look c.commit.new.self) c.args.who (name_of c.args.stage.name) (g.D.Stage.Stage.contents c.args.stage.stage) c.requires.may.0 c.requires.may.1 c.requires.may.2 c.reads_back.ensures (g.D.Stage.Stage.name c.args.stage.stage) c.args.stage.named c.in-Ok-Exists.field-0 c.in-Ok-Exists.field-0-is c.in-Ok-Exists.ensures.call (c.is_metadata.ensures.it_is_not c.if-is_metadata.false) c.reserve.new.self.items c.push_reserved-in-Ok-Exists.new.self.items p),
       unfailed_faults c.self.invariant.1 p (g.D.Counted.faults c.commit.new.self) refl c.in-Ok-Exists.ensures.cause.later,
+      calm_goes (g.D.Depot.look c.self.inside.depot).sure c.self.invariant.2 p (g.D.Depot.look c.commit.new.self).sure refl c.in-Ok-Exists.ensures.sure.spent,
     )
 
 pub returns-else-is_metadata-clause-step : goal.returns-else-is_metadata-clause-step
@@ -76,6 +80,7 @@ invariant_of-self-in-Err-Memory g c =
     record { laws = c.laws.ensures; repo = c.self.invariant.0.repo; view = c.self.view_is; live = c.requires.live } in (
       wanting_whole b g.K.Told.past c.self.invariant.0.past (g.D.Depot.look c.commit.new.self) c.reserve.new.self.items c.reserve.ensures.items (Committed (g.D.Stage.Stage.name c.args.stage.stage) (g.D.Stage.Stage.contents c.args.stage.stage)) (CommitMay (g.D.Stage.Stage.name c.args.stage.stage) (g.D.Stage.Stage.contents c.args.stage.stage)) c.in-Err-Memory.field-0 c.in-Err-Memory.field-0-is c.in-Err-Memory.ensures.call,
       same_faults c.reserve.new.self.items (g.D.Counted.faults c.commit.new.self) c.self.invariant.1 c.in-Err-Memory.ensures.cause.later c.reserve.ensures.items,
+      calm_wanting c.self.invariant.2 (g.D.Depot.look c.commit.new.self) c.reserve.new.self.items c.reserve.ensures.items (Committed (g.D.Stage.Stage.name c.args.stage.stage) (g.D.Stage.Stage.contents c.args.stage.stage)) (CommitMay (g.D.Stage.Stage.name c.args.stage.stage) (g.D.Stage.Stage.contents c.args.stage.stage)) c.in-Err-Memory.field-0 c.in-Err-Memory.field-0-is c.in-Err-Memory.ensures.call,
     )
 
 pub returns-in-Err-Memory-clause-step : goal.returns-in-Err-Memory-clause-step
@@ -95,6 +100,7 @@ invariant_of-self-in-Err-Failed g c =
       made_whole b g.K.Told.past c.self.invariant.0.past (g.met.D.Depot.only_now c.commit.new.self)
           (commit_fault b (g.D.Depot.look c.commit.new.self) c.args.who (name_of c.args.stage.name) (g.D.Stage.Stage.contents c.args.stage.stage) c.requires.may.0 c.requires.may.1 c.requires.may.2 c.reads_back.ensures (g.D.Stage.Stage.name c.args.stage.stage) c.args.stage.named c.in-Err-Failed.field-0 c.in-Err-Failed.field-0-is c.in-Err-Failed.ensures.call c.reserve.new.self.items c.push_reserved-in-Err-Failed.new.self.items p),
       failed_faults c.self.invariant.1 p (g.D.Counted.faults c.commit.new.self) _ c.in-Err-Failed.ensures.cause (failed_so c.in-Err-Failed.field-0 c.in-Err-Failed.field-0-is) refl,
+      calm_failed (g.D.Depot.look c.self.inside.depot).sure c.self.invariant.2 p (g.D.Depot.look c.commit.new.self).sure _ c.in-Err-Failed.ensures.sure (failed_so c.in-Err-Failed.field-0 c.in-Err-Failed.field-0-is),
     )
 
 pub returns-in-Err-Failed-clause-step : goal.returns-in-Err-Failed-clause-step

@@ -9,6 +9,7 @@ use Rattle.esr_repo.specs.Repo.{Kept}
 use Rattle.esr_repo.proofs.BlobCalls.{Before, Pushed, pushed_as, wanting, fetch_found, fetch_left, fetch_told, fetch_bytes, fetch_absent, fetch_fault}
 use Rattle.esr_repo.proofs.Pasts.{made_whole, wanting_whole}
 use Rattle.esr_repo.proofs.Failing.{failed_so, same_faults, unfailed_faults, failed_faults}
+use Rattle.esr_repo.proofs.Calms.{calm_goes, calm_failed, calm_wanting, sure_now, found_sure}
 use Rattle.esr_repo.proofs.repo.Repo.call_fetch.Goals as goal
 
 pub invariant_of-self-in-Ok-Some : goal.invariant_of-self-in-Ok-Some
@@ -21,6 +22,7 @@ invariant_of-self-in-Ok-Some g c =
       made_whole b g.K.Told.past c.self.invariant.0.past (g.met.D.Depot.only_now c.fetch.new.self)
           (fetch_found b (g.D.Depot.look c.fetch.new.self) c.args.who (name_of c.args.name) c.requires.may c.write_name.ensures.reads c.as_str.result.now (c.as_str.ensures.text ∙ c.in_ok-text.ensures.text) c.in-Ok-Some.field-0 c.in-Ok-Some.fetch c.in-Ok-Some.field-0-is c.in-Ok-Some.ensures.present c.in-Ok-Some.ensures.call c.reserve.new.self.items c.push_reserved.new.self.items p),
       unfailed_faults c.self.invariant.1 p (g.D.Counted.faults c.fetch.new.self) refl c.in-Ok-Some.ensures.cause.later,
+      calm_goes (g.D.Depot.look c.self.inside.depot).sure c.self.invariant.2 p (g.D.Depot.look c.fetch.new.self).sure refl c.in-Ok-Some.ensures.sure.spent,
     )
 
 pub returns-in-Ok-Some-clause-step : goal.returns-in-Ok-Some-clause-step
@@ -35,6 +37,11 @@ returns-in-Ok-Some-clause-step g c =
       fetch_bytes b (g.D.Depot.look c.fetch.new.self) c.args.who (name_of c.args.name) c.requires.may c.write_name.ensures.reads c.as_str.result.now (c.as_str.ensures.text ∙ c.in_ok-text.ensures.text) c.in-Ok-Some.field-0 c.in-Ok-Some.fetch c.in-Ok-Some.field-0-is c.in-Ok-Some.ensures.present (g.D.Fetch.Fetch.left c.in-Ok-Some.fetch) left,
     )
 
+pub returns-in-Ok-Some-clause-sure : goal.returns-in-Ok-Some-clause-sure
+returns-in-Ok-Some-clause-sure g c = λ quiet below.
+    found_sure (g.D.Depot.look c.self.inside.depot).sure g.D.Fetch.Fetch.is_sure c.in-Ok-Some.field-0 c.in-Ok-Some.fetch c.in-Ok-Some.field-0-is c.in-Ok-Some.ensures.sure_fetch
+    (sure_now g.K.Told.start.quiet (g.D.Depot.look c.self.inside.depot) g.K.Told.clock c.self.inside.history.items c.args.self.now c.self.invariant.2 c.self.view_is quiet below)
+
 pub invariant_of-self-in-Ok-None : goal.invariant_of-self-in-Ok-None
 invariant_of-self-in-Ok-None g c =
     let k : Kept = record { cluster = c.self.inside.cluster; root = c.self.inside.root; plan = c.self.inside.progress; next = c.self.inside.next.number } in
@@ -45,6 +52,7 @@ invariant_of-self-in-Ok-None g c =
       made_whole b g.K.Told.past c.self.invariant.0.past (g.met.D.Depot.only_now c.fetch.new.self)
           (fetch_absent b (g.D.Depot.look c.fetch.new.self) c.args.who (name_of c.args.name) c.requires.may c.write_name.ensures.reads c.as_str.result.now (c.as_str.ensures.text ∙ c.in_ok-text.ensures.text) c.in-Ok-None.field-0 c.in-Ok-None.field-0-is (c.in-Ok-None.ensures.absent (ap Ok c.in-Ok-None.field-0-is)) c.in-Ok-None.ensures.call c.reserve.new.self.items c.push_reserved-in-Ok-None.new.self.items p),
       unfailed_faults c.self.invariant.1 p (g.D.Counted.faults c.fetch.new.self) refl c.in-Ok-None.ensures.cause.later,
+      calm_goes (g.D.Depot.look c.self.inside.depot).sure c.self.invariant.2 p (g.D.Depot.look c.fetch.new.self).sure refl c.in-Ok-None.ensures.sure.spent,
     )
 
 pub returns-in-Ok-None-clause-step : goal.returns-in-Ok-None-clause-step
@@ -61,6 +69,7 @@ invariant_of-self-in-Err-Memory g c =
     record { laws = c.laws.ensures; repo = c.self.invariant.0.repo; view = c.self.view_is; live = c.requires.live } in (
       wanting_whole b g.K.Told.past c.self.invariant.0.past (g.D.Depot.look c.fetch.new.self) c.reserve.new.self.items c.reserve.ensures.items (λ _. SameImage) SameImage c.in-Err-Memory.field-0 c.in-Err-Memory.field-0-is c.in-Err-Memory.ensures.call,
       same_faults c.reserve.new.self.items (g.D.Counted.faults c.fetch.new.self) c.self.invariant.1 c.in-Err-Memory.ensures.cause.later c.reserve.ensures.items,
+      calm_wanting c.self.invariant.2 (g.D.Depot.look c.fetch.new.self) c.reserve.new.self.items c.reserve.ensures.items (λ _. SameImage) SameImage c.in-Err-Memory.field-0 c.in-Err-Memory.field-0-is c.in-Err-Memory.ensures.call,
     )
 
 pub returns-in-Err-Memory-clause-step : goal.returns-in-Err-Memory-clause-step
@@ -80,6 +89,7 @@ invariant_of-self-in-Err-Failed g c =
       made_whole b g.K.Told.past c.self.invariant.0.past (g.met.D.Depot.only_now c.fetch.new.self)
           (fetch_fault b (g.D.Depot.look c.fetch.new.self) c.args.who (name_of c.args.name) c.requires.may c.write_name.ensures.reads c.as_str.result.now (c.as_str.ensures.text ∙ c.in_ok-text.ensures.text) c.in-Err-Failed.field-0 c.in-Err-Failed.field-0-is c.in-Err-Failed.ensures.call c.reserve.new.self.items c.push_reserved-in-Err-Failed.new.self.items p),
       failed_faults c.self.invariant.1 p (g.D.Counted.faults c.fetch.new.self) _ c.in-Err-Failed.ensures.cause (failed_so c.in-Err-Failed.field-0 c.in-Err-Failed.field-0-is) refl,
+      calm_failed (g.D.Depot.look c.self.inside.depot).sure c.self.invariant.2 p (g.D.Depot.look c.fetch.new.self).sure _ c.in-Err-Failed.ensures.sure (failed_so c.in-Err-Failed.field-0 c.in-Err-Failed.field-0-is),
     )
 
 pub returns-clause-step : goal.returns-clause-step

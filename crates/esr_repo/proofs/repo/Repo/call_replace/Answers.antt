@@ -5,6 +5,7 @@ use Rattle.esr_repo.specs.Repo.{Kept}
 use Rattle.esr_repo.proofs.BlobCalls.{Before, Pushed, pushed_as, wanting, latest_back, latest_named, replace_ok, replace_fault}
 use Rattle.esr_repo.proofs.Pasts.{made_whole, wanting_whole}
 use Rattle.esr_repo.proofs.Failing.{failed_so, same_faults, unfailed_faults, failed_faults}
+use Rattle.esr_repo.proofs.Calms.{calm_goes, calm_failed, calm_wanting}
 use Rattle.esr_repo.proofs.repo.Repo.call_replace.Goals as goal
 
 pub invariant_of-self-in-Ok : goal.invariant_of-self-in-Ok
@@ -17,6 +18,7 @@ invariant_of-self-in-Ok g c =
       made_whole b g.K.Told.past c.self.invariant.0.past (g.met.D.Depot.only_now c.replace.new.self)
           (replace_ok b (g.D.Depot.look c.replace.new.self) c.args.who (g.D.Stage.Stage.contents c.args.stage.stage) c.requires.may.0 c.requires.may.1 c.requires.may.2 latest_back (g.D.Stage.Stage.name c.args.stage.stage) (latest_named c.args.stage.name (g.D.Stage.Stage.name c.args.stage.stage) c.args.stage.named c.requires.name) c.in-Ok.field-0 c.in-Ok.ensures.call c.reserve.new.self.items c.push_reserved.new.self.items p),
       unfailed_faults c.self.invariant.1 p (g.D.Counted.faults c.replace.new.self) refl c.in-Ok.ensures.cause.later,
+      calm_goes (g.D.Depot.look c.self.inside.depot).sure c.self.invariant.2 p (g.D.Depot.look c.replace.new.self).sure refl c.in-Ok.ensures.sure.spent,
     )
 
 pub returns-in-Ok-clause-step : goal.returns-in-Ok-clause-step
@@ -33,6 +35,7 @@ invariant_of-self-in-Err-Memory g c =
     record { laws = c.laws.ensures; repo = c.self.invariant.0.repo; view = c.self.view_is; live = c.requires.live } in (
       wanting_whole b g.K.Told.past c.self.invariant.0.past (g.D.Depot.look c.replace.new.self) c.reserve.new.self.items c.reserve.ensures.items (λ _. Replaced (g.D.Stage.Stage.name c.args.stage.stage) (g.D.Stage.Stage.contents c.args.stage.stage)) (ReplaceMay (g.D.Stage.Stage.name c.args.stage.stage) (g.D.Stage.Stage.contents c.args.stage.stage)) c.in-Err-Memory.field-0 c.in-Err-Memory.field-0-is c.in-Err-Memory.ensures.call,
       same_faults c.reserve.new.self.items (g.D.Counted.faults c.replace.new.self) c.self.invariant.1 c.in-Err-Memory.ensures.cause.later c.reserve.ensures.items,
+      calm_wanting c.self.invariant.2 (g.D.Depot.look c.replace.new.self) c.reserve.new.self.items c.reserve.ensures.items (λ _. Replaced (g.D.Stage.Stage.name c.args.stage.stage) (g.D.Stage.Stage.contents c.args.stage.stage)) (ReplaceMay (g.D.Stage.Stage.name c.args.stage.stage) (g.D.Stage.Stage.contents c.args.stage.stage)) c.in-Err-Memory.field-0 c.in-Err-Memory.field-0-is c.in-Err-Memory.ensures.call,
     )
 
 pub returns-in-Err-Memory-clause-step : goal.returns-in-Err-Memory-clause-step
@@ -52,6 +55,7 @@ invariant_of-self-in-Err-Failed g c =
       made_whole b g.K.Told.past c.self.invariant.0.past (g.met.D.Depot.only_now c.replace.new.self)
           (replace_fault b (g.D.Depot.look c.replace.new.self) c.args.who (g.D.Stage.Stage.contents c.args.stage.stage) c.requires.may.0 c.requires.may.1 c.requires.may.2 latest_back (g.D.Stage.Stage.name c.args.stage.stage) (latest_named c.args.stage.name (g.D.Stage.Stage.name c.args.stage.stage) c.args.stage.named c.requires.name) c.in-Err-Failed.field-0 c.in-Err-Failed.field-0-is c.in-Err-Failed.ensures.call c.reserve.new.self.items c.push_reserved-in-Err-Failed.new.self.items p),
       failed_faults c.self.invariant.1 p (g.D.Counted.faults c.replace.new.self) _ c.in-Err-Failed.ensures.cause (failed_so c.in-Err-Failed.field-0 c.in-Err-Failed.field-0-is) refl,
+      calm_failed (g.D.Depot.look c.self.inside.depot).sure c.self.invariant.2 p (g.D.Depot.look c.replace.new.self).sure _ c.in-Err-Failed.ensures.sure (failed_so c.in-Err-Failed.field-0 c.in-Err-Failed.field-0-is),
     )
 
 pub returns-in-Err-Failed-clause-step : goal.returns-in-Err-Failed-clause-step

@@ -1,5 +1,6 @@
 use Rattle.esr_repo.proofs.Pasts.{begun_whole}
 use Rattle.esr_repo.proofs.Failing.{begun_faults}
+use Rattle.esr_repo.proofs.Calms.{calm_begun}
 use Rattle.esr_repo.proofs.repo.Repo.from_opening.Goals as goal
 
 pub new-requires-clause-whole : goal.new-requires-clause-whole
@@ -7,3 +8,6 @@ new-requires-clause-whole g c = begun_whole (g.D.Depot.look c.args.opening.depot
 
 pub new-requires-clause-faults : goal.new-requires-clause-faults
 new-requires-clause-faults g c = begun_faults g.K.Told.faults (g.D.Counted.faults c.args.opening.depot) c.requires.counted
+
+pub new-requires-clause-calm : goal.new-requires-clause-calm
+new-requires-clause-calm g c = calm_begun g.K.Told.start.quiet (g.D.Depot.look c.args.opening.depot).sure c.requires.calm

@@ -4,6 +4,7 @@ use Rattle.esr_repo.specs.Repo.{Kept, IsRepo}
 use Rattle.esr_repo.specs.Past.{IsPast}
 use Rattle.esr_repo.specs.Counted.{IsCounted}
 use Rattle.esr_repo.specs.Deposed.{AreDeposedSo}
+use Rattle.esr_repo.specs.Calm.{IsCalm}
 use Rattle.esr_repo.proofs.repo.Repo.into_parts.Goals as goal
 
 pub returns-clause-repo : goal.returns-clause-repo
@@ -23,3 +24,6 @@ returns-clause-counted g c = subst (IsCounted g.K.Told.faults (g.D.Counted.fault
 
 pub returns-clause-named : goal.returns-clause-named
 returns-clause-named g c = subst AreDeposedSo (sym c.from_vec.ensures) c.self.invariant.1.named
+
+pub returns-clause-calm : goal.returns-clause-calm
+returns-clause-calm g c = subst (λ (es : List Entry). IsCalm g.K.Told.start.quiet (g.D.Depot.look c.self.inside.depot).sure es) (sym c.from_vec.ensures) c.self.invariant.2

@@ -4,7 +4,8 @@ use Rattle.esr_repo.specs.Repo.{Kept}
 use Rattle.esr_repo.proofs.Plain.{note_added, note_repo}
 use Rattle.esr_repo.proofs.BlobCalls.{Pushed}
 use Rattle.esr_repo.proofs.Pasts.{noted_whole}
-use Rattle.esr_repo.proofs.Failing.{noted_none, no_later, unfailed_faults}
+use Rattle.esr_repo.proofs.Failing.{no_fault, noted_none, no_later, unfailed_faults}
+use Rattle.esr_repo.proofs.Calms.{no_call, calm_goes}
 use Rattle.esr_repo.proofs.repo.Repo.note.Goals as goal
 
 pub invariant_of-self-2 : goal.invariant_of-self-2
@@ -16,6 +17,7 @@ invariant_of-self-2 g c =
           (note_repo c.laws.ensures (g.D.Depot.look c.self.inside.depot) g.K.Told.start g.K.Told.clock c.self.inside.history.items c.reserve.new.self.items c.push_reserved.new.self.items k c.self.inside.deposed c.args.self.now e
           c.self.invariant.0.repo c.self.view_is c.reserve.ensures.items c.push_reserved.ensures.items c.requires.live c.args.progress c.args.next.number c.requires.may c.renew.new.place c.renew.ensures),
       unfailed_faults c.self.invariant.1 p (g.D.Counted.faults c.self.inside.depot) (noted_none c.requires.may) (no_later (g.D.Counted.faults c.self.inside.depot)),
+      calm_goes (g.D.Depot.look c.self.inside.depot).sure c.self.invariant.2 p (g.D.Depot.look c.self.inside.depot).sure (no_fault (answer_of c.args.answer) (noted_none c.requires.may)) (no_call (g.D.Depot.look c.self.inside.depot).sure),
     )
 
 pub returns-clause-step : goal.returns-clause-step

@@ -10,7 +10,8 @@ use Rattle.esr_repo.specs.Repo.{Kept}
 use Rattle.esr_repo.proofs.BlobCalls.{Before, Pushed, wanting}
 use Rattle.esr_repo.proofs.Swaps.{swap_ok, swap_fault}
 use Rattle.esr_repo.proofs.Pasts.{made_whole, wanting_whole}
-use Rattle.esr_repo.proofs.Failing.{told_none, failed_so, same_faults, unfailed_faults, fallen_faults}
+use Rattle.esr_repo.proofs.Failing.{no_fault, told_none, failed_so, same_faults, unfailed_faults, fallen_faults}
+use Rattle.esr_repo.proofs.Calms.{calm_goes, calm_failed, calm_wanting}
 use Rattle.esr_repo.proofs.repo.Repo.swap.Goals as goal
 
 pub invariant_of-self : goal.invariant_of-self
@@ -26,6 +27,7 @@ invariant_of-self g c =
           (record { cluster = c.keep.new.cluster; root = c.keep.new.root; plan = c.keep.new.progress; next = c.keep.new.next.number })
           (record { cluster_new = c.keep.ensures.cluster; root_new = c.keep.ensures.root; plan_new = c.keep.ensures.progress; next_new = ap (λ (n : Id). n.number) c.keep.ensures.next })),
       unfailed_faults c.self.invariant.1 p (g.D.Counted.faults c.put_record.new.depot) (told_none (answer_of c.args.answer) c.requires.may.answers) c.in-Ok.ensures.cause.later,
+      calm_goes (g.D.Depot.look c.self.inside.depot).sure c.self.invariant.2 p (g.D.Depot.look c.put_record.new.depot).sure (no_fault (answer_of c.args.answer) (told_none (answer_of c.args.answer) c.requires.may.answers)) c.in-Ok.ensures.sure.spent,
     )
 
 pub returns-in-Ok-clause-step : goal.returns-in-Ok-clause-step
@@ -47,6 +49,7 @@ invariant_of-self-in-Err-Memory g c =
           (λ _. Swapped (cluster_kind.text (cluster_of c.args.renewed.cluster))) (SwapMay (cluster_kind.text (cluster_of c.args.renewed.cluster)))
           c.in-Err-Memory.field-0 c.in-Err-Memory.field-0-is c.in-Err-Memory.ensures.call,
       same_faults c.put_record.new.history.items (g.D.Counted.faults c.put_record.new.depot) c.self.invariant.1 c.in-Err-Memory.ensures.cause.later c.in-Err-Memory.ensures.entries,
+      calm_wanting c.self.invariant.2 (g.D.Depot.look c.put_record.new.depot) c.put_record.new.history.items c.in-Err-Memory.ensures.entries (λ _. Swapped (cluster_kind.text (cluster_of c.args.renewed.cluster))) (SwapMay (cluster_kind.text (cluster_of c.args.renewed.cluster))) c.in-Err-Memory.field-0 c.in-Err-Memory.field-0-is c.in-Err-Memory.ensures.call,
     )
 
 pub invariant_of-self-in-Err-Memory-2 : goal.invariant_of-self-in-Err-Memory-2
@@ -58,6 +61,7 @@ invariant_of-self-in-Err-Memory-2 g c =
           (λ _. Swapped (cluster_kind.text (cluster_of c.args.renewed.cluster))) (SwapMay (cluster_kind.text (cluster_of c.args.renewed.cluster)))
           c.in-Err-Memory.field-0 c.in-Err-Memory.field-0-is c.in-Err-Memory.ensures.call,
       same_faults c.put_record.new.history.items (g.D.Counted.faults c.put_record.new.depot) c.self.invariant.1 c.in-Err-Memory.ensures.cause.later c.in-Err-Memory.ensures.entries,
+      calm_wanting c.self.invariant.2 (g.D.Depot.look c.put_record.new.depot) c.put_record.new.history.items c.in-Err-Memory.ensures.entries (λ _. Swapped (cluster_kind.text (cluster_of c.args.renewed.cluster))) (SwapMay (cluster_kind.text (cluster_of c.args.renewed.cluster))) c.in-Err-Memory.field-0 c.in-Err-Memory.field-0-is c.in-Err-Memory.ensures.call,
     )
 
 pub returns-in-Err-Memory-clause-step : goal.returns-in-Err-Memory-clause-step
@@ -82,6 +86,7 @@ invariant_of-self-in-Err-Failed g c =
           (swap_fault b (g.D.Depot.look c.put_record.new.depot) c.args.who (step_of c.args.step) (answer_of c.args.answer) c.args.renewed.cluster c.args.renewed.root c.args.renewed.progress c.args.renewed.next.number c.requires.may (cluster_kind.text (cluster_of c.args.renewed.cluster)) refl c.in-Err-Failed.ensures.reads
           c.in-Err-Failed.field-0 c.in-Err-Failed.field-0-is c.in-Err-Failed.ensures.call c.put_record.new.history.items c.push_reserved-in-Err-Failed.new.self.items p c.len-place.result),
       fallen_faults c.self.invariant.1 p (g.D.Counted.faults c.put_record.new.depot) _ c.len-place.result c.in-Err-Failed.ensures.cause (failed_so c.in-Err-Failed.field-0 c.in-Err-Failed.field-0-is) (c.len-place.ensures ∙ c.put_record.new.history.ok.0 ∙ ap (λ (l : List Entry). length l) c.in-Err-Failed.ensures.entries) c.requires.may.swaps refl,
+      calm_failed (g.D.Depot.look c.self.inside.depot).sure c.self.invariant.2 p (g.D.Depot.look c.put_record.new.depot).sure _ c.in-Err-Failed.ensures.sure (failed_so c.in-Err-Failed.field-0 c.in-Err-Failed.field-0-is),
     )
 
 pub invariant_of-self-in-Err-Failed-2 : goal.invariant_of-self-in-Err-Failed-2
@@ -95,6 +100,7 @@ invariant_of-self-in-Err-Failed-2 g c =
           (swap_fault b (g.D.Depot.look c.put_record.new.depot) c.args.who (step_of c.args.step) (answer_of c.args.answer) c.args.renewed.cluster c.args.renewed.root c.args.renewed.progress c.args.renewed.next.number c.requires.may (cluster_kind.text (cluster_of c.args.renewed.cluster)) refl c.in-Err-Failed.ensures.reads
           c.in-Err-Failed.field-0 c.in-Err-Failed.field-0-is c.in-Err-Failed.ensures.call c.put_record.new.history.items c.push_reserved-in-Err-Failed.new.self.items p c.len-place.result),
       fallen_faults c.self.invariant.1 p (g.D.Counted.faults c.put_record.new.depot) _ c.len-place.result c.in-Err-Failed.ensures.cause (failed_so c.in-Err-Failed.field-0 c.in-Err-Failed.field-0-is) (c.len-place.ensures ∙ c.put_record.new.history.ok.0 ∙ ap (λ (l : List Entry). length l) c.in-Err-Failed.ensures.entries) c.requires.may.swaps refl,
+      calm_failed (g.D.Depot.look c.self.inside.depot).sure c.self.invariant.2 p (g.D.Depot.look c.put_record.new.depot).sure _ c.in-Err-Failed.ensures.sure (failed_so c.in-Err-Failed.field-0 c.in-Err-Failed.field-0-is),
     )
 
 pub invariant_of-self-in-Err-Failed-3 : goal.invariant_of-self-in-Err-Failed-3
@@ -108,6 +114,7 @@ invariant_of-self-in-Err-Failed-3 g c =
           (swap_fault b (g.D.Depot.look c.put_record.new.depot) c.args.who (step_of c.args.step) (answer_of c.args.answer) c.args.renewed.cluster c.args.renewed.root c.args.renewed.progress c.args.renewed.next.number c.requires.may (cluster_kind.text (cluster_of c.args.renewed.cluster)) refl c.in-Err-Failed.ensures.reads
           c.in-Err-Failed.field-0 c.in-Err-Failed.field-0-is c.in-Err-Failed.ensures.call c.put_record.new.history.items c.push_reserved-in-Err-Failed.new.self.items p c.len-place.result),
       fallen_faults c.self.invariant.1 p (g.D.Counted.faults c.put_record.new.depot) _ c.len-place.result c.in-Err-Failed.ensures.cause (failed_so c.in-Err-Failed.field-0 c.in-Err-Failed.field-0-is) (c.len-place.ensures ∙ c.put_record.new.history.ok.0 ∙ ap (λ (l : List Entry). length l) c.in-Err-Failed.ensures.entries) c.requires.may.swaps refl,
+      calm_failed (g.D.Depot.look c.self.inside.depot).sure c.self.invariant.2 p (g.D.Depot.look c.put_record.new.depot).sure _ c.in-Err-Failed.ensures.sure (failed_so c.in-Err-Failed.field-0 c.in-Err-Failed.field-0-is),
     )
 
 pub invariant_of-self-in-Err-Failed-4 : goal.invariant_of-self-in-Err-Failed-4
@@ -121,6 +128,7 @@ invariant_of-self-in-Err-Failed-4 g c =
           (swap_fault b (g.D.Depot.look c.put_record.new.depot) c.args.who (step_of c.args.step) (answer_of c.args.answer) c.args.renewed.cluster c.args.renewed.root c.args.renewed.progress c.args.renewed.next.number c.requires.may (cluster_kind.text (cluster_of c.args.renewed.cluster)) refl c.in-Err-Failed.ensures.reads
           c.in-Err-Failed.field-0 c.in-Err-Failed.field-0-is c.in-Err-Failed.ensures.call c.put_record.new.history.items c.push_reserved-in-Err-Failed.new.self.items p c.len-place.result),
       fallen_faults c.self.invariant.1 p (g.D.Counted.faults c.put_record.new.depot) _ c.len-place.result c.in-Err-Failed.ensures.cause (failed_so c.in-Err-Failed.field-0 c.in-Err-Failed.field-0-is) (c.len-place.ensures ∙ c.put_record.new.history.ok.0 ∙ ap (λ (l : List Entry). length l) c.in-Err-Failed.ensures.entries) c.requires.may.swaps refl,
+      calm_failed (g.D.Depot.look c.self.inside.depot).sure c.self.invariant.2 p (g.D.Depot.look c.put_record.new.depot).sure _ c.in-Err-Failed.ensures.sure (failed_so c.in-Err-Failed.field-0 c.in-Err-Failed.field-0-is),
     )
 
 pub returns-in-Err-Failed-clause-step : goal.returns-in-Err-Failed-clause-step

@@ -1,16 +1,19 @@
 use Rattle.esr_desk.specs.Entries.{why_of}
-use Rattle.esr_solo.proofs.Stepping.{waited, waited_as, outcome, keeps_report}
+use Rattle.esr_solo.proofs.Stepping.{waited, waited_as, outcome, keeps_report, spends}
 use Rattle.esr_solo.proofs.Showing.{same_objects}
 use Rattle.esr_solo.proofs.desk.SoloDesk.failed.Goals as goal
 
 pub returns-then-self-eq0-clause-step : goal.returns-then-self-eq0-clause-step
-returns-then-self-eq0-clause-step g c = waited g.K.Told.start c.self.inside.repo c.args.self.now c.args.ticket c.self.view_is c.is_legal.ensures
+returns-then-self-eq0-clause-step g c = (
+  waited g.K.Told.start c.self.inside.repo c.args.self.now c.args.ticket c.self.view_is c.is_legal.ensures,
+  spends g.K.Told.start c.self.inside.repo c.args.self.now c.self.inside.left c.self.view_is c.self.invariant.0 c.if-self-eq0.true,
+)
 
 pub returns-then-is_err-clause-step : goal.returns-then-is_err-clause-step
-returns-then-is_err-clause-step g c = waited_as g.K.Told.start c.self.inside.repo c.args.self.now c.args.ticket c.self.view_is c.is_legal.ensures
+returns-then-is_err-clause-step g c = (waited_as g.K.Told.start c.self.inside.repo c.args.self.now c.args.ticket c.self.view_is c.is_legal.ensures, tt)
 
 pub invariant_of-self : goal.invariant_of-self
-invariant_of-self g c = (c.self.invariant.0, same_objects _ g.K.Told.start c.self.inside.repo c.self.inside.faults.items c.reserve.new.self.items c.reserve.ensures.items c.self.invariant.1)
+invariant_of-self g c = (c.self.invariant.0, same_objects _ g.K.Told.start c.self.inside.repo c.self.inside.faults.items c.reserve.new.self.items c.reserve.ensures.items c.self.invariant.1, c.self.invariant.2)
 
 pub invariant_of-self-2 : goal.invariant_of-self-2
 invariant_of-self-2 g c =

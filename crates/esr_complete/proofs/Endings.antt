@@ -1,0 +1,91 @@
+-- How a run ends whose lines were answered.
+use Rattle.std.proofs.Common.{◌≡◌, ◌⊎◌, ℕ, suc, Bool, true, false, ◌||◌, nat_lt, if◌then◌else◌, List, [], ◌∷◌, length, Option, None, refl, ap, ◌∙◌, inl, inr, arith}
+use Rattle.std.specs.List.{list_any}
+use Rattle.std.proofs.lemmas.Bool.{le-ltb}
+use Rattle.esr_model.specs.Names.{BlobName}
+use Rattle.esr_model.specs.Values.{Has}
+use Rattle.esr_core.specs.After.{or_else}
+use Rattle.esr_core.specs.Entry.{NameInUse, TooMany, Entry}
+use Rattle.esr_script.specs.declared.item.Item.{Item}
+use Rattle.esr_script.specs.declared.item.Item.TheVariants as items
+use Rattle.esr_script.specs.declared.item.ScriptLine.{ScriptLine}
+use Rattle.esr_report.specs.Replies.{Reply, Made, Waited, Listed, Refused, fails_swap, has_fallen, wait_reply, end_reply, replies}
+use Rattle.esr_report.specs.Status.{is_deposed, damaged_name, first_damaged, is_spent, are_ok, AllOk, SomeRefused, SwapFailed, ending_by, ending}
+use Rattle.esr_quiet.specs.Refusals.{IsByRule}
+use Rattle.esr_complete.specs.Answers.{IsAnswer, AreAnswered, EndsWell}
+use Rattle.esr_complete.proofs.Facts.{Fact}
+
+-- a reply that ends no run
+abbrev IsFine : Reply → Type 0
+IsFine (Made uuid) = Unit {0}
+IsFine Waited = Unit {0}
+IsFine (Listed snapshots) = Unit {0}
+IsFine (Refused refusal) = IsByRule refusal
+IsFine reply = ⊥
+
+fine_answer : (item : Item) (reply : Reply) → IsAnswer item reply → IsFine reply
+fine_answer (items.Snapshot name indices) (Made uuid) h = tt
+fine_answer (items.Snapshot name indices) (Refused refusal) h = h
+fine_answer items.Wait Waited h = tt
+fine_answer items.List (Listed snapshots) h = tt
+fine_answer item reply h = absurd h
+
+record Calm (reply : Reply) : Type 0 where
+  undeposed : is_deposed reply ≡ false
+  undamaged : damaged_name reply ≡ None
+  unspent : is_spent reply ≡ false
+
+calm_reply : (reply : Reply) → IsFine reply → Calm reply
+calm_reply (Made uuid) fine = record { undeposed = refl; undamaged = refl; unspent = refl }
+calm_reply Waited fine = record { undeposed = refl; undamaged = refl; unspent = refl }
+calm_reply (Listed snapshots) fine = record { undeposed = refl; undamaged = refl; unspent = refl }
+calm_reply (Refused (NameInUse uuid)) fine = record { undeposed = refl; undamaged = refl; unspent = refl }
+calm_reply (Refused (TooMany limit)) fine = record { undeposed = refl; undamaged = refl; unspent = refl }
+calm_reply (Refused refusal) fine = absurd fine
+calm_reply reply fine = absurd fine
+
+record AllCalm (lines : List ScriptLine) (rs : List Reply) : Type 0 where
+  undeposed : list_any is_deposed rs ≡ false
+  undamaged : first_damaged rs ≡ None
+  unspent : list_any is_spent rs ≡ false
+  as_many : length rs ≡ length lines
+
+neither : (a b : Bool) → a ≡ false → b ≡ false → (a || b) ≡ false
+neither a b x y = ap (λ (c : Bool). c || b) x ∙ y
+
+all_calm : (lines : List ScriptLine) (rs : List Reply) → AreAnswered lines rs → AllCalm lines rs
+all_calm [] [] h = record { undeposed = refl; undamaged = refl; unspent = refl; as_many = refl }
+all_calm (line ∷ lines) (reply ∷ rs) h =
+    let one = calm_reply reply (fine_answer line.item reply h.0) in
+    let rest = all_calm lines rs h.1 in
+    record {
+      undeposed = neither (is_deposed reply) (list_any is_deposed rs) one.undeposed rest.undeposed;
+      undamaged = ap (λ (a : Option BlobName). or_else a (first_damaged rs)) one.undamaged ∙ rest.undamaged;
+      unspent = neither (is_spent reply) (list_any is_spent rs) one.unspent rest.unspent;
+      as_many = ap (λ (n : ℕ). suc n) rest.as_many;
+    }
+all_calm lines rs h = absurd h
+
+unfallen : (all es : List Entry) → ((x : Entry) → Has es x → Fact all x) → has_fallen es ≡ false
+unfallen all [] facts = refl
+unfallen all (x ∷ es) facts = neither (fails_swap x.step x.reply) (has_fallen es) (facts x (inl refl)).unfallen (unfallen all es (λ y has. facts y (inr has)))
+
+not_less : (m n : ℕ) → m ≡ n → nat_lt m n ≡ false
+not_less m n e = le-ltb m n (omega (arith, e))
+
+by_ok : (ok : Bool) → (ending_by None false ok ≡ AllOk) ⊎ (ending_by None false ok ≡ SomeRefused)
+by_ok true = inl refl
+by_ok false = inr refl
+
+ends : (lines : List ScriptLine) (rs : List Reply) (history : List Entry) → has_fallen history ≡ false → AllCalm lines rs
+    → (if is_deposed (end_reply history) || list_any is_deposed rs then SwapFailed else ending_by (first_damaged rs) (list_any is_spent rs || nat_lt (length rs) (length lines)) (are_ok rs)) ≡ ending_by None false (are_ok rs)
+ends lines rs history none c =
+    ap (λ (b : Bool). if b then SwapFailed else ending_by (first_damaged rs) (list_any is_spent rs || nat_lt (length rs) (length lines)) (are_ok rs)) (neither (is_deposed (end_reply history)) (list_any is_deposed rs) (ap (λ (b : Bool). is_deposed (wait_reply b)) none) c.undeposed)
+    ∙ ap (λ (a : Option BlobName). ending_by a (list_any is_spent rs || nat_lt (length rs) (length lines)) (are_ok rs)) c.undamaged
+    ∙ ap (λ (b : Bool). ending_by None b (are_ok rs)) (neither (list_any is_spent rs) (nat_lt (length rs) (length lines)) c.unspent (not_less (length rs) (length lines) c.as_many))
+
+pub ends_well : (lines : List ScriptLine) (history : List Entry) → ((x : Entry) → Has history x → Fact history x) → AreAnswered lines (replies lines history) → EndsWell lines history
+unfolding ending
+ends_well lines history facts answered =
+    let e = ends lines (replies lines history) history (unfallen history history facts) (all_calm lines (replies lines history) answered) in
+    elim (by_ok (are_ok (replies lines history))) [ inl ok ↦ inl (e ∙ ok) | inr ok ↦ inr (e ∙ ok) ]

@@ -1,0 +1,68 @@
+-- What each entry of a history where nothing fails answers to a line.
+use Rattle.std.proofs.Common.{◌≡◌, ℕ, false, List, Option, Some, None, refl, sym, subst, inl, inr}
+use Rattle.esr_model.specs.Values.{Bytes, Has}
+use Rattle.esr_core.specs.Entry as entry
+use Rattle.esr_core.specs.Entry.{Asked, Step, AskStep, LookStep, NameInUse, TooMany, Accepted, Looked, Entry, Moment}
+use Rattle.esr_core.specs.After.{or_else}
+use Rattle.esr_script.specs.declared.item.AskedIndex.{AskedIndex as LineIndex}
+use Rattle.esr_script.specs.declared.item.Item.{Item}
+use Rattle.esr_script.specs.declared.item.Item.TheVariants as items
+use Rattle.esr_report.specs.Replies.{Reply, fails_swap, has_fallen, deposed_by, end_of_op, ask_reply, look_reply}
+use Rattle.esr_desk.specs.Start.{Start, world_of}
+use Rattle.esr_quiet.specs.Refusals.{AreByRule}
+use Rattle.esr_quiet.specs.Smooth.{IsSmooth, NoneFailed}
+use Rattle.esr_complete.specs.Lines.{entries_of}
+use Rattle.esr_complete.specs.Answers.{IsIdle, IsAnswer}
+use Rattle.esr_core.proofs.Reading.{Has-mapped}
+use Rattle.esr_complete.proofs.Tickets.{IsCalm, IsMade, end_made, settle_made}
+use Rattle.esr_complete.proofs.Following.{IsSaid, accepts, IsSettledIn, FollowsIn}
+use Rattle.esr_complete.proofs.Histories.{Laws, all_calm, all_closed, follows_all}
+
+-- there is an answer, and it is one of the line
+abbrev pub IsAnswerOf : Item → Option Reply → Type 0
+IsAnswerOf item None = ⊥
+IsAnswerOf item (Some reply) = IsAnswer item reply
+
+pub record Fact (all : List Entry) (e : Entry) : Type 0 where
+  pub unfallen : fails_swap e.step e.reply ≡ false
+  pub asked : (command : Asked) → e.step ≡ AskStep command → (name : Bytes) (indices : List LineIndex) → IsAnswerOf (items.Snapshot name indices) (ask_reply all e.reply)
+  pub looked : e.step ≡ LookStep → IsAnswerOf items.List (look_reply e.reply)
+
+unfallen_by : (step : Step) (reply : entry.Reply) → IsCalm reply step → fails_swap step reply ≡ false
+unfallen_by step (entry.Refused (NameInUse uuid)) calm = refl
+unfallen_by step (entry.Refused (TooMany limit)) calm = refl
+unfallen_by step (entry.Refused refusal) calm = absurd calm
+unfallen_by step reply calm = refl
+
+asked_by : (all : List Entry) (command : Asked) (reply : entry.Reply) (name : Bytes) (indices : List LineIndex) → IsCalm reply (AskStep command) → IsSaid (AskStep command) reply
+    → ((o : ℕ) → accepts reply ≡ Some o → IsMade (end_of_op all o all)) → IsAnswerOf (items.Snapshot name indices) (ask_reply all reply)
+asked_by all command (Accepted op) name indices calm said made = subst (λ (a : Option Reply). IsAnswerOf (items.Snapshot name indices) (or_else a (deposed_by (has_fallen all)))) (sym (made op refl).is) tt
+asked_by all command (entry.Refused (NameInUse uuid)) name indices calm said made = tt
+asked_by all command (entry.Refused (TooMany limit)) name indices calm said made = tt
+asked_by all command (entry.Refused refusal) name indices calm said made = absurd calm
+asked_by all command reply name indices calm said made = absurd said
+
+looked_by : (reply : entry.Reply) → IsSaid LookStep reply → IsAnswerOf items.List (look_reply reply)
+looked_by (Looked snapshots safe) said = tt
+looked_by reply said = absurd said
+
+fact_by : (all : List Entry) (e : Entry) → IsCalm e.reply e.step → IsSaid e.step e.reply → ((o : ℕ) → accepts e.reply ≡ Some o → IsMade (end_of_op all o all)) → Fact all e
+fact_by all e calm said made =
+    record {
+      unfallen = unfallen_by e.step e.reply calm;
+      asked = λ command is name indices. asked_by all command e.reply name indices (subst (IsCalm e.reply) is calm) (subst (λ (step : Step). IsSaid step e.reply) is said) made;
+      looked = λ is. looked_by e.reply (subst (λ (step : Step). IsSaid step e.reply) is said);
+    }
+
+-- an op that was accepted ends with its snapshot
+made_by : (all : List Entry) (o : ℕ) → ((e : Entry) → Has all e → IsCalm e.reply e.step) → IsSettledIn all o → IsMade (end_of_op all o all)
+made_by all o calm h = end_made all o all calm h.e h.has (settle_made all o h.uuid h.e h.op_is h.uuid_is h.step h.reply)
+
+pub facts : Laws → (s : Start) (log : List Moment) → IsSmooth s log → NoneFailed log → AreByRule log → IsIdle s log → (e : Entry) → Has (entries_of log) e → Fact (entries_of log) e
+facts laws s log smooth none by_rule idle e has = fact_by (entries_of log) e (calm e has) (h.said e has) (λ o accepted. elim (h.ended e o has accepted) [ inl stands ↦ absurd (all_closed laws s log smooth idle o stands) | inr settled ↦ made_by (entries_of log) o calm settled ])
+  where
+    h : FollowsIn (world_of s log) (entries_of log)
+    h = follows_all s log smooth none by_rule
+
+    calm : (x : Entry) → Has (entries_of log) x → IsCalm x.reply x.step
+    calm x m = let (moment, there, is) = Has-mapped (λ (y : Moment). y.entry) log x m in subst (λ (y : Entry). IsCalm y.reply y.step) is (all_calm log none by_rule moment there)

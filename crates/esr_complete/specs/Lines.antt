@@ -1,0 +1,48 @@
+-- What the lines of a script ask for.
+use Rattle.std.specs.Prelude.{ℕ, List, [], ◌∷◌, ◌++◌, map}
+use Rattle.esr_model.specs.Values.{Bytes}
+use Rattle.esr_core.specs.Entry.{AskedIndex, Asked, Snapshot, Step, AskStep, LookStep, Entry, Moment}
+use Rattle.esr_script.specs.declared.item.AskedIndex.{AskedIndex as LineIndex}
+use Rattle.esr_script.specs.declared.item.Item.{Item}
+use Rattle.esr_script.specs.declared.item.Item.TheVariants as items
+use Rattle.esr_script.specs.declared.item.ScriptLine.{ScriptLine}
+
+abbrev pub index_of_line : LineIndex → AskedIndex
+index_of_line a = record { name = a.name; shards = a.shards; place = a.place }
+
+-- the command of a line that asks for a snapshot of this moment
+abbrev pub command_of_line : Bytes → List LineIndex → ℕ → Asked
+command_of_line name indices moment = Snapshot name (map index_of_line indices) moment
+
+-- the step that a line asks for; a wait asks for none, nor does a command that is not there yet
+abbrev pub steps_of_item : ℕ → Item → List Step
+steps_of_item moment (items.Snapshot name indices) = AskStep (command_of_line name indices moment) ∷ []
+steps_of_item moment (items.Clone source name indices) = []
+steps_of_item moment (items.Delete names) = []
+steps_of_item moment (items.Restore name place) = []
+steps_of_item moment items.Cleanup = []
+steps_of_item moment items.Failover = []
+steps_of_item moment items.Wait = []
+steps_of_item moment items.List = LookStep ∷ []
+steps_of_item moment items.Check = []
+steps_of_item moment items.Verify = []
+
+-- the steps that lines ask for, in order
+abbrev pub steps_of : ℕ → List ScriptLine → List Step
+steps_of moment [] = []
+steps_of moment (line ∷ lines) = steps_of_item moment line.item ++ steps_of moment lines
+
+-- a snapshot, a wait or a list
+abbrev pub IsKnown : Item → Type 0
+IsKnown (items.Snapshot name indices) = Unit {0}
+IsKnown items.Wait = Unit {0}
+IsKnown items.List = Unit {0}
+IsKnown item = ⊥
+
+abbrev pub AreKnown : List ScriptLine → Type 0
+AreKnown [] = Unit {0}
+AreKnown (line ∷ lines) = IsKnown line.item × AreKnown lines
+
+-- the entries of a history
+abbrev pub entries_of : List Moment → List Entry
+entries_of log = map (λ (m : Moment). m.entry) log

@@ -1,0 +1,115 @@
+//! The same calls over a container in memory and over a folder, with the same answers.
+use crate::DirDepot;
+use crate::tests::{Call, answer};
+use esr_depot::{CallError, Counted, Depot, Stage};
+use esr_memdepot::MemDepot;
+use esr_seq::Seq;
+use std::alloc::Global;
+use std::fs;
+use std::test::Fail;
+
+/// Calls, with their names and texts, and what each container is to answer.
+static CALLS: [(Call, &str, &str, &str); 26] = [
+    (Call::Record, "", "", "none"),
+    (Call::List, "", "", ""),
+    (Call::Fetch, "index-0", "", "none"),
+    (Call::Remove, "index-0", "", "ok"),
+    (Call::Commit, "indices/b/0/x", "bb", "Done"),
+    (Call::Fetch, "indices/b/0/x", "", "bb"),
+    (Call::Commit, "indices/b/0/x", "other", "Exists"),
+    (Call::Fetch, "indices/b/0/x", "", "bb"),
+    (Call::Commit, "indices/b/0/empty", "", "Done"),
+    (Call::Fetch, "indices/b/0/empty", "", ""),
+    (Call::Commit, "index-0", "root", "Done"),
+    (Call::Replace, "index.latest", "1", "ok"),
+    (Call::Replace, "index.latest", "two", "ok"),
+    (Call::Fetch, "index.latest", "", "two"),
+    (Call::Record, "", "", "none"),
+    (
+        Call::List,
+        "",
+        "",
+        "index-0:4 index.latest:3 indices/b/0/empty:0 indices/b/0/x:2 ",
+    ),
+    (Call::Swap, "", "term 1", "ok"),
+    (Call::Swap, "", "", "ok"),
+    (Call::Record, "", "", ""),
+    (Call::Swap, "", "term 2", "ok"),
+    (Call::Record, "", "", "term 2"),
+    (Call::Remove, "indices/b/0/x", "", "ok"),
+    (Call::Fetch, "indices/b/0/x", "", "none"),
+    (Call::Commit, "indices/b/0/x", "again", "Done"),
+    (Call::Fetch, "indices/b/0/x", "", "again"),
+    (
+        Call::List,
+        "",
+        "",
+        "index-0:4 index.latest:3 indices/b/0/empty:0 indices/b/0/x:5 ",
+    ),
+];
+
+/// Makes the calls, and tells those that answer otherwise.
+fn told_otherwise<D: Depot>(alloc: Global, depot: &mut D) -> Result<String, CallError> {
+    let mut text = String::new(alloc);
+    for (call, name, bytes, wanted) in &CALLS {
+        let got = answer(alloc, depot, (*call, *name, *bytes))?;
+        if got.as_str() != *wanted {
+            text.push_str(format!(in alloc; "{call:?} {name}: {got}\n")?.as_str())?;
+        }
+    }
+    Ok(text)
+}
+
+/// Commits a blob that is written in two pieces, after which its stage has no room.
+fn put_in_pieces<D: Depot>(
+    alloc: Global,
+    depot: &mut D,
+    first: &str,
+    second: &str,
+) -> Result<String, CallError> {
+    let Some(room) = first.len().checked_add(second.len()) else {
+        return Err(CallError::Failed);
+    };
+    let mut stage = depot.begin(alloc, "pieces", room)?;
+    stage.write(first.as_bytes())?;
+    stage.write(second.as_bytes())?;
+    depot.commit(alloc, stage)?;
+    answer(alloc, depot, (Call::Fetch, "pieces", ""))
+}
+
+#[test]
+fn memory_answers_as_the_table_says(rt: HostRuntime) -> Result<(), Fail> {
+    let alloc = rt.alloc();
+    let mut depot = MemDepot::new(alloc, Seq::new(alloc));
+    assert_eq!(rt; told_otherwise(alloc, &mut depot)?.as_str(), "");
+    assert_eq!(rt; depot.fault_count(), 0);
+    Ok(())
+}
+
+#[test]
+fn a_folder_answers_as_memory_does(rt: HostRuntime) -> Result<(), Fail> {
+    let alloc = rt.alloc();
+    let _ = fs::remove_dir_all(&rt, "esr_dirdepot_both");
+    let mut depot = DirDepot::new(&rt, alloc, "esr_dirdepot_both")?;
+    assert_eq!(rt; told_otherwise(alloc, &mut depot)?.as_str(), "");
+    assert_eq!(rt; depot.fault_count(), 0);
+    Ok(())
+}
+
+#[test]
+fn a_blob_in_two_pieces_is_whole(rt: HostRuntime) -> Result<(), Fail> {
+    let alloc = rt.alloc();
+    let _ = fs::remove_dir_all(&rt, "esr_dirdepot_pieces");
+    let mut folder = DirDepot::new(&rt, alloc, "esr_dirdepot_pieces")?;
+    let mut memory = MemDepot::new(alloc, Seq::new(alloc));
+    let wanted = "one, two";
+    assert_eq!(rt;
+        put_in_pieces(alloc, &mut memory, "one, ", "two")?.as_str(),
+        wanted
+    );
+    assert_eq!(rt;
+        put_in_pieces(alloc, &mut folder, "one, ", "two")?.as_str(),
+        wanted
+    );
+    Ok(())
+}

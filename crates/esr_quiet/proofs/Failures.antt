@@ -1,0 +1,141 @@
+-- No unit fails where each world of the history is lawful and free.
+use Rattle.std.proofs.Common.{◌≡◌, ℕ, Bool, true, false, true≢false, List, ◌∷◌, ◌++◌, Option, Some, None, refl, sym, ap, ◌∙◌, subst, inl, inr}
+use Rattle.std.proofs.Common.{append_assoc}
+use Rattle.std.specs.Prelude.{length}
+use Rattle.std.specs.FinMap as fin
+use Rattle.esr_model.specs.Names.{BlobName, ShardIndex}
+use Rattle.esr_model.specs.Values.{Bytes, Has, ShardFiles, Formats, Kind}
+use Rattle.esr_model.specs.Image.{Image}
+use Rattle.esr_core.specs.World.{World, Shard, Ticket}
+use Rattle.esr_core.specs.Steps.{IsOut}
+use Rattle.esr_core.specs.Entry.{Why, OfDepot, OfSource, OfChange, OfDamage, Step, FetchStep, FailedStep, Reply, WasAbsent, HasEnded, Moment}
+use Rattle.esr_core.specs.Allowed as allowed
+use Rattle.esr_core.specs.Allowed.{Told, Fetches, Fails, Allows, Allowed}
+use Rattle.esr_formats.specs.Formats.{formats}
+use Rattle.esr_formats.specs.Shards.{shard_index_kind}
+use Rattle.esr_source.specs.declared.address.Address.{Address}
+use Rattle.esr_desk.specs.declared.fault.FailedObject.TheVariants as objects
+use Rattle.esr_desk.specs.declared.fault.Fault.{Fault}
+use Rattle.esr_desk.specs.declared.fault.By.{By}
+use Rattle.esr_desk.specs.declared.fault.By.TheVariants as by
+use Rattle.esr_desk.specs.Start.{Start, formats_of, world_of, or_no_ticket, ticket_of}
+use Rattle.esr_desk.specs.Damage.{IsBase, BaseFault, WasMissing, IsBad}
+use Rattle.esr_desk.specs.Shown.{Counts, DepotShown, SourceShown, ReadShown, IsShown, IsUntold, HadFault, AreShown}
+use Rattle.esr_quiet.specs.Smooth.{IsSmooth, NoneFailed}
+use Rattle.esr_quiet.specs.Prefixes.{Prefixes}
+use Rattle.esr_quiet.proofs.Prefixes.{told_at, place_of, has_front, has_at}
+use Rattle.esr_quiet.proofs.Passing.{quiet_at, legal_at}
+use Rattle.esr_quiet.proofs.Bases.{is_there, does_read, not_ahead}
+
+-- ---- what a step tells
+
+-- of a fetch that found nothing, and of a report
+abbrev Tells : Formats → World → ℕ → Step → Reply → Option Image → Type 0
+Tells f w who (FetchStep name) WasAbsent image = Fetches f w who name × Told image (λ blobs. (fin.get w.blobs (f.names.text name) ≡ None) × (blobs ≡ w.blobs))
+Tells f w who (FailedStep why) HasEnded image = Fails w who
+Tells f w who step reply image = Unit {0}
+
+tells : (f : Formats) (size : ℕ) (w : World) (who : ℕ) (step : Step) (reply : Reply) (image : Option Image) → Allows f size w who step reply image → Tells f w who step reply image
+tells f size w who step reply image (allowed.Missing k name im g found) = (g, found)
+tells f size w who step reply image (allowed.Failing k why im c same) = c
+tells f size w who step reply image a = tt
+
+-- the answer is that of a world in which no record swap has failed
+told_by : (f : Formats) (size : ℕ) (w : World) (m : Moment) → w.deposed ≡ false → Allowed f size w m → Tells f w m.entry.who m.entry.step m.entry.reply m.image
+told_by f size w m present a = elim a.answered [ inl alive ↦ tells f size w m.entry.who m.entry.step m.entry.reply m.image alive.1 | inr dead ↦ absurd (true≢false (sym dead.deposed ∙ present)) ]
+
+fails_at : (f : Formats) (size : ℕ) (w : World) (m : Moment) (why : Why) → w.deposed ≡ false → Allowed f size w m → m.entry.step ≡ FailedStep why → m.entry.reply ≡ HasEnded → Fails w m.entry.who
+fails_at f size w m why present a step reply =
+    subst (λ st. Tells f w m.entry.who st HasEnded m.image) step (subst (λ r. Tells f w m.entry.who m.entry.step r m.image) reply (told_by f size w m present a))
+
+misses_at : (f : Formats) (size : ℕ) (w : World) (m : Moment) (name : BlobName) → w.deposed ≡ false → Allowed f size w m → m.entry.step ≡ FetchStep name → m.entry.reply ≡ WasAbsent → (image : Image) → m.image ≡ Some image
+    → Fetches f w m.entry.who name × (fin.get w.blobs (f.names.text name) ≡ None)
+misses_at f size w m name present a step reply image is =
+    let h = subst (λ st. Tells f w m.entry.who st WasAbsent m.image) step (subst (λ r. Tells f w m.entry.who m.entry.step r m.image) reply (told_by f size w m present a)) in
+    (h.0, (subst (λ (im : Option Image). Told im (λ blobs. (fin.get w.blobs (f.names.text name) ≡ None) × (blobs ≡ w.blobs))) is h.1).0)
+
+-- ---- what the formats are
+
+known_is : (s : Start) → (formats_of s).known ≡ s.known
+unfolding formats
+known_is s = refl
+
+index_is : (s : Start) → (formats_of s).shard_index ≡ shard_index_kind
+unfolding formats
+index_is s = refl
+
+-- ---- each cause
+
+module _ (s : Start) (log : List Moment) (smooth : IsSmooth s log) (prefixes : Prefixes s log) where
+  -- no object of the container fails
+  no_fault : (front : List Moment) (who : ℕ) → ((m : Moment) → Has front m → Has log m) → HadFault s front who → ⊥
+  no_fault front who within h = smooth.calm h.moment (within h.moment (subst (λ (l : List Moment). Has l h.moment) (sym h.is) (has_at h.front h.back h.moment))) h.reply
+
+  depot : {S F H T : Type 0} (c : Counts S F H T) (front : List Moment) (who : ℕ) → ((m : Moment) → Has front m → Has log m) → (b : By S F H T) → DepotShown c s front who b → ⊥
+  depot c front who within (by.Object (objects.Stage stage)) h = true≢false (sym smooth.quiet ∙ h.1)
+  depot c front who within (by.Object (objects.Fetch fetch)) h = true≢false (sym smooth.quiet ∙ h.1)
+  depot c front who within (by.Object (objects.Shard shard)) h = h
+  depot c front who within (by.Object (objects.Target target)) h = h
+  depot c front who within by.Entry h = no_fault front who within h
+  depot c front who within by.Nothing h = h
+
+  -- nor a shard
+  source : {S F H T : Type 0} (c : Counts S F H T) (t : Ticket) → ((index number : ℕ) → t.work ≡ Shard index number → s.steady t.place t.name number ≡ true) → (b : By S F H T) → SourceShown c s t b → ⊥
+  source c t steady (by.Object (objects.Stage stage)) h = h
+  source c t steady (by.Object (objects.Fetch fetch)) h = h
+  source c t steady (by.Object (objects.Shard shard)) h =
+      let a : Address = c.made_for shard in
+      true≢false (sym (steady h.1.index a.number h.1.work) ∙ (λ j. s.steady (h.1.place j) (h.1.name j) a.number) ∙ h.0.1)
+  source c t steady (by.Object (objects.Target target)) h = h
+  source c t steady by.Entry h = h
+  source c t steady by.Nothing h = h
+
+  read_shown : {S F H T : Type 0} (b : By S F H T) (shown : Type 0) → ReadShown b shown → shown
+  read_shown (by.Object object) shown h = absurd h
+  read_shown by.Entry shown h = absurd h
+  read_shown by.Nothing shown h = h
+
+  -- the sources tell all files
+  untold : (t : Ticket) → IsUntold s t → ⊥
+  untold t (index, number, work, unknown) = true≢false (sym (smooth.known t.place t.name number) ∙ ap (λ (known : Bytes → Bytes → ℕ → Bool). known t.place t.name number) (known_is s) ∙ unknown)
+
+  -- each base is there
+  found : (front rest : List Moment) (m : Moment) → log ≡ front ++ m ∷ rest → (name : BlobName) → m.entry.step ≡ FetchStep name → m.entry.reply ≡ WasAbsent → ⊥
+  found front rest m is name step reply =
+      let told = told_at log m smooth.told (subst (λ (l : List Moment). Has l m) (sym is) (has_at front rest m)) in
+      let at = misses_at (formats_of s) s.part_size (world_of s front) m name (quiet_at s log smooth front (m ∷ rest) is).present (legal_at s log smooth front rest m is) step reply told.0 told.1 in
+      let g = at.0 in
+      let law = prefixes.lawful front (m ∷ rest) is in
+      is_there (formats_of s) (world_of s front) law.0 law.1 m.entry.who g.t g.out g.index g.shard g.base g.work g.base_is (ap (λ (n : BlobName). fin.get (world_of s front).blobs ((formats_of s).names.text n)) (sym g.name_is) ∙ at.1)
+
+  missing : (front back : List Moment) → log ≡ front ++ back → (who : ℕ) (name : BlobName) → WasMissing front who name → ⊥
+  missing front back is who name h = found h.front (h.back ++ back) h.moment (is ∙ ap (λ (l : List Moment). l ++ back) h.is ∙ append_assoc h.front (h.moment ∷ h.back) back) name h.step h.reply
+
+  -- and isn't bad
+  bad : (front back : List Moment) → log ≡ front ++ back → (who : ℕ) (t : Ticket) → IsOut (world_of s front) who t → (name : BlobName) → IsBase t name → (bytes : Bytes) → Has t.read (name, bytes) → IsBad t bytes → ⊥
+  bad front back is who t out name base bytes read h =
+      let law = prefixes.lawful front back is in
+      let had : Has t.read (ShardIndex base.index base.number base.base, bytes) = subst (λ (n : BlobName). Has t.read (n, bytes)) base.name_is read in
+      elim h [
+        | inl none ↦ does_read (formats_of s) (world_of s front) law.0 law.1 who t out base.index base.number base.base base.work base.base_is bytes had (ap (λ (kind : Kind ShardFiles). kind.read bytes) (index_is s) ∙ none)
+        | inr v ↦ not_ahead (formats_of s) (world_of s front) law.0 law.1 who t out base.index base.number base.base base.work base.base_is (prefixes.free front back is) bytes had v.0 (ap (λ (kind : Kind ShardFiles). kind.read bytes) (index_is s) ∙ v.1) v.2
+      ]
+
+  damage : (front back : List Moment) → log ≡ front ++ back → (who : ℕ) → IsOut (world_of s front) who (ticket_of s front who) → (name : BlobName) → IsBase (ticket_of s front who) name → BaseFault s front who name → ⊥
+  damage front back is who out name base h = elim h [ inl m ↦ missing front back is who name m | inr b ↦ bad front back is who (ticket_of s front who) out name base b.0 (b.1 smooth.tells) b.2 ]
+
+  -- no cause is shown
+  shows : {S F H T : Type 0} (c : Counts S F H T) (front back : List Moment) → log ≡ front ++ back → (who : ℕ) → IsOut (world_of s front) who (ticket_of s front who) → (why : Why) (b : By S F H T) → IsShown c s front who why b → ⊥
+  shows c front back is who out OfDepot b h = depot c front who (λ m has. subst (λ (l : List Moment). Has l m) (sym is) (has_front front back m has)) b h
+  shows c front back is who out OfSource b h = source c (ticket_of s front who) ((quiet_at s log smooth front back is).tickets who (ticket_of s front who) out.there).steady b h
+  shows c front back is who out (OfChange first_len first_digest second_len second_digest) b h = untold (ticket_of s front who) (read_shown b _ h).1
+  shows c front back is who out (OfDamage name) b h = let x = read_shown b _ h in damage front back is who out name x.0 x.1
+
+  pub none_failed : {S F H T : Type 0} (c : Counts S F H T) (faults : List (Fault S F H T)) → AreShown c s log faults → NoneFailed log
+  none_failed c faults shown m why has step reply =
+      let p = place_of log m has in
+      let w : World = world_of s p.front in
+      let fails = fails_at (formats_of s) s.part_size w m why (quiet_at s log smooth p.front (m ∷ p.back) p.is).present (legal_at s log smooth p.front p.back m p.is) step reply in
+      let same : fails.t ≡ ticket_of s p.front m.entry.who = sym (ap or_no_ticket fails.out.there) in
+      let x = shown.shown (length p.front) m.entry.who why (record { front = p.front; moment = m; back = p.back; is = p.is; place_is = refl; of = refl; step = step; reply = reply }) in
+      shows c p.front (m ∷ p.back) p.is m.entry.who (subst (IsOut w m.entry.who) same fails.out) why x.0 x.1

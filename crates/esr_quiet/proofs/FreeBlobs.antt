@@ -1,0 +1,169 @@
+-- A blob that a ticket commits is its own: what else is to be written stays free.
+use Rattle.std.proofs.Common.{◌≡◌, ◌⊎◌, ℕ, ◌<◌, List, [], true, Some, None, refl, sym, ap, ◌∙◌, subst, inl, inr, arith}
+use Rattle.std.specs.FinMap as fin
+use Rattle.esr_model.specs.Names.{BlobName, Root, ShardSnap, ShardIndex}
+use Rattle.esr_model.specs.Values.{Bytes, Has, SnapInfo, SnapList, ShardFiles, Formats}
+use Rattle.esr_model.specs.Shelf.{Shelved}
+use Rattle.esr_model.specs.Image.{IsStored, Blobs, At, Present, Reads, IndexStands}
+use Rattle.esr_core.specs.World.{World, Op, ShardWork, Pending, Work, Shard, Finalize, Deleting, Drop, Ticket, Swap, swap, swap_of, HeldIn}
+use Rattle.esr_core.specs.Generations.{Base, ShardLaw}
+use Rattle.esr_core.specs.Steps.{IsOut, SwapCommits, ShardCommits, MayCommit}
+use Rattle.esr_core.specs.Ids.{Law}
+use Rattle.esr_core.proofs.Adds.{at_was}
+use Rattle.esr_core.proofs.Evolving.{pending_out}
+use Rattle.esr_core.proofs.Queues.{was_in, split_at}
+use Rattle.esr_core.proofs.Reading.{some_same, none_some}
+use Rattle.esr_core.proofs.SettleShards.{of_swap}
+use Rattle.esr_core.proofs.Take.{Kinds, IsSnap, IsMeta, IsIndex, kinds}
+use Rattle.esr_quiet.specs.Free.{IsInUse}
+use Rattle.esr_quiet.proofs.FreeFrame.{IsFree, Follows}
+use Rattle.esr_quiet.proofs.FreeNames.{one_place}
+use Rattle.esr_quiet.proofs.FreeParts.{own_put}
+
+-- ---- generations in use
+
+module _ (f : Formats) (w : World) (shelf : List Shelved) (law : Law f w shelf) where
+  -- they stand
+  pub used_stands : (index number g : ℕ) → IsInUse w index number g → IndexStands f (HeldIn f w) index number g
+  used_stands index number g (inl live) = (law.lawful.sound.carried.carries index number g live).stands
+  used_stands index number g (inr b) = (subst (Base f (HeldIn f w) w.root w.ops index number) b.base_is (law.lawful.sound.carried.shards b.ticket b.t b.there b.out index number b.work).base).1.stands
+
+  -- and list no uuid from the next id on
+  pub used_below : (index number g : ℕ) (held : ShardFiles) (l : SnapList) → IsInUse w index number g → Reads (At f w.blobs) (ShardIndex index number g) f.shard_index held → Has held.snapshots l → l.uuid < w.next_id
+  used_below index number g held l used reads m =
+      let stands = used_stands index number g used in
+      let same : held ≡ stands.held = some_same _ _ (sym reads.reads ∙ ap f.shard_index.read (some_same _ _ (sym reads.there.0 ∙ stands.held_reads.there.0.0)) ∙ stands.held_reads.reads) in
+      let a : l.uuid < g = stands.below l (subst (λ (x : ShardFiles). Has x.snapshots l) same m) in
+      let b : g < w.next_id = (law.ids.blobs (ShardIndex index number g) (reads.bytes, reads.there)).1 in
+      omega (arith, a, b)
+
+one_root : (n m : ℕ) → Root n ≡ Root m → n ≡ m
+one_root n m e = cc
+
+module _ (f : Formats) (w : World) (shelf : List Shelved) (law : Law f w shelf) (l : IsFree f w) (k : ℕ) (t : Ticket) (out : IsOut w k t) (name : BlobName) (bytes : Bytes) (may : MayCommit f t name bytes) where
+  no_kind : (info : SnapInfo) (u : Ticket) → ShardCommits u name → Kinds f info name bytes → ⊥
+  no_kind info u c (IsSnap e text) = subst (ShardCommits u) e c
+  no_kind info u c (IsMeta e text) = subst (ShardCommits u) e c
+  no_kind info u c (IsIndex r q e text) = subst (ShardCommits u) e c
+
+  -- a swap commits no name of a shard
+  no_swap : (s : Swap) → swap f t ≡ Some s → SwapCommits f s t name bytes → (u : Ticket) → ShardCommits u name → ⊥
+  no_swap s is (inr (n, e, root)) u c = subst (ShardCommits u) e c
+  no_swap s is (inl own) u c = by_work t.work refl
+    where
+      by_work : (work : Work) → t.work ≡ work → ⊥
+      by_work (Shard i n) e = none_some s (sym (ap (λ x. swap_of f x t.root) e) ∙ is)
+      by_work Drop e = none_some s (sym (ap (λ x. swap_of f x t.root) e) ∙ is)
+      by_work (Deleting uuids plan) e = l.no_deletes k t uuids plan out.there e
+      by_work (Finalize info results made) e = no_kind info u c (kinds f info name bytes (subst (λ (x : Swap). Has x.own (name, bytes)) (sym (of_swap f t.work t.root s is info results made e)) own))
+
+  -- what some shard's ticket may commit it commits as a shard's
+  as_shard : (u : Ticket) → ShardCommits u name → ShardCommits t name
+  as_shard u c = elim may [ inl h ↦ absurd (no_swap h.0 h.1 h.2 u c) | inr h ↦ h.1 ]
+
+  -- and a root as the one that it raised
+  as_root : (n : ℕ) → name ≡ Root n → t.raised ≡ Some n
+  as_root n e = elim may [
+    | inl h ↦ elim h.2 [
+      | inl own ↦ absurd (((law.lawful.sound.rooted.tickets k t out.there).shape h.0 h.1).no_root n bytes (subst (λ x. Has h.0.own (x, bytes)) e own))
+      | inr r ↦ r.2.raised ∙ ap Some (one_root r.0 n (sym r.1 ∙ e))
+    ]
+    | inr h ↦ absurd (subst (ShardCommits t) e h.1)
+  ]
+
+  -- it alone may commit the name
+  only_one : (j : ℕ) (u : Ticket) → fin.get w.tickets j ≡ Some u → u.out ≡ true → ShardCommits u name → j ≡ k
+  only_one j u e u_out c = let (i, n, a, b) = one_place t u name (as_shard u c) c in law.lawful.sound.carried.one_shard j k u t e out.there u_out out.out i n b a
+
+  -- its shard isn't pending
+  not_pending : (o : ℕ) (op : Op) (s : ShardWork) → fin.get w.ops o ≡ Some op → Has op.shards s → s.state ≡ Pending → t.work ≡ Shard s.ref.id s.number → op.uuid ≡ t.uuid → ⊥
+  not_pending o op s there m state work uuid =
+      let x : ShardLaw f (HeldIn f w) w.root w.ops k t s.ref.id s.number = law.lawful.sound.carried.shards k t out.there out.out s.ref.id s.number work in
+      elim (split_at o t.op) [
+        | inl same ↦
+            let one : x.op ≡ op = some_same _ _ (sym x.op_there ∙ ap (fin.get w.ops) (sym same) ∙ there) in
+            let is : s ≡ x.s = (law.lawful.sound.carried.ops o op there).distinct s x.s m (subst (λ (y : Op). Has y.shards x.s) one x.s_there) (sym x.index_is) (sym x.shard_is) in
+            pending_out (sym state ∙ ap (λ (y : ShardWork). y.state) is ∙ x.state)
+        | inr away ↦ (law.lawful.sound.carried.together o t.op op x.op away there x.op_there).uuids (uuid ∙ sym x.uuid_is)
+      ]
+
+  no_snap : (o : ℕ) (op : Op) (s : ShardWork) → fin.get w.ops o ≡ Some op → Has op.shards s → s.state ≡ Pending → ShardSnap s.ref.id s.number op.uuid ≡ name → ⊥
+  no_snap o op s there m state is =
+      let u : Ticket = record t { work = Shard s.ref.id s.number; uuid = op.uuid } in
+      let c : ShardCommits t (ShardSnap s.ref.id s.number op.uuid) = subst (ShardCommits t) (sym is) (as_shard u (subst (ShardCommits u) is (refl, refl))) in
+      not_pending o op s there m state c.0 c.1
+
+module _ (f : Formats) (w : World) (shelf : List Shelved) (law : Law f w shelf) (l : IsFree f w) (k : ℕ) (t : Ticket) (out : IsOut w k t) (name : BlobName) (bytes : Bytes) (may : MayCommit f t name bytes)
+    (named : IsStored f name) (absent : fin.get w.blobs (f.names.text name) ≡ None) (v : Ticket) (like : Follows f w t v) (mine : Has v.noted name) (raised_same : v.raised ≡ t.raised) where
+  abbrev added : Blobs
+  added = fin.insert w.blobs (f.names.text name) bytes
+
+  at_old : (m : BlobName) (b : Bytes) → At f added m b → (m ≡ name) ⊎ At f w.blobs m b
+  at_old m b h = elim (at_was f w.blobs name bytes named absent [] m b h) [ inl e ↦ inl e.0 | inr e ↦ inr e ]
+
+  shards_on : (j : ℕ) (u : Ticket) (m : BlobName) → fin.get (fin.insert w.tickets k v) j ≡ Some u → u.out ≡ true → ShardCommits u m → Present f added m → Has u.noted m
+  shards_on j u m e u_out c p = elim (was_in w.tickets k v j u e) [
+    | inl x ↦ subst (λ (y : Ticket). Has y.noted m) x.1 (elim (at_old m p.0 p.1) [
+      | inl is ↦ subst (Has v.noted) (sym is) mine
+      | inr old ↦ elim (like.commits m (subst (λ (y : Ticket). ShardCommits y m) (sym x.1) c)) [
+        | inl was ↦ like.noted m (l.free.shards k t m out.there out.out was (p.0, old))
+        | inr none ↦ absurd (none (p.0, old))
+      ]
+    ])
+    | inr x ↦ elim (at_old m p.0 p.1) [
+      | inl is ↦ absurd (x.0 (only_one f w shelf law l k t out name bytes may j u x.1 u_out (subst (ShardCommits u) is c)))
+      | inr old ↦ l.free.shards j u m x.1 u_out c (p.0, old)
+    ]
+  ]
+
+  pending_on : (o : ℕ) (op : Op) (s : ShardWork) → fin.get w.ops o ≡ Some op → Has op.shards s → s.state ≡ Pending → Present f added (ShardSnap s.ref.id s.number op.uuid) → ⊥
+  pending_on o op s there m state p = elim (at_old (ShardSnap s.ref.id s.number op.uuid) p.0 p.1) [
+    | inl is ↦ no_snap f w shelf law l k t out name bytes may o op s there m state is
+    | inr old ↦ l.free.pending o op s there m state (p.0, old)
+  ]
+
+  roots_on : (j n : ℕ) (u : Ticket) → fin.get (fin.insert w.tickets k v) j ≡ Some u → u.raised ≡ Some n → Present f added (Root n) → Has u.noted (Root n)
+  roots_on j n u e raised p = elim (was_in w.tickets k v j u e) [
+    | inl x ↦ subst (λ (y : Ticket). Has y.noted (Root n)) x.1 (elim (at_old (Root n) p.0 p.1) [
+      | inl is ↦ subst (Has v.noted) (sym is) mine
+      | inr old ↦ like.noted (Root n) (l.free.roots k n t out.there (sym raised_same ∙ ap (λ (y : Ticket). y.raised) x.1 ∙ raised) (p.0, old))
+    ])
+    | inr x ↦ elim (at_old (Root n) p.0 p.1) [
+      | inl is ↦ absurd (x.0 (l.free.own_root j k n u t x.1 out.there raised (as_root f w shelf law l k t out name bytes may n (sym is))))
+      | inr old ↦ l.free.roots j n u x.1 raised (p.0, old)
+    ]
+  ]
+
+  used_was : (index number g : ℕ) → IsInUse (record w { blobs = added; tickets = fin.insert w.tickets k v }) index number g → IsInUse w index number g
+  used_was index number g (inl live) = inl live
+  used_was index number g (inr b) = elim (was_in w.tickets k v b.ticket b.t b.there) [
+    | inl x ↦ inr (record { ticket = k; t = t; there = out.there; out = out.out; work = sym like.work ∙ ap (λ (y : Ticket). y.work) x.1 ∙ b.work; base_is = sym like.base ∙ ap (λ (y : Ticket). y.base) x.1 ∙ b.base_is })
+    | inr x ↦ inr (record { ticket = b.ticket; t = b.t; there = x.1; out = b.out; work = b.work; base_is = b.base_is })
+  ]
+
+  -- a generation in use was there
+  reads_was : (index number g : ℕ) (held : ShardFiles) → IsInUse w index number g → Reads (At f added) (ShardIndex index number g) f.shard_index held → Reads (At f w.blobs) (ShardIndex index number g) f.shard_index held
+  reads_was index number g held used reads = elim (at_old (ShardIndex index number g) reads.bytes reads.there) [
+    | inl is ↦
+        let stands = used_stands f w shelf law index number g used in
+        absurd (none_some stands.held_reads.bytes (sym absent ∙ ap (λ n. fin.get w.blobs (f.names.text n)) (sym is) ∙ stands.held_reads.there.0.0))
+    | inr old ↦ record { bytes = reads.bytes; there = old; reads = reads.reads }
+  ]
+
+  pub free_committed : IsFree f (record w { blobs = fin.insert w.blobs (f.names.text name) bytes; tickets = fin.insert w.tickets k v })
+  free_committed =
+      record {
+        free = record {
+          shards = shards_on;
+          pending = pending_on;
+          roots = roots_on;
+          own_root = own_put w.tickets l.free.own_root k t v out.there raised_same;
+          unlisted = λ o op s g held list there m waits used reads in_list.
+              let was = used_was s.ref.id s.number g used in
+              l.free.unlisted o op s g held list there m waits was (reads_was s.ref.id s.number g held was reads) in_list;
+        };
+        no_deletes = λ j u uuids plan e work. elim (was_in w.tickets k v j u e) [
+          | inl x ↦ l.no_deletes k t uuids plan out.there (sym like.work ∙ ap (λ (y : Ticket). y.work) x.1 ∙ work)
+          | inr x ↦ l.no_deletes j u uuids plan x.1 work
+        ];
+      }

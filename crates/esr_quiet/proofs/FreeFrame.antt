@@ -1,0 +1,136 @@
+-- Where a step adds no blob, what is free stays free.
+use Rattle.std.proofs.Common.{◌≡◌, ◌≢◌, ◌⊎◌, ℕ, List, true, Option, Some, None, refl, sym, ◌∙◌, subst, inl, inr}
+use Rattle.std.specs.Ordering.{nat_cmp}
+use Rattle.std.specs.FinMap.{FinMap}
+use Rattle.std.specs.FinMap as fin
+use Rattle.esr_model.specs.Names.{BlobName, Root, ShardSnap, ShardIndex}
+use Rattle.esr_model.specs.Values.{Bytes, Has, SnapList, ShardFiles, Formats}
+use Rattle.esr_model.specs.Image.{At, Present, Reads}
+use Rattle.esr_core.specs.World.{World, Op, ShardWork, Pending, Shard, Deleting, Ticket, Swap}
+use Rattle.esr_core.specs.Generations.{IsLive}
+use Rattle.esr_core.specs.Ready.{Waits}
+use Rattle.esr_core.specs.Steps.{ShardCommits}
+use Rattle.esr_core.proofs.Reading.{none_some}
+use Rattle.esr_quiet.specs.Free.{IsInUse, Free}
+
+-- no ticket is that of a delete
+abbrev pub NoDeletes : World → Type 0
+NoDeletes w = (k : ℕ) (t : Ticket) (uuids : List ℕ) (plan : Option Swap) → fin.get w.tickets k ≡ Some t → t.work ≡ Deleting uuids plan → ⊥
+
+pub record IsFree (f : Formats) (w : World) : Type 0 where
+  pub free : Free f w
+  pub no_deletes : NoDeletes w
+
+-- each ticket raised a root of its own
+abbrev pub OwnRoots : FinMap nat_cmp Ticket → Type 0
+OwnRoots tickets = (j k n : ℕ) (t u : Ticket) → fin.get tickets j ≡ Some t → fin.get tickets k ≡ Some u → t.raised ≡ Some n → u.raised ≡ Some n → j ≡ k
+
+-- A ticket that goes on: what it may commit or has raised was so before, or no blob has that name.
+pub record Follows (f : Formats) (w : World) (t v : Ticket) : Type 0 where
+  pub work : v.work ≡ t.work
+  pub base : v.base ≡ t.base
+  pub out : v.out ≡ true → t.out ≡ true
+  pub noted : (name : BlobName) → Has t.noted name → Has v.noted name
+  pub commits : (name : BlobName) → ShardCommits v name → ShardCommits t name ⊎ (Present f w.blobs name → ⊥)
+  pub raised : (n : ℕ) → v.raised ≡ Some n → (t.raised ≡ Some n) ⊎ (Present f w.blobs (Root n) → ⊥)
+
+-- a new ticket: no blob has a name that it may commit, and its base is live
+pub record IsNewTicket (f : Formats) (w : World) (v : Ticket) : Type 0 where
+  pub commits : (name : BlobName) → ShardCommits v name → Present f w.blobs name → ⊥
+  pub unraised : v.raised ≡ None
+  pub base : (index number g : ℕ) → v.work ≡ Shard index number → v.base ≡ Some g → IsLive w.root w.ops index number g
+  pub no_delete : (uuids : List ℕ) (plan : Option Swap) → v.work ≡ Deleting uuids plan → ⊥
+
+abbrev pub Came : Formats → World → ℕ → Ticket → Type 0
+Came f w k v = ((t : Ticket) × (fin.get w.tickets k ≡ Some t) × Follows f w t v) ⊎ IsNewTicket f w v
+
+-- a shard that waits waited before
+pub record Waited (w : World) (op : Op) (s : ShardWork) : Type 0 where
+  pub number : ℕ
+  pub old : Op
+  pub there : fin.get w.ops number ≡ Some old
+  pub z : ShardWork
+  pub z_there : Has old.shards z
+  pub uuid : old.uuid ≡ op.uuid
+  pub index : z.ref.id ≡ s.ref.id
+  pub shard : z.number ≡ s.number
+  pub waits : Waits z.state
+  pub pending : s.state ≡ Pending → z.state ≡ Pending
+
+-- a new shard: it has no snapshot blob, and no generation in use lists its snapshot
+pub record IsNewShard (f : Formats) (w : World) (op : Op) (s : ShardWork) : Type 0 where
+  pub absent : Present f w.blobs (ShardSnap s.ref.id s.number op.uuid) → ⊥
+  pub unlisted : (g : ℕ) (held : ShardFiles) (l : SnapList) → IsInUse w s.ref.id s.number g → Reads (At f w.blobs) (ShardIndex s.ref.id s.number g) f.shard_index held → Has held.snapshots l → l.uuid ≢ op.uuid
+
+-- a generation that is newly live lists no snapshot that is still to be done
+abbrev pub ListsDone : Formats → World → World → ℕ → ℕ → ℕ → Type 0
+ListsDone f w v index number g =
+    (o : ℕ) (op : Op) (s : ShardWork) (held : ShardFiles) (l : SnapList) → fin.get v.ops o ≡ Some op → Has op.shards s → Waits s.state → s.ref.id ≡ index → s.number ≡ number
+    → Reads (At f w.blobs) (ShardIndex index number g) f.shard_index held → Has held.snapshots l → l.uuid ≢ op.uuid
+
+module _ (f : Formats) (w v : World) (l : IsFree f w)
+    (tickets : (k : ℕ) (t : Ticket) → fin.get v.tickets k ≡ Some t → Came f w k t) (own : OwnRoots v.tickets)
+    (ops : (o : ℕ) (op : Op) (s : ShardWork) → fin.get v.ops o ≡ Some op → Has op.shards s → Waits s.state → Waited w op s ⊎ IsNewShard f w op s)
+    (live : (index number g : ℕ) → IsLive v.root v.ops index number g → IsLive w.root w.ops index number g ⊎ ListsDone f w v index number g)
+    (blobs : (name : BlobName) (b : Bytes) → At f v.blobs name b → At f w.blobs name b) where
+  was : (name : BlobName) → Present f v.blobs name → Present f w.blobs name
+  was name p = (p.0, blobs name p.0 p.1)
+
+  reads_was : (name : BlobName) (held : ShardFiles) → Reads (At f v.blobs) name f.shard_index held → Reads (At f w.blobs) name f.shard_index held
+  reads_was name held r = record { bytes = r.bytes; there = blobs name r.bytes r.there; reads = r.reads }
+
+  shards_on : (k : ℕ) (t : Ticket) (name : BlobName) → fin.get v.tickets k ≡ Some t → t.out ≡ true → ShardCommits t name → Present f v.blobs name → Has t.noted name
+  shards_on k t name there out commits p = elim (tickets k t there) [
+    | inl h ↦ elim (h.2.commits name commits) [
+      | inl c ↦ h.2.noted name (l.free.shards k h.0 name h.1 (h.2.out out) c (was name p))
+      | inr none ↦ absurd (none (was name p))
+    ]
+    | inr new ↦ absurd (new.commits name commits (was name p))
+  ]
+
+  pending_on : (o : ℕ) (op : Op) (s : ShardWork) → fin.get v.ops o ≡ Some op → Has op.shards s → s.state ≡ Pending → Present f v.blobs (ShardSnap s.ref.id s.number op.uuid) → ⊥
+  pending_on o op s there m state p = elim (ops o op s there m (subst Waits (sym state) tt)) [
+    | inl h ↦ l.free.pending h.number h.old h.z h.there h.z_there (h.pending state) (subst (λ name. Present f w.blobs name) (λ j. ShardSnap (sym h.index j) (sym h.shard j) (sym h.uuid j)) (was (ShardSnap s.ref.id s.number op.uuid) p))
+    | inr h ↦ h.absent (was (ShardSnap s.ref.id s.number op.uuid) p)
+  ]
+
+  roots_on : (k n : ℕ) (t : Ticket) → fin.get v.tickets k ≡ Some t → t.raised ≡ Some n → Present f v.blobs (Root n) → Has t.noted (Root n)
+  roots_on k n t there raised p = elim (tickets k t there) [
+    | inl h ↦ elim (h.2.raised n raised) [
+      | inl r ↦ h.2.noted (Root n) (l.free.roots k n h.0 h.1 r (was (Root n) p))
+      | inr none ↦ absurd (none (was (Root n) p))
+    ]
+    | inr new ↦ absurd (none_some n (sym new.unraised ∙ raised))
+  ]
+
+  -- what was in use doesn't list it
+  unlisted_by : (op : Op) (s : ShardWork) (g : ℕ) (held : ShardFiles) (list : SnapList) → Waited w op s ⊎ IsNewShard f w op s → IsInUse w s.ref.id s.number g → Reads (At f w.blobs) (ShardIndex s.ref.id s.number g) f.shard_index held
+      → Has held.snapshots list → list.uuid ≢ op.uuid
+  unlisted_by op s g held list (inr h) used reads m = h.unlisted g held list used reads m
+  unlisted_by op s g held list (inl h) used reads m =
+      λ same. l.free.unlisted h.number h.old h.z g held list h.there h.z_there h.waits
+      (subst (λ (p : ℕ × ℕ). IsInUse w p.0 p.1 g) (λ j. (sym h.index j, sym h.shard j)) used)
+      (subst (λ (p : ℕ × ℕ). Reads (At f w.blobs) (ShardIndex p.0 p.1 g) f.shard_index held) (λ j. (sym h.index j, sym h.shard j)) reads)
+      m (same ∙ sym h.uuid)
+
+  unlisted_on : (o : ℕ) (op : Op) (s : ShardWork) (g : ℕ) (held : ShardFiles) (list : SnapList) → fin.get v.ops o ≡ Some op → Has op.shards s → Waits s.state → IsInUse v s.ref.id s.number g
+      → Reads (At f v.blobs) (ShardIndex s.ref.id s.number g) f.shard_index held → Has held.snapshots list → list.uuid ≢ op.uuid
+  unlisted_on o op s g held list there m waits (inl h) reads in_list = elim (live s.ref.id s.number g h) [
+    | inl old ↦ unlisted_by op s g held list (ops o op s there m waits) (inl old) (reads_was (ShardIndex s.ref.id s.number g) held reads) in_list
+    | inr done ↦ done o op s held list there m waits refl refl (reads_was (ShardIndex s.ref.id s.number g) held reads) in_list
+  ]
+  unlisted_on o op s g held list there m waits (inr b) reads in_list =
+      unlisted_by op s g held list (ops o op s there m waits) (elim (tickets b.ticket b.t b.there) [
+        | inl h ↦ inr (record { ticket = b.ticket; t = h.0; there = h.1; out = h.2.out b.out; work = sym h.2.work ∙ b.work; base_is = sym h.2.base ∙ b.base_is })
+        | inr new ↦ inl (new.base s.ref.id s.number g b.work b.base_is)
+      ]) (reads_was (ShardIndex s.ref.id s.number g) held reads) in_list
+
+  pub framed : IsFree f v
+  framed =
+      record {
+        free = record { shards = shards_on; pending = pending_on; roots = roots_on; own_root = own; unlisted = unlisted_on };
+        no_deletes = λ k t uuids plan there work. elim (tickets k t there) [
+          | inl h ↦ l.no_deletes k h.0 uuids plan h.1 (sym h.2.work ∙ work)
+          | inr new ↦ new.no_delete uuids plan work
+        ];
+      }

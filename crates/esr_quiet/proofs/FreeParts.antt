@@ -1,0 +1,122 @@
+-- What a step changes of tickets and ops, as far as what is free reads it.
+use Rattle.std.proofs.Common.{◌≡◌, ◌≢◌, ℕ, true, Option, Some, None, map, refl, sym, ap, ◌∙◌, subst, inl, inr}
+use Rattle.std.specs.Ordering.{nat_cmp}
+use Rattle.std.specs.FinMap.{FinMap}
+use Rattle.std.specs.FinMap as fin
+use Rattle.esr_model.specs.Names.{BlobName}
+use Rattle.esr_model.specs.Values.{Bytes, Has, IndexRef, RootData, Formats}
+use Rattle.esr_model.specs.Image.{Image, At}
+use Rattle.esr_core.specs.World.{World, Op, ShardWork, Pending, Ticket}
+use Rattle.esr_core.specs.Generations.{DoneAt, IsLive}
+use Rattle.esr_core.specs.Ready.{Waits}
+use Rattle.esr_core.specs.Allowed.{SameBlobs}
+use Rattle.esr_core.specs.After.{blobs_in}
+use Rattle.esr_core.proofs.Queues.{was_in, left_in}
+use Rattle.esr_core.proofs.Reading.{none_some, Has-mapped}
+use Rattle.esr_quiet.proofs.FreeFrame.{OwnRoots, Follows, IsNewTicket, Came, Waited}
+use Rattle.esr_quiet.proofs.FreeNames.{commits_same}
+
+-- the blobs after a step that leaves them
+pub at_same : (f : Formats) (w : World) (image : Option Image) → SameBlobs w image → (name : BlobName) (b : Bytes) → At f (blobs_in image w.blobs) name b → At f w.blobs name b
+at_same f w None same name b h = h
+at_same f w (Some i) same name b h = subst (λ x. At f x name b) same h
+
+-- ---- tickets
+
+-- a ticket that commits and has raised what it did
+pub follows_same : (f : Formats) (w : World) (t v : Ticket) → v.work ≡ t.work → v.base ≡ t.base → (v.out ≡ true → t.out ≡ true) → ((name : BlobName) → Has t.noted name → Has v.noted name)
+    → v.uuid ≡ t.uuid → v.first ≡ t.first → v.drawn ≡ t.drawn → v.raised ≡ t.raised → Follows f w t v
+follows_same f w t v work base out noted uuid first drawn raised =
+    record { work = work; base = base; out = out; noted = noted; commits = λ name h. inl (commits_same t v work uuid first drawn name h); raised = λ n e. inl (sym raised ∙ e) }
+
+pub follows_itself : (f : Formats) (w : World) (t : Ticket) → Follows f w t t
+follows_itself f w t = follows_same f w t t refl refl (λ e. e) (λ name h. h) refl refl refl refl
+
+module _ (f : Formats) (w : World) where
+  pub came_all : (k : ℕ) (t : Ticket) → fin.get w.tickets k ≡ Some t → Came f w k t
+  came_all k t there = inl (t, there, follows_itself f w t)
+
+  pub came_put : (k : ℕ) (t v : Ticket) → fin.get w.tickets k ≡ Some t → Follows f w t v → (j : ℕ) (u : Ticket) → fin.get (fin.insert w.tickets k v) j ≡ Some u → Came f w j u
+  came_put k t v there follows j u e = elim (was_in w.tickets k v j u e) [
+    | inl h ↦ inl (t, ap (fin.get w.tickets) h.0 ∙ there, subst (Follows f w t) h.1 follows)
+    | inr h ↦ came_all j u h.1
+  ]
+
+  pub came_new : (k : ℕ) (v : Ticket) → IsNewTicket f w v → (j : ℕ) (u : Ticket) → fin.get (fin.insert w.tickets k v) j ≡ Some u → Came f w j u
+  came_new k v new j u e = elim (was_in w.tickets k v j u e) [
+    | inl h ↦ inr (subst (IsNewTicket f w) h.1 new)
+    | inr h ↦ came_all j u h.1
+  ]
+
+module _ (tickets : FinMap nat_cmp Ticket) (own : OwnRoots tickets) where
+  pub own_insert : (k : ℕ) (v : Ticket) → ((n j : ℕ) (u : Ticket) → v.raised ≡ Some n → j ≢ k → fin.get tickets j ≡ Some u → u.raised ≡ Some n → ⊥) → OwnRoots (fin.insert tickets k v)
+  own_insert k v only i j n a b e h p q = elim (was_in tickets k v i a e) [
+    | inl x ↦ elim (was_in tickets k v j b h) [
+      | inl y ↦ x.0 ∙ sym y.0
+      | inr y ↦ absurd (only n j b (ap (λ (t : Ticket). t.raised) x.1 ∙ p) y.0 y.1 q)
+    ]
+    | inr x ↦ elim (was_in tickets k v j b h) [
+      | inl y ↦ absurd (only n i a (ap (λ (t : Ticket). t.raised) y.1 ∙ q) x.0 x.1 p)
+      | inr y ↦ own i j n a b x.1 y.1 p q
+    ]
+  ]
+
+  pub own_put : (k : ℕ) (t v : Ticket) → fin.get tickets k ≡ Some t → v.raised ≡ t.raised → OwnRoots (fin.insert tickets k v)
+  own_put k t v there same = own_insert k v (λ n j u is away e raised. away (own j k n u t e there raised (sym same ∙ is)))
+
+  pub own_new : (k : ℕ) (v : Ticket) → v.raised ≡ None → OwnRoots (fin.insert tickets k v)
+  own_new k v none = own_insert k v (λ n j u is away e raised. none_some n (sym none ∙ is))
+
+-- ---- ops
+
+pub waited_all : (w : World) (o : ℕ) (op : Op) (s : ShardWork) → fin.get w.ops o ≡ Some op → Has op.shards s → Waits s.state → Waited w op s
+waited_all w o op s there m waits = record { number = o; old = op; there = there; z = s; z_there = m; uuid = refl; index = refl; shard = refl; waits = waits; pending = λ e. e }
+
+-- what a shard that waits after a change was
+pub record WaitedBy (z s : ShardWork) : Type 0 where
+  pub ref : s.ref ≡ z.ref
+  pub number : s.number ≡ z.number
+  pub waits : Waits z.state
+  pub pending : s.state ≡ Pending → z.state ≡ Pending
+
+pub waited_as : (z s : ShardWork) → s ≡ z → Waits s.state → WaitedBy z s
+waited_as z s e waits =
+    record {
+      ref = ap (λ (x : ShardWork). x.ref) e;
+      number = ap (λ (x : ShardWork). x.number) e;
+      waits = subst (λ (x : ShardWork). Waits x.state) e waits;
+      pending = λ p. ap (λ (x : ShardWork). x.state) (sym e) ∙ p;
+    }
+
+-- an op whose shards have changed so
+pub waited_map : (w : World) (o : ℕ) (op now : Op) (g : ShardWork → ShardWork) → fin.get w.ops o ≡ Some op → now.uuid ≡ op.uuid → now.shards ≡ map g op.shards
+    → ((z : ShardWork) → Has op.shards z → Waits (g z).state → WaitedBy z (g z)) → (p : ℕ) (q : Op) (s : ShardWork) → fin.get (fin.insert w.ops o now) p ≡ Some q → Has q.shards s → Waits s.state → Waited w q s
+waited_map w o op now g there uuid shards by p q s e m waits = elim (was_in w.ops o now p q e) [
+  | inr h ↦ waited_all w p q s h.1 m waits
+  | inl h ↦
+      let (z, z_there, is) = Has-mapped g op.shards s (subst (λ list. Has list s) (ap (λ (x : Op). x.shards) (sym h.1) ∙ shards) m) in
+      let b : WaitedBy z s = subst (WaitedBy z) is (by z z_there (subst (λ (x : ShardWork). Waits x.state) (sym is) waits)) in
+      record {
+        number = o;
+        old = op;
+        there = there;
+        z = z;
+        z_there = z_there;
+        uuid = sym uuid ∙ ap (λ (x : Op). x.uuid) h.1;
+        index = ap (λ (r : IndexRef). r.id) (sym b.ref);
+        shard = sym b.number;
+        waits = b.waits;
+        pending = b.pending;
+      }
+]
+
+pub waited_left : (w : World) (o p : ℕ) (q : Op) (s : ShardWork) → fin.get (fin.remove w.ops o) p ≡ Some q → Has q.shards s → Waits s.state → Waited w q s
+waited_left w o p q s e m waits = waited_all w p q s (left_in w.ops o p q e).1 m waits
+
+pub done_left : (ops : FinMap nat_cmp Op) (o uuid i n g : ℕ) → DoneAt (fin.remove ops o) uuid i n g → DoneAt ops uuid i n g
+done_left ops o uuid i n g d =
+    record { number = d.number; op = d.op; there = (left_in ops o d.number d.op d.there).1; uuid_is = d.uuid_is; s = d.s; s_there = d.s_there; r = d.r; state = d.state; index_is = d.index_is; shard_is = d.shard_is; generation_is = d.generation_is }
+
+pub live_left : (root : RootData) (ops : FinMap nat_cmp Op) (o i n g : ℕ) → IsLive root (fin.remove ops o) i n g → IsLive root ops i n g
+live_left root ops o i n g (inl h) = inl h
+live_left root ops o i n g (inr h) = inr (h.0, done_left ops o h.0 i n g h.1)

@@ -1,0 +1,17 @@
+pub mod Maps
+pub mod Prefixes
+pub mod Others
+pub mod Numbers
+pub mod Quiet
+pub mod Passing
+pub mod Bases
+pub mod Failures
+pub mod Rules
+pub mod Core
+pub mod FreeFrame
+pub mod FreeNames
+pub mod FreeParts
+pub mod FreeBlobs
+pub mod FreeEnds
+pub mod FreeSteps
+pub mod Freeing

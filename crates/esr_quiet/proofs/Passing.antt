@@ -1,0 +1,43 @@
+-- A prefix of a history over quiet objects is one, and what each of its worlds is.
+use Rattle.std.proofs.Common.{◌≡◌, List, ◌∷◌, ◌++◌, append_assoc, sym, ap, ◌∙◌, subst}
+use Rattle.esr_model.specs.Values.{Has}
+use Rattle.esr_core.specs.Entry.{Moment}
+use Rattle.esr_core.specs.Allowed.{Allowed}
+use Rattle.esr_core.specs.History.{IsLegal, AreTold, AreHonest}
+use Rattle.esr_desk.specs.Start.{Start, formats_of, world_of}
+use Rattle.esr_quiet.specs.Smooth.{IsSmooth}
+use Rattle.esr_quiet.proofs.Prefixes.{legal_rest, legal_front, told_front, honest_front, has_front}
+use Rattle.esr_quiet.proofs.Quiet.{IsQuiet, quiet_history, quiet_opened}
+
+module _ (s : Start) (log : List Moment) (smooth : IsSmooth s log) where
+  pub quiet_at : (front back : List Moment) → log ≡ front ++ back → IsQuiet s (world_of s front)
+  quiet_at front back is =
+      let within : (m : Moment) → Has front m → Has log m = λ m h. subst (λ (l : List Moment). Has l m) (sym is) (has_front front back m h) in
+      quiet_history s (formats_of s) front s.world (quiet_opened s (formats_of s) smooth.image s.world smooth.opened smooth.no_deletes)
+      (λ m name indices moment h. smooth.steady m name indices moment (within m h)) (λ m h. smooth.calm m (within m h)) (λ m h. smooth.unelected m (within m h))
+
+  pub legal_at : (front back : List Moment) (m : Moment) → log ≡ front ++ m ∷ back → Allowed (formats_of s) s.part_size (world_of s front) m
+  legal_at front back m is = (legal_rest (formats_of s) s.part_size front (m ∷ back) s.world (subst (IsLegal (formats_of s) s.part_size s.world) is smooth.legal)).0
+
+  -- it is smooth up to each of its moments
+  pub smooth_front : (front back : List Moment) → log ≡ front ++ back → IsSmooth s front
+  smooth_front front back is =
+      let within : (m : Moment) → Has front m → Has log m = λ m h. subst (λ (l : List Moment). Has l m) (sym is) (has_front front back m h) in
+      record {
+        tells = smooth.tells;
+        quiet = smooth.quiet;
+        known = smooth.known;
+        image = smooth.image;
+        shelf = smooth.shelf;
+        kept = smooth.kept;
+        opened = smooth.opened;
+        no_deletes = smooth.no_deletes;
+        legal = legal_front (formats_of s) s.part_size front back s.world (subst (IsLegal (formats_of s) s.part_size s.world) is smooth.legal);
+        told = told_front front back (subst AreTold is smooth.told);
+        honest = honest_front (formats_of s) front back s.world (subst (AreHonest (formats_of s) s.world) is smooth.honest);
+        once = λ a b m name e. smooth.once a (b ++ back) m name (is ∙ ap (λ (l : List Moment). l ++ back) e ∙ append_assoc a (m ∷ b) back);
+        steady = λ m name indices moment h. smooth.steady m name indices moment (within m h);
+        calm = λ m h. smooth.calm m (within m h);
+        unspent = λ m h. smooth.unspent m (within m h);
+        unelected = λ m h. smooth.unelected m (within m h);
+      }

@@ -1,0 +1,334 @@
+-- What no step breaks where no call fails and nobody is elected: no record swap has failed, no delete is open, each ticket is
+-- of the present term, and the shards of open ops and of tickets are steady.
+use Rattle.std.proofs.Common.{◌≡◌, ◌≢◌, ◌⊎◌, ℕ, zero, suc, ◌+◌, ◌<◌, Bool, true, false, List, [], ◌∷◌, ◌++◌, Option, Some, None, map, refl, sym, ap, ◌∙◌, subst, inl, inr, arith, nat_cmp}
+use Rattle.std.specs.Prelude.{if◌then◌else◌, ◌==◌, ◌&&◌}
+use Rattle.std.specs.FinMap.{FinMap}
+use Rattle.std.specs.FinMap as fin
+use Rattle.esr_model.specs.Names.{BlobName}
+use Rattle.esr_model.specs.Values.{Bytes, Has, IndexRef, ShardResult, SnapInfo, Formats}
+use Rattle.esr_model.specs.Shelf.{Shelved}
+use Rattle.esr_model.specs.Image.{Image}
+use Rattle.esr_core.specs.World.{World, Op, ShardWork, ShardState, Pending, Out, Done, GivenUp, Work, Shard, Finalize, Deleting, Drop, Swap, Ticket, swap, marked, marked_by, Opened, OpenedEmpty, OpenedRecord}
+use Rattle.esr_core.specs.Steps.{noting, given, shard_ticket, final_ticket}
+use Rattle.esr_core.specs.Turns.{fails, fails_by}
+use Rattle.esr_core.specs.Entry.{AskedIndex, Asked, Snapshot, Given, GivenShard, GivenFinalize, GivenDrop, Step, AskStep, TakeStep, DrawStep, CommitStep, LatestStep, FetchStep, RaiseStep, SettleStep, DoneStep, FailedStep, FinishStep, DroppedStep, ElectStep, DepotFault, Reply, Gave, WasDone, WasThere, WasFetched, Refused, Moment}
+use Rattle.esr_core.specs.After.{asked, asked_op, known_id, ref_by, next_by, refs_from, pending_shards, all_pending, taken_shard, taken_by, shard_of, with_given, committing, told_blob, fetching, settled_by, settled_of, done_by, done_of, is_stale, failed_by, failed_of, dropped_of, done_step, answered, after}
+use Rattle.esr_core.specs.History.{world_from}
+use Rattle.esr_desk.specs.Start.{Start}
+use Rattle.esr_quiet.specs.Asked.{IsSteady, AreSteady}
+use Rattle.esr_quiet.specs.Smooth.{AreCalm, AreUnelected}
+use Rattle.esr_quiet.proofs.Maps.{some_same, some_none, get_was, get_left, removed_none, nothing}
+
+abbrev Ops : Type 0
+Ops = FinMap nat_cmp Op
+
+abbrev Tickets : Type 0
+Tickets = FinMap nat_cmp Ticket
+
+-- no call of the shard fails
+abbrev pub IsOfSteady : Start → ShardWork → Type 0
+IsOfSteady s z = s.steady z.place z.ref.name z.number ≡ true
+
+-- what a ticket is for: in this term, no delete, and no shard that fails
+pub record Fine (s : Start) (now term : ℕ) (work : Work) (place name : Bytes) : Type 0 where
+  pub present : term ≡ now
+  pub no_delete : (uuids : List ℕ) (plan : Option Swap) → work ≡ Deleting uuids plan → ⊥
+  pub steady : (index number : ℕ) → work ≡ Shard index number → s.steady place name number ≡ true
+
+abbrev pub IsFine : Start → ℕ → Ticket → Type 0
+IsFine s now t = Fine s now t.term t.work t.place t.name
+
+abbrev pub AreFine : Start → ℕ → Tickets → Type 0
+AreFine s now tickets = (k : ℕ) (t : Ticket) → fin.get tickets k ≡ Some t → IsFine s now t
+
+abbrev pub AreSteadyOps : Start → Ops → Type 0
+AreSteadyOps s ops = (o : ℕ) (op : Op) (z : ShardWork) → fin.get ops o ≡ Some op → Has op.shards z → IsOfSteady s z
+
+pub record IsQuiet (s : Start) (w : World) : Type 0 where
+  pub present : w.deposed ≡ false
+  pub no_deletes : w.deletes ≡ fin.empty
+  pub ops : AreSteadyOps s w.ops
+  pub tickets : AreFine s w.term w.tickets
+
+-- ---- shards
+
+-- the shard is that of the same address
+record IsSame (a b : ShardWork) : Type 0 where
+  place : b.place ≡ a.place
+  name : b.ref.name ≡ a.ref.name
+  number : b.number ≡ a.number
+
+same_given : (k index number : ℕ) (z : ShardWork) → IsSame z (given k index number z)
+same_given k index number z = go ((z.ref.id == index) && (z.number == number))
+  where
+    go : (b : Bool) → IsSame z (if b then record z { state = Out k } else z)
+    go true = record { place = refl; name = refl; number = refl }
+    go false = record { place = refl; name = refl; number = refl }
+
+same_either : (b : Bool) (state : ShardState) (z : ShardWork) → IsSame z (if b then record z { state = state } else z)
+same_either true state z = record { place = refl; name = refl; number = refl }
+same_either false state z = record { place = refl; name = refl; number = refl }
+
+same_marked : (k : ℕ) (new : ShardState) (z : ShardWork) → IsSame z (marked k new z)
+same_marked k new z = go z.state
+  where
+    go : (state : ShardState) → IsSame z (marked_by k new z state)
+    go (Out j) = same_either (j == k) new z
+    go Pending = record { place = refl; name = refl; number = refl }
+    go (Done r) = record { place = refl; name = refl; number = refl }
+    go GivenUp = record { place = refl; name = refl; number = refl }
+
+same_fails : (k : ℕ) (z : ShardWork) → IsSame z (fails k z)
+same_fails k z = go z.state
+  where
+    go : (state : ShardState) → IsSame z (fails_by k z state)
+    go (Out j) = same_either (j == k) GivenUp z
+    go Pending = record { place = refl; name = refl; number = refl }
+    go (Done r) = record { place = refl; name = refl; number = refl }
+    go GivenUp = record { place = refl; name = refl; number = refl }
+
+has_mapped : (g : ShardWork → ShardWork) (shards : List ShardWork) (z : ShardWork) → Has (map g shards) z → (x : ShardWork) × Has shards x × (g x ≡ z)
+has_mapped g [] z h = absurd h
+has_mapped g (x ∷ shards) z (inl e) = (x, inl refl, e)
+has_mapped g (x ∷ shards) z (inr h) = let (y, m, e) = has_mapped g shards z h in (y, inr m, e)
+
+same_steady : (s : Start) (a b : ShardWork) → IsSame a b → IsOfSteady s a → IsOfSteady s b
+same_steady s a b same steady = (λ j. s.steady (same.place j) (same.name j) (same.number j)) ∙ steady
+
+-- the shards go on
+mapped_steady : (s : Start) (shards : List ShardWork) (g : ShardWork → ShardWork) → ((z : ShardWork) → IsSame z (g z)) → ((z : ShardWork) → Has shards z → IsOfSteady s z) → (z : ShardWork) → Has (map g shards) z → IsOfSteady s z
+mapped_steady s shards g same steady z h = let (x, m, e) = has_mapped g shards z h in subst (IsOfSteady s) e (same_steady s x (g x) (same x) (steady x m))
+
+-- an op is put whose shards are steady
+put_steady : (s : Start) (ops : Ops) (o : ℕ) (op : Op) → ((z : ShardWork) → Has op.shards z → IsOfSteady s z) → AreSteadyOps s ops → AreSteadyOps s (fin.insert ops o op)
+put_steady s ops o op mine steady p q z there h = elim (get_was ops o op p q there) [ inl e ↦ mine z (subst (λ (x : Op). Has x.shards z) (sym e.1) h) | inr e ↦ steady p q z e.1 h ]
+
+put_fine : (s : Start) (now : ℕ) (tickets : Tickets) (k : ℕ) (v : Ticket) → IsFine s now v → AreFine s now tickets → AreFine s now (fin.insert tickets k v)
+put_fine s now tickets k v mine fine p t there = elim (get_was tickets k v p t there) [ inl e ↦ subst (IsFine s now) e.1 mine | inr e ↦ fine p t e.1 ]
+
+-- ---- shards that are asked
+
+ref_name : (a : AskedIndex) (known : Option ℕ) (next : ℕ) → (ref_by a known next).name ≡ a.name
+ref_name a None next = refl
+ref_name a (Some id) next = refl
+
+ref_shards : (a : AskedIndex) (known : Option ℕ) (next : ℕ) → (ref_by a known next).shards ≡ a.shards
+ref_shards a None next = refl
+ref_shards a (Some id) next = refl
+
+-- the shard is one of the index
+record IsShardOf (a : AskedIndex) (r : IndexRef) (first count : ℕ) (z : ShardWork) : Type 0 where
+  place : z.place ≡ a.place
+  name : z.ref.name ≡ r.name
+  number : z.number < first + count
+
+pending_of : (a : AskedIndex) (r : IndexRef) (first count : ℕ) (z : ShardWork) → Has (pending_shards a r first count) z → IsShardOf a r first count z
+pending_of a r first zero z h = absurd h
+pending_of a r first (suc n) z (inl e) =
+    let is : first ≡ z.number = ap (λ (x : ShardWork). x.number) e in
+    record { place = ap (λ (x : ShardWork). x.place) (sym e); name = ap (λ (x : ShardWork). x.ref.name) (sym e); number = omega (arith, is) }
+pending_of a r first (suc n) z (inr h) = let rest = pending_of a r (suc first) n z h in let below : z.number < suc first + n = rest.number in record { place = rest.place; name = rest.name; number = omega (arith, below) }
+
+has_either : (xs ys : List ShardWork) (z : ShardWork) → Has (xs ++ ys) z → Has xs z ⊎ Has ys z
+has_either [] ys z h = inr h
+has_either (x ∷ xs) ys z (inl e) = inl (inl e)
+has_either (x ∷ xs) ys z (inr h) = elim (has_either xs ys z h) [ inl m ↦ inl (inr m) | inr m ↦ inr m ]
+
+asked_steady : (s : Start) (w : World) (next : ℕ) (indices : List AskedIndex) → IsSteady s indices → (z : ShardWork) → Has (all_pending indices (refs_from w next indices)) z → IsOfSteady s z
+asked_steady s w next [] steady z h = absurd h
+asked_steady s w next (a ∷ indices) steady z h =
+    let r : IndexRef = ref_by a (known_id w a.name) next in
+    elim (has_either (pending_shards a r 0 r.shards) (all_pending indices (refs_from w (next_by (known_id w a.name) next) indices)) z h) [
+      | inl m ↦
+          let x = pending_of a r 0 r.shards z m in
+          let below : z.number < 0 + r.shards = x.number in
+          let count : r.shards ≡ a.shards = ref_shards a (known_id w a.name) next in
+          (λ j. s.steady (x.place j) ((x.name ∙ ref_name a (known_id w a.name) next) j) z.number) ∙ steady a z.number (inl refl) (omega (arith, below, count))
+      | inr m ↦ asked_steady s w (next_by (known_id w a.name) next) indices (λ b number m. steady b number (inr m)) z m
+    ]
+
+-- ---- each step
+
+module _ (s : Start) where
+  quiet_change : (w : World) → IsQuiet s w → (k : ℕ) (g : Ticket → Ticket) → ((t : Ticket) → IsFine s w.term t → IsFine s w.term (g t)) → (o : Option Ticket) → fin.get w.tickets k ≡ o → IsQuiet s (with_given w k g o)
+  quiet_change w q k g like None there = q
+  quiet_change w q k g like (Some t) there = record { present = q.present; no_deletes = q.no_deletes; ops = q.ops; tickets = put_fine s w.term w.tickets k (g t) (like t (q.tickets k t there)) q.tickets }
+
+  quiet_asked : (w : World) → IsQuiet s w → (command : Asked) → ((name : Bytes) (indices : List AskedIndex) (moment : ℕ) → AskStep command ≡ AskStep (Snapshot name indices moment) → IsSteady s indices) → IsQuiet s (asked w command)
+  quiet_asked w q (Snapshot name indices moment) steady =
+      record {
+        present = q.present;
+        no_deletes = q.no_deletes;
+        ops = put_steady s w.ops w.next_op (asked_op w name indices moment) (asked_steady s w (suc w.next_id) indices (steady name indices moment refl)) q.ops;
+        tickets = q.tickets;
+      }
+
+  found_in : (shards : List ShardWork) (index number : ℕ) (z : ShardWork) → shard_of shards index number ≡ Some z → Has shards z
+  found_in [] index number z e = absurd (some_none z (sym e))
+  found_in (x ∷ shards) index number z e = go (shard_of shards index number) (λ is. found_in shards index number z is) ((x.ref.id == index) && (x.number == number)) e
+    where
+      go : (later : Option ShardWork) → (later ≡ Some z → Has shards z) → (b : Bool) → (if b then Some x else later) ≡ Some z → Has (x ∷ shards) z
+      go later rest true is = inl (some_same x z is)
+      go later rest false is = inr (rest is)
+
+  shard_delete : (index number : ℕ) (uuids : List ℕ) (plan : Option Swap) → Shard index number ≡ Deleting uuids plan → ⊥
+  shard_delete index number uuids plan e = cc
+
+  final_delete : (info : SnapInfo) (results : List ShardResult) (made : Shelved) (uuids : List ℕ) (plan : Option Swap) → Finalize info results made ≡ Deleting uuids plan → ⊥
+  final_delete info results made uuids plan e = cc
+
+  final_shard : (info : SnapInfo) (results : List ShardResult) (made : Shelved) (index number : ℕ) → Finalize info results made ≡ Shard index number → ⊥
+  final_shard info results made index number e = cc
+
+  drop_delete : (uuids : List ℕ) (plan : Option Swap) → Drop ≡ Deleting uuids plan → ⊥
+  drop_delete uuids plan e = cc
+
+  drop_shard : (index number : ℕ) → Drop ≡ Shard index number → ⊥
+  drop_shard index number e = cc
+
+  one_number : (i n index number : ℕ) → Shard i n ≡ Shard index number → n ≡ number
+  one_number i n index number e = cc
+
+  quiet_shard : (w : World) → IsQuiet s w → (o : ℕ) (op : Op) (base : Option ℕ) → fin.get w.ops o ≡ Some op → (found : Option ShardWork) → ((z : ShardWork) → found ≡ Some z → Has op.shards z) → IsQuiet s (taken_shard w o op base found)
+  quiet_shard w q o op base there None has = q
+  quiet_shard w q o op base there (Some z) has =
+      let steady : (x : ShardWork) → Has op.shards x → IsOfSteady s x = λ x h. q.ops o op x there h in
+      record {
+        present = q.present;
+        no_deletes = q.no_deletes;
+        ops = put_steady s w.ops o (record op { shards = map (given w.next_ticket z.ref.id z.number) op.shards }) (mapped_steady s op.shards (given w.next_ticket z.ref.id z.number) (same_given w.next_ticket z.ref.id z.number) steady) q.ops;
+        tickets = put_fine s w.term w.tickets w.next_ticket (shard_ticket w o op z base) (record {
+          present = refl;
+          no_delete = shard_delete z.ref.id z.number;
+          steady = λ index number e. ap (s.steady z.place z.ref.name) (sym (one_number z.ref.id z.number index number e)) ∙ steady z (has z refl);
+        }) q.tickets;
+      }
+
+  quiet_taken : (f : Formats) (w : World) → IsQuiet s w → (o : ℕ) (unit : Given) (op : Option Op) → fin.get w.ops o ≡ op → IsQuiet s (taken_by f w o unit op)
+  quiet_taken f w q o (GivenShard index number base) (Some op) there = quiet_shard w q o op base there (shard_of op.shards index number) (λ z e. found_in op.shards index number z e)
+  quiet_taken f w q o (GivenShard index number base) None there = q
+  quiet_taken f w q o (GivenFinalize info results) (Some op) there =
+      record {
+        present = q.present;
+        no_deletes = q.no_deletes;
+        ops = q.ops;
+        tickets = put_fine s w.term w.tickets w.next_ticket (final_ticket f w o op results) (record { present = refl; no_delete = λ uuids plan e. final_delete _ _ _ uuids plan e; steady = λ i n e. absurd (final_shard _ _ _ i n e) }) q.tickets;
+      }
+  quiet_taken f w q o (GivenFinalize info results) None there = q
+  quiet_taken f w q o GivenDrop op there =
+      record { present = q.present; no_deletes = q.no_deletes; ops = q.ops; tickets = put_fine s w.term w.tickets w.next_ticket _ (record { present = refl; no_delete = drop_delete; steady = λ i n e. absurd (drop_shard i n e) }) q.tickets }
+
+  quiet_drawn : (w : World) → IsQuiet s w → (k n : ℕ) (o : Option Ticket) → fin.get w.tickets k ≡ o → IsQuiet s (record (with_given w k (λ t. record t { first = w.next_id; drawn = n }) o) { next_id = w.next_id + n })
+  quiet_drawn w q k n o there = let x = quiet_change w q k (λ t. record t { first = w.next_id; drawn = n }) (λ t h. h) o there in record { present = x.present; no_deletes = x.no_deletes; ops = x.ops; tickets = x.tickets }
+
+  quiet_raised : (w : World) → IsQuiet s w → (k : ℕ) (o : Option Ticket) → fin.get w.tickets k ≡ o → IsQuiet s (record (with_given w k (λ t. record t { raised = Some w.pending }) o) { pending = suc w.pending })
+  quiet_raised w q k o there = let x = quiet_change w q k (λ t. record t { raised = Some w.pending }) (λ t h. h) o there in record { present = x.present; no_deletes = x.no_deletes; ops = x.ops; tickets = x.tickets }
+
+  removed_steady : (ops : Ops) (o : ℕ) → AreSteadyOps s ops → AreSteadyOps s (fin.remove ops o)
+  removed_steady ops o steady p op z there h = steady p op z (get_left ops o p op there).1 h
+
+  quiet_settled_by : (f : Formats) (w : World) → IsQuiet s w → (k : ℕ) (t : Ticket) → fin.get w.tickets k ≡ Some t → (change : Option Swap) (n : Option ℕ) → IsQuiet s (settled_by f w k t change n)
+  quiet_settled_by f w q k t there (Some change) (Some n) =
+      record { present = q.present; no_deletes = removed_none w.deletes t.op q.no_deletes; ops = removed_steady w.ops t.op q.ops; tickets = put_fine s w.term w.tickets k (record t { settled = true }) (q.tickets k t there) q.tickets }
+  quiet_settled_by f w q k t there (Some change) None = q
+  quiet_settled_by f w q k t there None n = q
+
+  quiet_settled : (f : Formats) (w : World) → IsQuiet s w → (k : ℕ) (o : Option Ticket) → fin.get w.tickets k ≡ o → IsQuiet s (settled_of f w k o)
+  quiet_settled f w q k None there = q
+  quiet_settled f w q k (Some t) there = quiet_settled_by f w q k t there (swap f t) t.raised
+
+  quiet_done_by : (w : World) → IsQuiet s w → (k : ℕ) (r : ShardResult) (t : Ticket) → fin.get w.tickets k ≡ Some t → (op : Option Op) → fin.get w.ops t.op ≡ op → IsQuiet s (done_by w k r t op)
+  quiet_done_by w q k r t there None op_there = q
+  quiet_done_by w q k r t there (Some op) op_there =
+      record {
+        present = q.present;
+        no_deletes = q.no_deletes;
+        ops = put_steady s w.ops t.op (record op { shards = map (marked k (Done r)) op.shards }) (mapped_steady s op.shards (marked k (Done r)) (same_marked k (Done r)) (λ z h. q.ops t.op op z op_there h)) q.ops;
+        tickets = put_fine s w.term w.tickets k (record t { out = false }) (q.tickets k t there) q.tickets;
+      }
+
+  quiet_done : (w : World) → IsQuiet s w → (k : ℕ) (r : ShardResult) (o : Option Ticket) → fin.get w.tickets k ≡ o → IsQuiet s (done_of w k r o)
+  quiet_done w q k r None there = q
+  quiet_done w q k r (Some t) there = quiet_done_by w q k r t there (fin.get w.ops t.op) refl
+
+  quiet_failed_by : (w : World) → IsQuiet s w → (k : ℕ) (t : Ticket) → fin.get w.tickets k ≡ Some t → (op : Option Op) → fin.get w.ops t.op ≡ op → IsQuiet s (failed_by w k t op)
+  quiet_failed_by w q k t there None op_there = q
+  quiet_failed_by w q k t there (Some op) op_there =
+      record {
+        present = q.present;
+        no_deletes = q.no_deletes;
+        ops = put_steady s w.ops t.op (record op { shards = map (fails k) op.shards; failed = true }) (mapped_steady s op.shards (fails k) (same_fails k) (λ z h. q.ops t.op op z op_there h)) q.ops;
+        tickets = put_fine s w.term w.tickets k (record t { out = false }) (q.tickets k t there) q.tickets;
+      }
+
+  quiet_either : (a b : World) (first : Bool) → IsQuiet s a → IsQuiet s b → IsQuiet s (if first then a else b)
+  quiet_either a b true of_a of_b = of_a
+  quiet_either a b false of_a of_b = of_b
+
+  quiet_failed : (w : World) → IsQuiet s w → (k : ℕ) (o : Option Ticket) → fin.get w.tickets k ≡ o → IsQuiet s (failed_of w k o)
+  quiet_failed w q k None there = q
+  quiet_failed w q k (Some t) there =
+      quiet_either _ (failed_by w k t (fin.get w.ops t.op)) (is_stale w t t.work)
+      (record { present = q.present; no_deletes = q.no_deletes; ops = q.ops; tickets = put_fine s w.term w.tickets k (record t { out = false }) (q.tickets k t there) q.tickets })
+      (quiet_failed_by w q k t there (fin.get w.ops t.op) refl)
+
+  quiet_dropped : (w : World) → IsQuiet s w → (k : ℕ) (o : Option Ticket) → fin.get w.tickets k ≡ o → IsQuiet s (dropped_of w k o)
+  quiet_dropped w q k None there = q
+  quiet_dropped w q k (Some t) there =
+      record { present = q.present; no_deletes = removed_none w.deletes t.op q.no_deletes; ops = removed_steady w.ops t.op q.ops; tickets = put_fine s w.term w.tickets k (record t { out = false }) (q.tickets k t there) q.tickets }
+
+  fine_committing : (now : ℕ) (name : BlobName) (o : Option Bytes) (t : Ticket) → IsFine s now t → IsFine s now (committing name o t)
+  fine_committing now name None t h = h
+  fine_committing now name (Some bytes) t h = h
+
+  fine_fetching : (now : ℕ) (name : BlobName) (o : Option Bytes) (t : Ticket) → IsFine s now t → IsFine s now (fetching name o t)
+  fine_fetching now name None t h = h
+  fine_fetching now name (Some bytes) t h = h
+
+  -- what is asked is steady, and nobody is elected
+  record Suits (step : Step) : Type 0 where
+    steady : (name : Bytes) (indices : List AskedIndex) (moment : ℕ) → step ≡ AskStep (Snapshot name indices moment) → IsSteady s indices
+    unelected : step ≢ ElectStep
+
+  quiet_step : (f : Formats) (w : World) → IsQuiet s w → (k : ℕ) (step : Step) (reply : Reply) (image : Option Image) → Suits step → IsQuiet s (done_step f w k step reply image)
+  quiet_step f w q k (AskStep command) reply image h = quiet_asked w q command h.steady
+  quiet_step f w q k TakeStep (Gave ticket op unit) image h = quiet_taken f w q op unit (fin.get w.ops op) refl
+  quiet_step f w q k (DrawStep n) reply image h = quiet_drawn w q k n (fin.get w.tickets k) refl
+  quiet_step f w q k (CommitStep name) WasDone image h = quiet_change w q k (committing name (told_blob f image name)) (fine_committing w.term name (told_blob f image name)) (fin.get w.tickets k) refl
+  quiet_step f w q k (CommitStep name) WasThere image h = quiet_change w q k (λ t. noting t name) (λ t x. x) (fin.get w.tickets k) refl
+  quiet_step f w q k LatestStep reply image h = quiet_change w q k (λ t. record t { tried_latest = true }) (λ t x. x) (fin.get w.tickets k) refl
+  quiet_step f w q k (FetchStep name) WasFetched image h = quiet_change w q k (fetching name (told_blob f image name)) (fine_fetching w.term name (told_blob f image name)) (fin.get w.tickets k) refl
+  quiet_step f w q k RaiseStep reply image h = quiet_raised w q k (fin.get w.tickets k) refl
+  quiet_step f w q k SettleStep reply image h = quiet_settled f w q k (fin.get w.tickets k) refl
+  quiet_step f w q k (DoneStep result) reply image h = quiet_done w q k result (fin.get w.tickets k) refl
+  quiet_step f w q k (FailedStep why) reply image h = quiet_failed w q k (fin.get w.tickets k) refl
+  quiet_step f w q k FinishStep reply image h = quiet_change w q k (λ t. record t { out = false }) (λ t x. x) (fin.get w.tickets k) refl
+  quiet_step f w q k DroppedStep reply image h = quiet_dropped w q k (fin.get w.tickets k) refl
+  quiet_step f w q k ElectStep reply image h = absurd (h.unelected refl)
+  quiet_step f w q k step reply image h = q
+
+  quiet_answered : (f : Formats) (w : World) → IsQuiet s w → (k : ℕ) (step : Step) (reply : Reply) (image : Option Image) → Suits step → reply ≢ Refused DepotFault → IsQuiet s (answered f w k step reply image)
+  quiet_answered f w q k step (Refused DepotFault) image h calm = absurd (calm refl)
+  quiet_answered f w q k step (Refused refusal) image h calm = q
+  quiet_answered f w q k step reply image h calm = quiet_step f w q k step reply image h
+
+  quiet_after : (f : Formats) (w : World) → IsQuiet s w → (m : Moment) → Suits m.entry.step → m.entry.reply ≢ Refused DepotFault → IsQuiet s (after f w m)
+  quiet_after f w q m h calm = let x = quiet_answered f w q m.entry.who m.entry.step m.entry.reply m.image h calm in record { present = x.present; no_deletes = x.no_deletes; ops = x.ops; tickets = x.tickets }
+
+  -- ---- histories
+
+  pub quiet_history : (f : Formats) (log : List Moment) (w : World) → IsQuiet s w → AreSteady s log → AreCalm log → AreUnelected log → IsQuiet s (world_from f w log)
+  quiet_history f [] w q steady calm unelected = q
+  quiet_history f (m ∷ log) w q steady calm unelected =
+      quiet_history f log (after f w m) (quiet_after f w q m (record { steady = λ name indices moment e. steady m name indices moment (inl refl) e; unelected = unelected m (inl refl) }) (calm m (inl refl)))
+      (λ n name indices moment h. steady n name indices moment (inr h)) (λ n h. calm n (inr h)) (λ n h. unelected n (inr h))
+
+  none_open : AreSteadyOps s fin.empty
+  none_open o op z there h = absurd (nothing fin.empty o op refl there)
+
+  none_given : (now : ℕ) → AreFine s now fin.empty
+  none_given now k t there = absurd (nothing fin.empty k t refl there)
+
+  pub quiet_opened : (f : Formats) (image : Image) (w : World) → Opened f image w → w.deletes ≡ fin.empty → IsQuiet s w
+  quiet_opened f image w (OpenedEmpty none) empty = record { present = refl; no_deletes = empty; ops = none_open; tickets = none_given _ }
+  quiet_opened f image w (OpenedRecord cluster text root there reads is) empty = record { present = refl; no_deletes = empty; ops = none_open; tickets = none_given _ }

@@ -1,0 +1,113 @@
+-- Only a rule of accepting refuses a step where each world of the history is free.
+use Rattle.std.proofs.Common.{◌≡◌, ◌≢◌, ℕ, true≢false, List, [], ◌∷◌, Option, Some, None, map, refl, sym, ap, ◌∙◌, subst, inl, inr}
+use Rattle.std.specs.FinMap as fin
+use Rattle.esr_model.specs.Names.{BlobName, IndexMeta}
+use Rattle.esr_model.specs.Values.{Bytes, Has, IndexRef, RootData, SnapInfo, Formats}
+use Rattle.esr_model.specs.Image.{Image, Present}
+use Rattle.esr_core.specs.World.{World, Work, Shard, Finalize, Deleting, Drop, Ticket, Swap, swap_of, metadata}
+use Rattle.esr_core.specs.Steps.{IsOut}
+use Rattle.esr_core.specs.Entry.{Asked, Snapshot, Step, AskStep, CommitStep, Reply, Refused, DepotFault, Moment}
+use Rattle.esr_core.specs.Allowed as allowed
+use Rattle.esr_core.specs.Allowed.{Told, Commits, IsMetadata, Allows, Allowed}
+use Rattle.esr_desk.specs.Start.{Start, formats_of, world_of, or_no_ticket}
+use Rattle.esr_quiet.specs.Free.{Free}
+use Rattle.esr_quiet.specs.Smooth.{IsSpent, IsSmooth}
+use Rattle.esr_quiet.specs.Refusals.{IsByRule, AreByRule}
+use Rattle.esr_quiet.specs.Prefixes.{Prefixes}
+use Rattle.esr_quiet.proofs.Maps.{some_same, nothing}
+use Rattle.esr_quiet.proofs.Prefixes.{told_at, place_of}
+use Rattle.esr_quiet.proofs.Quiet.{IsQuiet}
+use Rattle.esr_quiet.proofs.Passing.{quiet_at, legal_at}
+
+-- ---- what a ticket may commit
+
+-- the name of a blob among a finalization's metadata
+named_metadata : (f : Formats) (info : SnapInfo) (name : BlobName) (bytes : Bytes) → Has (metadata f info) (name, bytes) → IsMetadata name
+named_metadata f info name bytes (inl e) = (info.uuid, inl (ap (λ (x : BlobName × Bytes). x.0) (sym e)))
+named_metadata f info name bytes (inr (inl e)) = (info.uuid, inr (inl (ap (λ (x : BlobName × Bytes). x.0) (sym e))))
+named_metadata f info name bytes (inr (inr h)) = go info.indices h
+  where
+    go : (refs : List IndexRef) → Has (map {B = BlobName × Bytes} (λ (r : IndexRef). (IndexMeta r.id info.uuid, f.index_meta.text (record { index = r; uuid = info.uuid }))) refs) (name, bytes) → IsMetadata name
+    go [] m = absurd m
+    go (r ∷ refs) (inl e) = (info.uuid, inr (inr (r.id, ap (λ (x : BlobName × Bytes). x.0) (sym e))))
+    go (r ∷ refs) (inr m) = go refs m
+
+no_swap : (s : Swap) → None ≡ Some s → ⊥
+no_swap s e = cc
+
+-- what a swap writes beside its root is metadata, where it is of no delete
+own_metadata : (f : Formats) (work : Work) (root : RootData) (s : Swap) → ((uuids : List ℕ) (plan : Option Swap) → work ≡ Deleting uuids plan → ⊥) → swap_of f work root ≡ Some s → (name : BlobName) (bytes : Bytes) → Has s.own (name, bytes) → IsMetadata name
+own_metadata f (Shard index number) root s none e name bytes h = absurd (no_swap s e)
+own_metadata f (Finalize info results made) root s none e name bytes h = named_metadata f info name bytes (subst (λ (x : Swap). Has x.own (name, bytes)) (sym (some_same _ s e)) h)
+own_metadata f (Deleting uuids plan) root s none e name bytes h = absurd (none uuids plan refl)
+own_metadata f Drop root s none e name bytes h = absurd (no_swap s e)
+
+-- ---- each refusal
+
+abbrev IsRuled : Step → Reply → Type 0
+IsRuled step (Refused refusal) = ((command : Asked) × (step ≡ AskStep command)) × IsByRule refusal
+IsRuled step reply = Unit {0}
+
+-- a name is committed that its ticket has not noted
+abbrev IsNew : World → ℕ → Step → Type 0
+IsNew w who step = (name : BlobName) (t : Ticket) → step ≡ CommitStep name → fin.get w.tickets who ≡ Some t → (IsMetadata name → ⊥) → Has t.noted name → ⊥
+
+module _ (s : Start) (f : Formats) (size : ℕ) (w : World) (q : IsQuiet s w) (free : Free f w) where
+  -- a name that may be committed is free
+  taken : (k : ℕ) (name : BlobName) (c : Commits f w k name) → (IsMetadata name → ⊥) → Present f w.blobs name → (Has c.t.noted name → ⊥) → ⊥
+  taken k name c aside present new = elim c.may [
+    | inl h ↦ elim h.2 [
+      | inl own ↦ aside (own_metadata f c.t.work c.t.root h.0 (q.tickets k c.t c.out.there).no_delete h.1 name c.bytes own)
+      | inr root ↦ new (subst (Has c.t.noted) (sym root.1) (free.roots k root.0 c.t c.out.there root.2.raised (subst (Present f w.blobs) root.1 present)))
+    ]
+    | inr h ↦ new (free.shards k c.t name c.out.there c.out.out h.1 present)
+  ]
+
+  found : (name : BlobName) (image : Option Image) (i : Image) → image ≡ Some i → Told image (λ blobs. Present f w.blobs name × (blobs ≡ w.blobs)) → Present f w.blobs name
+  found name image i is told = (subst (λ (im : Option Image). Told im (λ blobs. Present f w.blobs name × (blobs ≡ w.blobs))) is told).0
+
+  present : (k : ℕ) (t : Ticket) → IsOut w k t → t.term ≢ w.term → ⊥
+  present k t out apart = apart (q.tickets k t out.there).present
+
+  ruled : (who : ℕ) (step : Step) (reply : Reply) (image : Option Image) (i : Image) → image ≡ Some i → (reply ≢ Refused DepotFault) → (IsSpent reply → ⊥) → IsNew w who step → Allows f size w who step reply image → IsRuled step reply
+  ruled who step reply image i told calm unspent new (allowed.Cleaning command d x im there clean same) = absurd (nothing w.deletes d x q.no_deletes there)
+  ruled who step reply image i told calm unspent new (allowed.Used name indices moment uuid im clear is same) = ((Snapshot name indices moment, refl), tt)
+  ruled who step reply image i told calm unspent new (allowed.Full name indices moment im clear unused full same) = ((Snapshot name indices moment, refl), tt)
+  ruled who step reply image i told calm unspent new (allowed.AskSpent name indices moment im clear unused room spent same) = absurd (unspent tt)
+  ruled who step reply image i told calm unspent new (allowed.DrawSpent k n im may spent same) = absurd (unspent tt)
+  ruled who step reply image i told calm unspent new (allowed.RaiseStale k im may apart same) = absurd (present k may.t may.out apart)
+  ruled who step reply image i told calm unspent new (allowed.SettleStale k n t swapped im may apart same) = absurd (present k t may.out apart)
+  ruled who step reply image i told calm unspent new (allowed.DropStale k im may apart same) = absurd (present k may.t may.out apart)
+  ruled who step reply image i told calm unspent new (allowed.RaiseSpent k im may now spent same) = absurd (unspent tt)
+  ruled who step reply image i told calm unspent new (allowed.ElectSpent im spent same) = absurd (unspent tt)
+  ruled who step reply image i told calm unspent new (allowed.Taken k name im c aside there) = absurd (taken k name c aside (found name im i told there) (new name c.t refl c.out.there aside))
+  ruled who step reply image i told calm unspent new (allowed.BeginFails k name im c same) = absurd (calm refl)
+  ruled who step reply image i told calm unspent new (allowed.BeginLatestFails k im c same) = absurd (calm refl)
+  ruled who step reply image i told calm unspent new (allowed.CommitFails k name im c leaves) = absurd (calm refl)
+  ruled who step reply image i told calm unspent new (allowed.ReplaceFails k im c named puts) = absurd (calm refl)
+  ruled who step reply image i told calm unspent new (allowed.FetchFails k name im g same) = absurd (calm refl)
+  ruled who step reply image i told calm unspent new (allowed.ListFails k im t out same) = absurd (calm refl)
+  ruled who step reply image i told calm unspent new (allowed.AskFails name indices moment im acc same) = absurd (calm refl)
+  ruled who step reply image i told calm unspent new (allowed.RaiseFails k im r same) = absurd (calm refl)
+  ruled who step reply image i told calm unspent new (allowed.SettleFails k im x same) = absurd (calm refl)
+  ruled who step reply image i told calm unspent new (allowed.DropFails k im c same) = absurd (calm refl)
+  ruled who step reply image i told calm unspent new (allowed.ElectFails im room same) = absurd (calm refl)
+  ruled who step reply image i told calm unspent new a = tt
+
+-- ---- of a history
+
+pub by_rule : (s : Start) (log : List Moment) → IsSmooth s log → Prefixes s log → AreByRule log
+by_rule s log smooth prefixes m refusal has reply =
+    let f : Formats = formats_of s in
+    let p = place_of log m has in
+    let w : World = world_of s p.front in
+    let q : IsQuiet s w = quiet_at s log smooth p.front (m ∷ p.back) p.is in
+    let told = told_at log m smooth.told has in
+    let new : IsNew w m.entry.who m.entry.step = λ name t step there aside noted.
+    smooth.once p.front p.back m name p.is step aside (subst (λ (x : Ticket). Has x.noted name) (sym (ap or_no_ticket there)) noted) in
+    elim (legal_at s log smooth p.front p.back m p.is).answered [
+      | inl alive ↦
+          subst (IsRuled m.entry.step) reply
+          (ruled s f s.part_size w q (prefixes.free p.front (m ∷ p.back) p.is) m.entry.who m.entry.step m.entry.reply m.image told.0 told.1 (smooth.calm m has) (smooth.unspent m has) new alive.1)
+      | inr dead ↦ absurd (true≢false (sym dead.deposed ∙ q.present))
+    ]

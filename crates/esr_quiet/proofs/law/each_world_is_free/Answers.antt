@@ -1,0 +1,17 @@
+use Rattle.esr_desk.specs.Start.{formats_of}
+use Rattle.esr_quiet.proofs.Core.{CoreLaws}
+use Rattle.esr_quiet.proofs.Freeing.{histories_free}
+use Rattle.esr_quiet.proofs.Passing.{smooth_front}
+use Rattle.esr_quiet.proofs.law.each_world_is_free.Goals as goal
+
+pub returns : goal.returns
+returns c = λ s log smooth.
+    let laws : CoreLaws = record { opened = c.opening_is_lawful.ensures; lawful = c.each_history_is_lawful.ensures; tracked = c.each_history_is_tracked.ensures; ranked = c.each_history_is_ranked.ensures } in
+    record {
+      lawful = λ front back is.
+          let h = smooth_front s log smooth front back is in
+          (_, laws.lawful (formats_of s) s.part_size h.image h.shelf s.world front h.known h.kept h.opened h.legal h.told h.honest);
+      free = λ front back is.
+          let h = smooth_front s log smooth front back is in
+          histories_free laws (formats_of s) s.part_size h.image h.shelf s.world front h.known h.kept h.opened h.no_deletes h.legal h.told h.honest h.calm;
+    }

@@ -1,0 +1,33 @@
+-- What was asked at lines, by a history.
+use Rattle.std.specs.Prelude.{◌≡◌, ℕ, ◌<◌, ◌==◌, Bool, true, false, ◌&&◌, not, if◌then◌else◌, List, [], ◌∷◌, ◌++◌}
+use Rattle.esr_model.specs.Values.{Bytes, Has}
+use Rattle.esr_core.specs.Entry.{AskedIndex, Snapshot, Step, AskStep, TakeStep, Entry, Moment}
+use Rattle.esr_desk.specs.Start.{Start, Legal}
+
+abbrev pub is_take : Step → Bool
+is_take TakeStep = true
+is_take step = false
+
+-- a step of who 0 that takes no unit: what a line asks for
+abbrev pub is_asked : Entry → Bool
+is_asked e = (e.who == 0) && not (is_take e.step)
+
+-- what was asked, in order
+abbrev pub asked_steps : List Moment → List Step
+asked_steps [] = []
+asked_steps (m ∷ log) = if is_asked m.entry then m.entry.step ∷ asked_steps log else asked_steps log
+
+-- a history has gone on by legal steps, and these were asked by them where nobody else makes a step
+pub record GrewAsking (s : Start) (steps : List Step) (old new : List Moment) : Type 0 where
+  pub more : List Moment
+  pub is : new ≡ old ++ more
+  pub legal : Legal s old → Legal s new
+  pub asked : s.alone ≡ true → asked_steps more ≡ steps
+
+-- the shards of each index are steady: no call of one fails
+abbrev pub IsSteady : Start → List AskedIndex → Type 0
+IsSteady s indices = (a : AskedIndex) (number : ℕ) → Has indices a → number < a.shards → s.steady a.place a.name number ≡ true
+
+-- and so is each shard of which a snapshot was asked
+abbrev pub AreSteady : Start → List Moment → Type 0
+AreSteady s log = (m : Moment) (name : Bytes) (indices : List AskedIndex) (moment : ℕ) → Has log m → m.entry.step ≡ AskStep (Snapshot name indices moment) → IsSteady s indices

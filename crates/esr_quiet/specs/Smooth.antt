@@ -1,0 +1,55 @@
+-- A history over quiet objects that tell, in which no number was spent.
+use Rattle.std.specs.Prelude.{◌≡◌, ◌≢◌, true, List}
+use Rattle.std.specs.FinMap as fin
+use Rattle.esr_model.specs.Values.{Has}
+use Rattle.esr_model.specs.Shelf.{Shelved}
+use Rattle.esr_model.specs.Image.{Image}
+use Rattle.esr_model.specs.Kept.{Kept}
+use Rattle.esr_core.specs.World.{Opened}
+use Rattle.esr_core.specs.Entry.{FailedStep, Why, ElectStep, Reply, HasEnded, Refused, DepotFault, IdsSpent, GenerationsSpent, TermsSpent, Moment}
+use Rattle.esr_core.specs.History.{AllKnown, AreTold, AreHonest}
+use Rattle.esr_desk.specs.Start.{Start, formats_of, Legal}
+use Rattle.esr_desk.specs.Once.{AreOnce}
+use Rattle.esr_quiet.specs.Asked.{AreSteady}
+
+-- no step was refused since the container failed
+abbrev pub AreCalm : List Moment → Type 0
+AreCalm log = (m : Moment) → Has log m → m.entry.reply ≢ Refused DepotFault
+
+-- nor since a number was spent
+abbrev pub IsSpent : Reply → Type 0
+IsSpent (Refused (IdsSpent next)) = Unit {0}
+IsSpent (Refused (GenerationsSpent pending)) = Unit {0}
+IsSpent (Refused (TermsSpent term)) = Unit {0}
+IsSpent reply = ⊥
+
+abbrev pub AreUnspent : List Moment → Type 0
+AreUnspent log = (m : Moment) → Has log m → IsSpent m.entry.reply → ⊥
+
+-- no master was elected
+abbrev pub AreUnelected : List Moment → Type 0
+AreUnelected log = (m : Moment) → Has log m → m.entry.step ≢ ElectStep
+
+-- The container told its image, which was kept, at the start and at each moment, and no call of it failed; the sources tell
+-- all files, and no shard that was asked for fails.
+pub record IsSmooth (s : Start) (log : List Moment) : Type 0 where
+  pub tells : s.tells ≡ true
+  pub quiet : s.quiet ≡ true
+  pub known : AllKnown (formats_of s)
+  pub image : Image
+  pub shelf : List Shelved
+  pub kept : Kept (formats_of s) image shelf
+  pub opened : Opened (formats_of s) image s.world
+  pub no_deletes : s.world.deletes ≡ fin.empty
+  pub legal : Legal s log
+  pub told : AreTold log
+  pub honest : AreHonest (formats_of s) s.world log
+  pub once : AreOnce s log
+  pub steady : AreSteady s log
+  pub calm : AreCalm log
+  pub unspent : AreUnspent log
+  pub unelected : AreUnelected log
+
+-- no unit failed
+abbrev pub NoneFailed : List Moment → Type 0
+NoneFailed log = (m : Moment) (why : Why) → Has log m → m.entry.step ≡ FailedStep why → m.entry.reply ≢ HasEnded

@@ -1,0 +1,54 @@
+//! Laws of histories over quiet objects.
+ghost use Rattle.std.specs.Prelude.{◌≡◌, ◌≢◌, ◌∷◌, ◌++◌, [], ℕ, List, true, Some};
+ghost use Rattle.esr_core.specs.Entry.{TakeStep, Given, Gave, Moment};
+ghost use Rattle.esr_desk.specs.declared.fault.Fault.{Fault};
+ghost use Rattle.esr_desk.specs.Start.{Start, Legal, ticket_of};
+ghost use Rattle.esr_desk.specs.Shown.{Counts, AreShown};
+ghost use Rattle.esr_desk.specs.Grew.{AllOf};
+ghost use Rattle.esr_quiet.specs.Smooth.{IsSmooth, NoneFailed};
+ghost use Rattle.esr_quiet.specs.Refusals.{AreByRule};
+ghost use Rattle.esr_quiet.specs.Prefixes.{Prefixes};
+
+/// Over quiet objects that tell no unit fails: what could show a failure doesn't come.
+pub fn no_unit_fails<S, F, H, T>()
+    ensures { (c : Counts S F H T) (s : Start) (log : List Moment) (faults : List (Fault S F H T)) → IsSmooth s log → AreShown c s log faults → NoneFailed log }
+{
+    each_world_is_free();
+    none_fail_where_free::<S, F, H, T>();
+}
+
+/// And no step is refused but that of a command, by a rule: so no name is ever taken.
+pub fn only_rules_refuse()
+    ensures { (s : Start) (log : List Moment) → IsSmooth s log → NoneFailed log → AreByRule log }
+{
+    each_world_is_free();
+    rules_refuse_where_free();
+}
+
+/// Steps of a ticket leave all other tickets; so does the giving of a unit, but for the ticket that it gives; and what else is asked leaves all.
+pub fn other_tickets_stay()
+    ensures steps { (s : Start) (log more : List Moment) (who k : ℕ) → Legal s (log ++ more) → AllOf who more → who ≢ 0 → k ≢ who → ticket_of s (log ++ more) k ≡ ticket_of s log k }
+    ensures gives { (s : Start) (log : List Moment) (m : Moment) (ticket op : ℕ) (unit : Given) (k : ℕ) → Legal s (log ++ m ∷ []) → m.entry.step ≡ TakeStep → m.entry.reply ≡ Gave ticket op unit → k ≢ ticket → ticket_of s (log ++ m ∷ []) k ≡ ticket_of s log k }
+    ensures nothing { (s : Start) (log : List Moment) (m : Moment) (k : ℕ) → Legal s (log ++ m ∷ []) → m.entry.who ≡ 0 → ((ticket op : ℕ) (unit : Given) → m.entry.reply ≢ Gave ticket op unit) → k ≢ 0
+        → ticket_of s (log ++ m ∷ []) k ≡ ticket_of s log k }
+{}
+
+/// Where each world of the history is lawful and free, no unit fails.
+pub(crate) fn none_fail_where_free<S, F, H, T>()
+    ensures { (c : Counts S F H T) (s : Start) (log : List Moment) (faults : List (Fault S F H T)) → IsSmooth s log → Prefixes s log → AreShown c s log faults → NoneFailed log }
+{}
+
+/// And only rules refuse.
+pub(crate) fn rules_refuse_where_free()
+    ensures { (s : Start) (log : List Moment) → IsSmooth s log → Prefixes s log → AreByRule log }
+{}
+
+/// Each world of a history over quiet objects is lawful, and what is still to be written in it is free.
+pub(crate) fn each_world_is_free()
+    ensures { (s : Start) (log : List Moment) → IsSmooth s log → Prefixes s log }
+{
+    esr_core::opening_is_lawful();
+    esr_core::each_history_is_lawful();
+    esr_core::each_history_is_tracked();
+    esr_core::each_history_is_ranked();
+}

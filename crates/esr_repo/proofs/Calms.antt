@@ -1,0 +1,101 @@
+-- Where the container tells that no call of it fails, after a step.
+use Rattle.std.proofs.Common.{◌≡◌, ℕ, ◌+◌, ◌^◌, ◌<◌, ◌≤◌, Bool, true, false, true≢false, List, [], ◌∷◌, ◌++◌, length, Option, Some, IfSome, IsTrue, Err, refl, sym, ap, ◌∙◌, subst, arith, length-append}
+use Rattle.esr_core.specs.Entry.{Entry, Moment}
+use Rattle.esr_depot.specs.declared.error.CallError.{CallError}
+use Rattle.esr_depot.specs.declared.error.CallError.TheVariants.{Memory}
+use Rattle.esr_depot.specs.Look.{Look}
+use Rattle.esr_depot.specs.Calls.{Change, Serves, Called}
+use Rattle.esr_repo.specs.Log.{image_at, log_of}
+use Rattle.esr_repo.specs.Counted.{is_fault, fault_entries}
+use Rattle.esr_repo.specs.Calm.{IsCalm}
+use Rattle.esr_repo.proofs.Logs.{length-log}
+use Rattle.esr_repo.proofs.BlobCalls.{Pushed, more_is}
+use Rattle.esr_repo.proofs.Failing.{entries_more}
+
+-- ---- counts
+
+-- a step without a call
+pub no_call : (n : ℕ) → n ≤ n + 1
+no_call n = omega arith
+
+one_less : (n : ℕ) → n + 1 ≤ 2 ^ 41 → n ≤ 2 ^ 41
+one_less n h = omega arith
+
+one_below : (n : ℕ) → n + 1 ≤ 2 ^ 41 → n < 2 ^ 41
+one_below n h = omega arith
+
+none_more : (n more : ℕ) → more ≡ n + 0 → n ≡ 0 → more ≡ 0
+none_more n more is none = omega arith
+
+still_sure : (before after n : ℕ) → 2 ^ 41 ≤ before + n → before ≤ after + 1 → 2 ^ 41 ≤ after + (n + 1)
+still_sure before after n h spent = omega arith
+
+some_sure : (sure n : ℕ) → 2 ^ 41 ≤ sure + n → n < 2 ^ 41 → 0 < sure
+some_sure sure n h below = omega arith
+
+longer : (es : List Entry) (e : Entry) → length (es ++ e ∷ []) ≡ length es + 1
+longer es e = length-append es (e ∷ [])
+
+-- ---- after a step
+
+module _ {quiet : Bool} (before : ℕ) {es mid es' : List Entry} {e : Entry} (h : IsCalm quiet before es) (p : Pushed es mid es' e) (after : ℕ) where
+  grown : es' ≡ es ++ e ∷ []
+  grown = more_is es mid es' e p
+
+  few : length (es ++ e ∷ []) ≤ 2 ^ 41 → length es + 1 ≤ 2 ^ 41
+  few short = subst (λ (n : ℕ). n ≤ 2 ^ 41) (longer es e) short
+
+  -- what was so before one entry more
+  was : quiet ≡ true → length (es ++ e ∷ []) ≤ 2 ^ 41 → (fault_entries es ≡ 0) × (2 ^ 41 ≤ before + length es)
+  was is_quiet short = h is_quiet (one_less (length es) (few short))
+
+  goes : is_fault e.reply ≡ false → before ≤ after + 1 → IsCalm quiet after (es ++ e ∷ [])
+  goes none spent is_quiet short = (
+    none_more (fault_entries es) (fault_entries (es ++ e ∷ [])) (entries_more es e false none) (was is_quiet short).0,
+    subst (λ (n : ℕ). 2 ^ 41 ≤ after + n) (sym (longer es e)) (still_sure before after (length es) (was is_quiet short).1 spent),
+  )
+
+  -- an entry that tells no failure, after one call at most
+  pub calm_goes : is_fault e.reply ≡ false → before ≤ after + 1 → IsCalm quiet after es'
+  calm_goes none spent = subst (λ (l : List Entry). IsCalm quiet after l) (sym grown) (goes none spent)
+
+  one_sure : quiet ≡ true → length (es ++ e ∷ []) ≤ 2 ^ 41 → 0 < before
+  one_sure is_quiet short = some_sure before (length es) (was is_quiet short).1 (one_below (length es) (few short))
+
+  fails : (failed : Bool) → Serves before after failed → failed ≡ true → IsCalm quiet after (es ++ e ∷ [])
+  fails failed serves has is_quiet short = absurd (true≢false (sym has ∙ serves.sure (one_sure is_quiet short)))
+
+  -- a call fails only where no call is sure
+  pub calm_failed : (failed : Bool) → Serves before after failed → failed ≡ true → IsCalm quiet after es'
+  calm_failed failed serves has = subst (λ (l : List Entry). IsCalm quiet after l) (sym grown) (fails failed serves has)
+
+-- out of memory: nothing changed
+pub calm_wanting : {T : Type 0} {quiet : Bool} {old : Look} {es : List Entry} → IsCalm quiet old.sure es
+    → (new : Look) (mid : List Entry) → mid ≡ es → (ok : T → Change) (may : Change) (error : CallError) → error ≡ Memory → Called old new ok may (Err error) → IsCalm quiet new.sure mid
+calm_wanting {T} {quiet} {old} {es} h new mid reserved ok may error is c =
+    let stays = (subst (λ x. Called old new ok may (Err x)) is c).stays refl in
+    subst (λ (n : ℕ). IsCalm quiet n mid) (sym stays.sure) (subst (λ (l : List Entry). IsCalm quiet old.sure l) (sym reserved) h)
+
+-- ---- the beginning
+
+pub calm_begun : (quiet : Bool) (sure : ℕ) → (quiet ≡ true → 2 ^ 41 ≤ sure) → IsCalm quiet sure []
+calm_begun quiet sure h is_quiet short = (refl, all_sure sure (h is_quiet))
+  where
+    all_sure : (n : ℕ) → 2 ^ 41 ≤ n → 2 ^ 41 ≤ n + 0
+    all_sure n enough = omega arith
+
+-- ---- calls
+
+-- a call is sure
+pub sure_now : (quiet : Bool) (l : Look) (clock : ℕ) (es : List Entry) (seen : List Moment) → IsCalm quiet l.sure es → log_of l clock es ≡ seen → quiet ≡ true → length seen < 2 ^ 41 → 0 < l.sure
+sure_now quiet l clock es seen h view is_quiet below =
+    let same : length seen ≡ length es = sym (ap length view) ∙ length-log (image_at l) clock es in
+    let short : length es < 2 ^ 41 = subst (λ (n : ℕ). n < 2 ^ 41) same below in
+    some_sure l.sure (length es) (h is_quiet (within (length es) short)).1 short
+  where
+    within : (n : ℕ) → n < 2 ^ 41 → n ≤ 2 ^ 41
+    within n h = omega arith
+
+-- so is what a call found
+pub found_sure : {F : Type 0} (sure : ℕ) (is_sure : F → Bool) (o : Option F) (fetch : F) → o ≡ Some fetch → IfSome o (λ f. 0 < sure → IsTrue (is_sure f)) → 0 < sure → IsTrue (is_sure fetch)
+found_sure {F} sure is_sure o fetch is h = subst (λ (x : Option F). IfSome x (λ f. 0 < sure → IsTrue (is_sure f))) is h

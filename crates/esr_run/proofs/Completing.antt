@@ -1,0 +1,387 @@
+-- What a run over quiet objects ends with.
+use Rattle.std.proofs.Common.{◌≡◌, ◌≢◌, ◌⊎◌, ℕ, zero, suc, ◌+◌, ◌-◌, ◌^◌, ◌<◌, ◌≤◌, min, Bool, true, false, cond, nat_lt, List, [], ◌∷◌, ◌++◌, map, length, Option, Some, None, is_some, refl, sym, ap, ◌∙◌, subst, inl, inr, ⊎_elim, arith}
+use Rattle.std.specs.FinMap as fin
+use Rattle.std.specs.Prelude.{◌&&◌, ◌==◌, not, unwrap_or, if◌then◌else◌, sum_by, count_by}
+use Rattle.std.proofs.lemmas.Bool.{ltb-true, ltb-false}
+use Rattle.std.proofs.lemmas.List.Sums.{sum_by-cons}
+use Rattle.esr_model.specs.Values.{Bytes, Has, Formats}
+use Rattle.esr_model.specs.Image.{Image}
+use Rattle.esr_core.specs.World.{World, Opened}
+use Rattle.esr_core.specs.Entry.{AskedIndex, Asked, Snapshot, Step, AskStep, TakeStep, ElectStep, LookStep, Reply, Refused, DepotFault, DeposedAt, IdsSpent, GenerationsSpent, TermsSpent, Entry, Moment}
+use Rattle.esr_core.specs.Allowed as allowed
+use Rattle.esr_core.specs.Allowed.{Allows, Allowed}
+use Rattle.esr_core.specs.History.{world_from, IsLegal, AllKnown, AreTold, AreHonest}
+use Rattle.esr_depot.specs.Image.{Image as Held}
+use Rattle.esr_depot.specs.Look.{Look, now}
+use Rattle.esr_script.specs.declared.item.AskedIndex.{AskedIndex as LineIndex}
+use Rattle.esr_script.specs.declared.item.Item.{Item}
+use Rattle.esr_script.specs.declared.item.Item.TheVariants as items
+use Rattle.esr_script.specs.declared.item.ScriptLine.{ScriptLine}
+use Rattle.esr_report.specs.Replies.{replies}
+use Rattle.esr_report.specs.Status.{ending, status_of}
+use Rattle.esr_desk.specs.Start.{Start, Legal, formats_of}
+use Rattle.esr_desk.specs.declared.fault.Fault.{Fault}
+use Rattle.esr_desk.specs.Shown.{Counts, AreShown}
+use Rattle.esr_desk.specs.Once.{AreOnce}
+use Rattle.esr_repo.specs.Log.{image_of, image_at, log_from, log_of, tick}
+use Rattle.esr_repo.specs.Counted.{is_fault, fault_entries}
+use Rattle.esr_repo.specs.Calm.{IsCalm}
+use Rattle.esr_repo.specs.Deposed.{FailedSwap, AreDeposedSo}
+use Rattle.esr_quiet.specs.Asked.{is_take, is_asked, asked_steps, GrewAsking, IsSteady, AreSteady}
+use Rattle.esr_quiet.specs.Smooth.{IsSmooth, IsSpent, AreCalm, AreUnspent, AreUnelected, NoneFailed}
+use Rattle.esr_quiet.specs.Refusals.{AreByRule}
+use Rattle.esr_complete.specs.Lines.{index_of_line, command_of_line, steps_of_item, steps_of, IsKnown, AreKnown, entries_of}
+use Rattle.esr_complete.specs.Answers.{AreAnswered, EndsWell}
+use Rattle.esr_run.specs.Script.{is_carried, first_bad}
+use Rattle.esr_run.specs.Start.{Telling, formats_by, steady_by, start_of}
+use Rattle.esr_run.specs.Images.{Holds, TellsAll}
+use Rattle.esr_run.specs.Complete.{AreThere, IsQuietFor, HasSpent, IsAnsweredWell, Completes}
+use Rattle.esr_run.specs.Laws.{QuietLaws}
+use Rattle.esr_run.specs.Made.{MadeFirst, WasStopped, HasStopped, AreDone}
+
+-- ---- lines that can be carried out
+
+known_item : (item : Item) → is_carried item ≡ true → IsKnown item
+known_item (items.Snapshot name indices) e = tt
+known_item items.Wait e = tt
+known_item items.List e = tt
+known_item (items.Clone source name indices) e = absurd cc
+known_item (items.Delete names) e = absurd cc
+known_item (items.Restore name place) e = absurd cc
+known_item items.Cleanup e = absurd cc
+known_item items.Failover e = absurd cc
+known_item items.Check e = absurd cc
+known_item items.Verify e = absurd cc
+
+first_known : (line : ScriptLine) (lines : List ScriptLine) (b : Bool) → (if b then first_bad lines else Some line.number) ≡ None → (b ≡ true) × (first_bad lines ≡ None)
+first_known line lines true e = (refl, e)
+first_known line lines false e = absurd cc
+
+pub are_known : (lines : List ScriptLine) → first_bad lines ≡ None → AreKnown lines
+are_known [] e = tt
+are_known (line ∷ lines) e =
+    let h = first_known line lines (is_carried line.item) e in
+    (known_item line.item h.0, are_known lines h.1)
+
+-- ---- entries and moments
+
+pub entries_are : (at : ℕ → Option Image) (t : ℕ) (es : List Entry) → entries_of (log_from at t es) ≡ es
+entries_are at t [] = refl
+entries_are at t (e ∷ es) = ap (λ (l : List Entry). e ∷ l) (entries_are at (tick t e) es)
+
+has_entry : (log : List Moment) (m : Moment) → Has log m → Has (entries_of log) m.entry
+has_entry [] m h = absurd h
+has_entry (n ∷ log) m (inl e) = inl (ap (λ (x : Moment). x.entry) e)
+has_entry (n ∷ log) m (inr h) = inr (has_entry log m h)
+
+as_many : (log : List Moment) → length (entries_of log) ≡ length log
+as_many [] = refl
+as_many (m ∷ log) = ap suc (as_many log)
+
+entries_both : (front back : List Moment) → entries_of (front ++ back) ≡ entries_of front ++ entries_of back
+entries_both [] back = refl
+entries_both (m ∷ front) back = ap (λ (l : List Entry). m.entry ∷ l) (entries_both front back)
+
+-- ---- whether a number was spent
+
+spent_or_not : (reply : Reply) → IsSpent reply ⊎ (IsSpent reply → ⊥)
+spent_or_not (Refused (IdsSpent next)) = inl tt
+spent_or_not (Refused (GenerationsSpent pending)) = inl tt
+spent_or_not (Refused (TermsSpent term)) = inl tt
+spent_or_not reply = inr (λ h. h)
+
+abbrev Spent : List Entry → Type 0
+Spent es = (e : Entry) × Has es e × IsSpent e.reply
+
+find_spent : (es : List Entry) → Spent es ⊎ ((e : Entry) → Has es e → IsSpent e.reply → ⊥)
+find_spent [] = inr (λ e h s. h)
+find_spent (e ∷ es) = ⊎_elim
+    (λ (s : IsSpent e.reply). inl (e, inl refl, s))
+    (λ (n : IsSpent e.reply → ⊥). ⊎_elim
+    (λ (more : Spent es). inl (more.0, inr more.1, more.2))
+    (λ (none : (x : Entry) → Has es x → IsSpent x.reply → ⊥). inr (λ x h s. ⊎_elim (λ is. n (subst (λ (y : Entry). IsSpent y.reply) (sym is) s)) (λ has. none x has s) h))
+    (find_spent es))
+    (spent_or_not e.reply)
+
+many_or_not : (n m : ℕ) → (m ≤ n) ⊎ (n < m)
+many_or_not n m = go (nat_lt n m) refl
+  where
+    go : (b : Bool) → nat_lt n m ≡ b → (m ≤ n) ⊎ (n < m)
+    go true e = inr (ltb-true n m e)
+    go false e = inl (ltb-false n m e)
+
+-- ---- no failure of the container
+
+counted_more : (x : Entry) (es : List Entry) → fault_entries (x ∷ es) ≡ cond (is_fault x.reply) 1 0 + fault_entries es
+counted_more x es = sum_by-cons (λ (y : Entry). cond (is_fault y.reply) 1 0) x es
+
+one_more : (b : Bool) (n : ℕ) → b ≡ true → 1 ≤ cond b 1 0 + n
+one_more true n e = let is : 1 ≤ 1 + n = omega arith in is
+one_more false n e = absurd cc
+
+rest_more : (b : Bool) (n : ℕ) → 1 ≤ n → 1 ≤ cond b 1 0 + n
+rest_more true n h = let is : 1 ≤ 1 + n = omega arith in is
+rest_more false n h = let rest : 1 ≤ n = h in let is : 1 ≤ 0 + n = omega (arith, rest) in is
+
+counted_one : (es : List Entry) (e : Entry) → Has es e → is_fault e.reply ≡ true → 1 ≤ fault_entries es
+counted_one [] e h fault = absurd h
+counted_one (x ∷ es) e (inl is) fault = subst (λ (n : ℕ). 1 ≤ n) (sym (counted_more x es)) (one_more (is_fault x.reply) (fault_entries es) (ap (λ (y : Entry). is_fault y.reply) is ∙ fault))
+counted_one (x ∷ es) e (inr h) fault = subst (λ (n : ℕ). 1 ≤ n) (sym (counted_more x es)) (rest_more (is_fault x.reply) (fault_entries es) (counted_one es e h fault))
+
+none_counted : (es : List Entry) (e : Entry) → fault_entries es ≡ 0 → Has es e → e.reply ≡ Refused DepotFault → ⊥
+none_counted es e none h is =
+    let one : 1 ≤ fault_entries es = counted_one es e h (ap is_fault is) in
+    let zeros : fault_entries es ≡ 0 = none in
+    omega (arith, one, zeros)
+
+-- ---- who asks
+
+record Place (log : List Moment) (m : Moment) : Type 0 where
+  front : List Moment
+  back : List Moment
+  is : log ≡ front ++ m ∷ back
+
+place_of : (log : List Moment) (m : Moment) → Has log m → Place log m
+place_of [] m h = absurd h
+place_of (n ∷ log) m (inl e) = record { front = []; back = log; is = ap (λ (x : Moment). x ∷ log) e }
+place_of (n ∷ log) m (inr h) = let p = place_of log m h in record { front = n ∷ p.front; back = p.back; is = ap (λ (l : List Moment). n ∷ l) p.is }
+
+legal_rest : (f : Formats) (size : ℕ) (front back : List Moment) (w : World) → IsLegal f size w (front ++ back) → IsLegal f size (world_from f w front) back
+legal_rest f size [] back w legal = legal
+legal_rest f size (m ∷ front) back w legal = legal_rest f size front back _ legal.1
+
+-- an ask and an election are nobody's
+abbrev IsNobodys : ℕ → Step → Type 0
+IsNobodys who (AskStep command) = who ≡ 0
+IsNobodys who ElectStep = who ≡ 0
+IsNobodys who step = Unit {0}
+
+nobodys : (f : Formats) (size : ℕ) (w : World) (who : ℕ) (step : Step) (reply : Reply) (image : Option Image) → Allows f size w who step reply image → IsNobodys who step
+nobodys f size w who step reply image (allowed.Accepting name indices moment o im accepts same) = refl
+nobodys f size w who step reply image (allowed.Electing im room same) = refl
+nobodys f size w who step reply image (allowed.Cleaning command d x im there cleans same) = refl
+nobodys f size w who step reply image (allowed.Used name indices moment uuid im clean is same) = refl
+nobodys f size w who step reply image (allowed.Full name indices moment im clean unused full same) = refl
+nobodys f size w who step reply image (allowed.AskSpent name indices moment im clean unused room spent same) = refl
+nobodys f size w who step reply image (allowed.ElectSpent im last same) = refl
+nobodys f size w who step reply image (allowed.AskFails name indices moment im accepts same) = refl
+nobodys f size w who step reply image (allowed.ElectFails im room same) = refl
+nobodys f size w who step reply image a = tt
+
+module _ (s : Start) (log : List Moment) (es : List Entry) (entries : entries_of log ≡ es) (legal : Legal s log) (none : fault_entries es ≡ 0) (named : AreDeposedSo es) where
+  never_deposed : (m : Moment) (place : ℕ) → Has log m → m.entry.reply ≡ Refused (DeposedAt place) → ⊥
+  never_deposed m place h is =
+      let p = place_of log m h in
+      let whole : es ≡ entries_of p.front ++ m.entry ∷ entries_of p.back = sym entries ∙ ap entries_of p.is ∙ entries_both p.front (m ∷ p.back) in
+      let fell : FailedSwap (entries_of p.front) place = named (entries_of p.front) (entries_of p.back) m.entry place whole is in
+      let there : Has es fell.entry = subst (λ (l : List Entry). Has l fell.entry) (sym whole) (in_front (entries_of p.front) (m.entry ∷ entries_of p.back) fell.entry (subst (λ (l : List Entry). Has l fell.entry) (sym fell.is) (in_middle fell.front fell.back fell.entry))) in
+      none_counted es fell.entry none there fell.reply
+    where
+      in_front : (a b : List Entry) (e : Entry) → Has a e → Has (a ++ b) e
+      in_front [] b e h = absurd h
+      in_front (x ∷ a) b e (inl is) = inl is
+      in_front (x ∷ a) b e (inr h) = inr (in_front a b e h)
+
+      in_middle : (a b : List Entry) (e : Entry) → Has (a ++ e ∷ b) e
+      in_middle [] b e = inl refl
+      in_middle (x ∷ a) b e = inr (in_middle a b e)
+
+  pub asks_nobody : (m : Moment) → Has log m → IsNobodys m.entry.who m.entry.step
+  asks_nobody m h =
+      let p = place_of log m h in
+      let here : Allowed (formats_of s) s.part_size (world_from (formats_of s) s.world p.front) m = (legal_rest (formats_of s) s.part_size p.front (m ∷ p.back) s.world (subst (Legal s) p.is legal)).0 in
+      ⊎_elim
+      (λ alive. nobodys (formats_of s) s.part_size (world_from (formats_of s) s.world p.front) m.entry.who m.entry.step m.entry.reply m.image alive.1)
+      (λ dead. absurd (never_deposed m dead.place h dead.refused))
+      here.answered
+
+  pub calm_is : AreCalm log
+  calm_is m h is = none_counted es m.entry none (subst (λ (l : List Entry). Has l m.entry) entries (has_entry log m h)) is
+
+-- ---- what was asked is what lines ask for
+
+asked_true : (e : Entry) → e.who ≡ 0 → is_take e.step ≡ false → is_asked e ≡ true
+asked_true e who take = ap (λ (k : ℕ). (k == 0) && not (is_take e.step)) who ∙ ap not take
+
+behind : (n : Moment) (log : List Moment) (step : Step) (b : Bool) → Has (asked_steps log) step → Has (if b then n.entry.step ∷ asked_steps log else asked_steps log) step
+behind n log step true h = inr h
+behind n log step false h = h
+
+in_asked : (log : List Moment) (m : Moment) → Has log m → is_asked m.entry ≡ true → Has (asked_steps log) m.entry.step
+in_asked [] m h asked = absurd h
+in_asked (n ∷ log) m (inl e) asked =
+    subst (λ (l : List Step). Has l m.entry.step) (sym (ap (λ (b : Bool). if b then n.entry.step ∷ asked_steps log else asked_steps log) (ap (λ (x : Moment). is_asked x.entry) e ∙ asked))) (inl (ap (λ (x : Moment). x.entry.step) e))
+in_asked (n ∷ log) m (inr h) asked = behind n log m.entry.step (is_asked n.entry) (in_asked log m h asked)
+
+in_wanted : (first rest wanted : List Step) (step : Step) → first ++ rest ≡ wanted → Has first step → Has wanted step
+in_wanted first rest wanted step is h = subst (λ (l : List Step). Has l step) is (go first h)
+  where
+    go : (a : List Step) → Has a step → Has (a ++ rest) step
+    go [] h = absurd h
+    go (x ∷ a) (inl e) = inl e
+    go (x ∷ a) (inr h) = inr (go a h)
+
+-- a step of lines is that of one
+record OfLine (moment : ℕ) (lines : List ScriptLine) (step : Step) : Type 0 where
+  line : ScriptLine
+  there : Has lines line
+  step_is : Has (steps_of_item moment line.item) step
+
+either_list : (a b : List Step) (step : Step) → Has (a ++ b) step → Has a step ⊎ Has b step
+either_list [] b step h = inr h
+either_list (x ∷ a) b step (inl e) = inl (inl e)
+either_list (x ∷ a) b step (inr h) = ⊎_elim (λ l. inl (inr l)) (λ r. inr r) (either_list a b step h)
+
+of_line : (moment : ℕ) (lines : List ScriptLine) (step : Step) → Has (steps_of moment lines) step → OfLine moment lines step
+of_line moment [] step h = absurd h
+of_line moment (line ∷ lines) step h = ⊎_elim
+    (λ here. record { line = line; there = inl refl; step_is = here })
+    (λ later. let o = of_line moment lines step later in record { line = o.line; there = inr o.there; step_is = o.step_is })
+    (either_list (steps_of_item moment line.item) (steps_of moment lines) step h)
+
+no_election : (moment : ℕ) (item : Item) → Has (steps_of_item moment item) ElectStep → ⊥
+no_election moment (items.Snapshot name indices) (inl e) = cc
+no_election moment (items.Snapshot name indices) (inr h) = h
+no_election moment items.List (inl e) = cc
+no_election moment items.List (inr h) = h
+no_election moment item h = h
+
+-- the indices of a snapshot that was asked are those of the line's
+record OfSnapshot (item : Item) (indices : List AskedIndex) : Type 0 where
+  name : Bytes
+  line_indices : List LineIndex
+  item_is : item ≡ items.Snapshot name line_indices
+  indices_are : indices ≡ map index_of_line line_indices
+
+of_snapshot : (moment : ℕ) (item : Item) (name : Bytes) (indices : List AskedIndex) (when : ℕ) → Has (steps_of_item moment item) (AskStep (Snapshot name indices when)) → OfSnapshot item indices
+of_snapshot moment (items.Snapshot called of) name indices when (inl e) = let same : map index_of_line of ≡ indices = cc in record { name = called; line_indices = of; item_is = refl; indices_are = sym same }
+of_snapshot moment (items.Snapshot called of) name indices when (inr h) = absurd h
+of_snapshot moment items.List name indices when (inl e) = absurd cc
+of_snapshot moment items.List name indices when (inr h) = absurd h
+of_snapshot moment item name indices when h = absurd h
+
+in_map : (l : List LineIndex) (a : AskedIndex) → Has (map index_of_line l) a → (b : LineIndex) × Has l b × (index_of_line b ≡ a)
+in_map [] a h = absurd h
+in_map (b ∷ l) a (inl e) = (b, inl refl, e)
+in_map (b ∷ l) a (inr h) = let r = in_map l a h in (r.0, inr r.1, r.2)
+
+is_steady : (telling : Telling) (place name : Bytes) (number : ℕ) → telling.is_quiet ≡ true → telling.is_there place name number ≡ Some true → steady_by telling place name number ≡ true
+is_steady telling place name number quiet there = ap (λ (b : Bool). b && unwrap_or (telling.is_there place name number) false) quiet ∙ ap (λ (o : Option Bool). unwrap_or o false) there
+
+asks_none : (command : Asked) → AskStep command ≡ TakeStep → ⊥
+asks_none command e = cc
+
+-- ---- a run over quiet objects
+
+module _ {S F H T : Type 0} (laws : QuietLaws S F H T) (count : Counts S F H T) (telling : Telling) (size moment : ℕ) (lines : List ScriptLine) (before after : Look) (world : World) (clock : ℕ) (history : List Entry) (faults : List (Fault S F H T))
+    (opened : (i : Held) → now before ≡ Some i → Opened (formats_by telling) (image_of i) world) where
+  abbrev s : Start
+  s = start_of telling size true before world
+
+  abbrev log : List Moment
+  log = log_of after clock history
+
+  module _ (no_deletes : world.deletes ≡ fin.empty) (legal : Legal s log) (told : s.tells ≡ true → AreTold log) (shown : AreShown {S = S} {F = F} {H = H} {T = T} count s log faults) (once : AreOnce s log) (calm : IsCalm true after.sure history) (named : AreDeposedSo history)
+      (made : MadeFirst s (steps_of moment lines) [] log) (quiet_for : IsQuietFor telling before lines) (tells_all : TellsAll (formats_by telling) world log) (few : length history < 2 ^ 40) (unspent : (e : Entry) → Has history e → IsSpent e.reply → ⊥) where
+    entries : entries_of log ≡ history
+    entries = entries_are (image_at after) clock history
+
+    none_faults : fault_entries history ≡ 0
+    none_faults = (calm refl (let less : length history < 2 ^ 40 = few in omega (arith, less))).0
+
+    nobody : (m : Moment) → Has log m → IsNobodys m.entry.who m.entry.step
+    nobody = asks_nobody s log history entries legal none_faults named
+
+    -- what nobody's ticket asked is what lines ask for
+    wanted : (m : Moment) → Has log m → m.entry.who ≡ 0 → is_take m.entry.step ≡ false → OfLine moment lines m.entry.step
+    wanted m h who take =
+        let asked : asked_steps log ≡ made.first = ap asked_steps made.grew.is ∙ made.grew.asked refl in
+        let first : Has made.first m.entry.step = subst (λ (l : List Step). Has l m.entry.step) asked (in_asked log m h (asked_true m.entry who take)) in
+        of_line moment lines m.entry.step (in_wanted made.first made.rest (steps_of moment lines) m.entry.step made.is first)
+
+    steady : AreSteady s log
+    steady m name indices when h is a number has below =
+        let who : m.entry.who ≡ 0 = subst (IsNobodys m.entry.who) is (nobody m h) in
+        let from = wanted m h who (ap is_take is) in
+        let snap = of_snapshot moment from.line.item name indices when (subst (λ (step : Step). Has (steps_of_item moment from.line.item) step) is from.step_is) in
+        let one = in_map snap.line_indices a (subst (λ (l : List AskedIndex). Has l a) snap.indices_are has) in
+        let less : number < one.0.shards = subst (λ (x : AskedIndex). number < x.shards) (sym one.2) below in
+        let there : telling.is_there a.place a.name number ≡ Some true =
+        subst (λ (x : AskedIndex). telling.is_there x.place x.name number ≡ Some true) one.2 (quiet_for.there from.line snap.name snap.line_indices one.0 number from.there snap.item_is one.1 less) in
+        is_steady telling a.place a.name number quiet_for.sources there
+
+    unelected : AreUnelected log
+    unelected m h is =
+        let who : m.entry.who ≡ 0 = subst (IsNobodys m.entry.who) is (nobody m h) in
+        let from = wanted m h who (ap is_take is) in
+        no_election moment from.line.item (subst (λ (step : Step). Has (steps_of_item moment from.line.item) step) is from.step_is)
+
+    tells : s.tells ≡ true
+    tells = ap is_some quiet_for.holds.told
+
+    smooth : IsSmooth s log
+    smooth = record {
+      tells = tells;
+      quiet = refl;
+      known = tells_all.known;
+      image = image_of quiet_for.holds.image;
+      shelf = quiet_for.shelf;
+      kept = quiet_for.holds.kept;
+      opened = opened quiet_for.holds.image quiet_for.holds.told;
+      no_deletes = no_deletes;
+      legal = legal;
+      told = told tells;
+      honest = tells_all.honest;
+      once = once;
+      steady = steady;
+      calm = calm_is s log history entries legal none_faults named;
+      unspent = λ m h spent. unspent m.entry (subst (λ (l : List Entry). Has l m.entry) entries (has_entry log m h)) spent;
+      unelected = unelected;
+    }
+
+    none_failed : NoneFailed log
+    none_failed = laws.fails count s log faults smooth shown
+
+    rules : AreByRule log
+    rules = laws.rules s log smooth none_failed
+
+    -- the work wasn't stopped
+    not_stopped : HasStopped log → ⊥
+    not_stopped (inl was) =
+        let by = rules was.moment was.refusal was.there was.refused in
+        ⊎_elim
+        (λ (some : was.moment.entry.who ≢ 0). some (subst (IsNobodys was.moment.entry.who) by.0.1 (nobody was.moment was.there)))
+        (λ (take : was.moment.entry.step ≡ TakeStep). asks_none by.0.0 (sym by.0.1 ∙ take))
+        was.step
+    not_stopped (inr all) =
+        let many : length history ≡ length log = ap length (sym entries) ∙ as_many log in
+        let most : 2 ^ 40 ≤ length log = all in
+        let less : length history < 2 ^ 40 = few in
+        omega (arith, many, most, less)
+
+    well : AreKnown lines → AreDone s (steps_of moment lines) [] log → IsAnsweredWell lines history
+    well known done =
+        let asked : asked_steps log ≡ steps_of moment lines = ap asked_steps done.grew.is ∙ done.grew.asked refl in
+        record {
+          answered = subst (λ (es : List Entry). AreAnswered lines (replies lines es)) entries (laws.answered s log lines moment smooth none_failed rules done.idle known asked);
+          ends = subst (λ (es : List Entry). EndsWell lines es) entries (laws.ends s log lines moment smooth none_failed rules done.idle known asked);
+        }
+
+  pub completes : (status : ℕ) → (no_deletes : world.deletes ≡ fin.empty) → Legal s log → (s.tells ≡ true → AreTold log) → AreShown {S = S} {F = F} {H = H} {T = T} count s log faults → AreOnce s log → IsCalm true after.sure history → AreDeposedSo history
+      → MadeFirst s (steps_of moment lines) [] log → AreDone s (steps_of moment lines) [] log ⊎ HasStopped log → AreKnown lines → status ≡ status_of (ending lines history) → IsQuietFor telling before lines → Completes telling lines world clock after history status
+  completes status no_deletes legal told shown once calm named made done known is quiet_for tells_all =
+      ⊎_elim
+      (λ (spent : Spent history). inl (inl spent))
+      (λ (unspent : (e : Entry) → Has history e → IsSpent e.reply → ⊥).
+      ⊎_elim
+      (λ (many : 2 ^ 40 ≤ length history). inl (inr many))
+      (λ (few : length history < 2 ^ 40).
+      inr (
+        ⊎_elim
+            (λ (all : AreDone s (steps_of moment lines) [] log). well no_deletes legal told shown once calm named made quiet_for tells_all few unspent known all)
+            (λ (stopped : HasStopped log). absurd (not_stopped no_deletes legal told shown once calm named made quiet_for tells_all few unspent stopped))
+            done,
+        is,
+      ))
+      (many_or_not (length history) (2 ^ 40)))
+      (find_spent history)

@@ -1,0 +1,19 @@
+use Rattle.std.proofs.Common.{◌≡◌, ◌⊎◌, true, Result, Ok, Err, OnOk}
+use Rattle.std.specs.declared.alloc.AllocError.{AllocError}
+use Rattle.esr_desk.specs.Grew.{NoneOut}
+use Rattle.esr_complete.specs.Answers.{IsIdle}
+use Rattle.esr_run.specs.Made.{HasStopped, AreDone}
+use Rattle.esr_complete.specs.Lines.{steps_of}
+use Rattle.esr_run.proofs.Making.{made_then, done_then}
+use Rattle.esr_run.proofs.carry.carry.Goals as goal
+
+pub returns-in-Ok-clause-made : goal.returns-in-Ok-clause-made
+returns-in-Ok-clause-made g c = made_then g.Q.Desk.start (steps_of c.args.moment c.args.lines.now) (g.Q.Desk.seen c.args.desk.now) (g.Q.Desk.seen c.carry_lines.new.desk) (g.Q.Desk.seen c.work_out.new.desk) c.carry_lines.ensures.made c.work_out.ensures.grew
+
+pub returns-in-Ok-clause-done : goal.returns-in-Ok-clause-done
+returns-in-Ok-clause-done g c = go c.work_out.result c.work_out.ensures.done
+  where
+    go : (r : Result Unit AllocError) → OnOk r (g.Q.Desk.start.alone ≡ true → NoneOut g.Q.Desk.start (g.Q.Desk.seen c.carry_lines.new.desk) → IsIdle g.Q.Desk.start (g.Q.Desk.seen c.work_out.new.desk) ⊎ HasStopped (g.Q.Desk.seen c.work_out.new.desk))
+        → OnOk r (g.Q.Desk.start.alone ≡ true → NoneOut g.Q.Desk.start (g.Q.Desk.seen c.args.desk.now) → AreDone g.Q.Desk.start (steps_of c.args.moment c.args.lines.now) (g.Q.Desk.seen c.args.desk.now) (g.Q.Desk.seen c.work_out.new.desk) ⊎ HasStopped (g.Q.Desk.seen c.work_out.new.desk))
+    go (Ok x) done = done_then g.Q.Desk.start (steps_of c.args.moment c.args.lines.now) (g.Q.Desk.seen c.args.desk.now) (g.Q.Desk.seen c.carry_lines.new.desk) (g.Q.Desk.seen c.work_out.new.desk) c.in-Ok.ensures.rests c.work_out.ensures.grew done
+    go (Err e) done = tt

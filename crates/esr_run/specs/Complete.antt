@@ -1,0 +1,54 @@
+-- Completeness: what a run ends with where nothing fails.
+use Rattle.std.specs.Prelude.{◌≡◌, ◌≢◌, ◌⊎◌, ℕ, ◌^◌, ◌<◌, ◌≤◌, true, List, length, Option, Some, Err}
+use Rattle.esr_model.specs.Values.{Bytes, Has}
+use Rattle.esr_model.specs.Shelf.{Shelved}
+use Rattle.esr_core.specs.World.{World}
+use Rattle.esr_core.specs.Entry.{Entry}
+use Rattle.esr_depot.specs.Image.{Image as Held}
+use Rattle.esr_depot.specs.Look.{Look, now}
+use Rattle.esr_script.specs.declared.item.AskedIndex.{AskedIndex}
+use Rattle.esr_script.specs.declared.item.Item.TheVariants as items
+use Rattle.esr_script.specs.declared.item.ScriptLine.{ScriptLine}
+use Rattle.esr_report.specs.Replies.{replies}
+use Rattle.esr_report.specs.Status.{ending, status_of}
+use Rattle.esr_opening.specs.Found.{Damage, LastTerm, found}
+use Rattle.esr_opening.specs.Hindrances.{IsOpenDelete}
+use Rattle.esr_opening.specs.declared.refusal.Why.{Why}
+use Rattle.esr_repo.specs.Log.{log_of}
+use Rattle.esr_quiet.specs.Smooth.{IsSpent}
+use Rattle.esr_complete.specs.Answers.{AreAnswered, EndsWell}
+use Rattle.esr_run.specs.Start.{Telling, formats_by}
+use Rattle.esr_run.specs.Images.{Holds, TellsAll}
+
+-- each shard for which the lines ask is there
+abbrev pub AreThere : Telling → List ScriptLine → Type 0
+AreThere telling lines = (line : ScriptLine) (name : Bytes) (indices : List AskedIndex) (a : AskedIndex) (number : ℕ) → Has lines line → line.item ≡ items.Snapshot name indices → Has indices a → number < a.shards
+    → telling.is_there a.place a.name number ≡ Some true
+
+-- The container tells its image, which is kept and in which no delete is open, and it is sure to serve 2^62 calls; the sources
+-- are quiet, and each shard for which the lines ask is there.
+pub record IsQuietFor (telling : Telling) (before : Look) (lines : List ScriptLine) : Type 0 where
+  pub sure : 2 ^ 62 ≤ before.sure
+  pub shelf : List Shelved
+  pub holds : Holds (formats_by telling) before shelf
+  pub undeleted : (name : Bytes) (why : Why) → IsOpenDelete name why → found holds.image ≢ Err (Damage name why)
+  pub sources : telling.is_quiet ≡ true
+  pub there : AreThere telling lines
+
+-- a number was spent: a step was refused for that, or all turns were taken
+abbrev pub HasSpent : List Entry → Type 0
+HasSpent history = ((e : Entry) × Has history e × IsSpent e.reply) ⊎ (2 ^ 40 ≤ length history)
+
+-- the record has the last term
+abbrev pub IsLastTerm : Look → Type 0
+IsLastTerm before = (i : Held) × (term : ℕ) × (now before ≡ Some i) × (found i ≡ Err (LastTerm term))
+
+-- each line is answered well, so that the run ends with 0, or with 1 since a command was refused by a rule
+pub record IsAnsweredWell (lines : List ScriptLine) (history : List Entry) : Type 0 where
+  pub answered : AreAnswered lines (replies lines history)
+  pub ends : EndsWell lines history
+
+-- so it is, unless a number was spent, where the digests are honest
+abbrev pub Completes : Telling → List ScriptLine → World → ℕ → Look → List Entry → ℕ → Type 0
+Completes telling lines world clock after history status =
+    TellsAll (formats_by telling) world (log_of after clock history) → HasSpent history ⊎ (IsAnsweredWell lines history × (status ≡ status_of (ending lines history)))

@@ -1,0 +1,53 @@
+-- How far lines were carried out.
+use Rattle.std.specs.Prelude.{◌≡◌, ◌≢◌, ◌⊎◌, ℕ, ◌^◌, ◌≤◌, List, [], ◌++◌, length, Result, Ok, Err}
+use Rattle.esr_model.specs.Values.{Has}
+use Rattle.esr_core.specs.Entry.{Step, TakeStep, Refused, Refusal, Moment}
+use Rattle.esr_desk.specs.declared.refusal.StepRefusal.{StepRefusal}
+use Rattle.esr_desk.specs.declared.refusal.StepRefusal.TheVariants as steps
+use Rattle.esr_desk.specs.Start.{Start}
+use Rattle.esr_desk.specs.Grew.{NoneOut}
+use Rattle.esr_quiet.specs.Asked.{GrewAsking}
+use Rattle.esr_complete.specs.Answers.{IsIdle}
+
+-- the first of these steps were asked
+pub record MadeFirst (s : Start) (wanted : List Step) (old new : List Moment) : Type 0 where
+  pub first : List Step
+  pub rest : List Step
+  pub grew : GrewAsking s first old new
+  pub is : first ++ rest ≡ wanted
+
+-- a step of a ticket, or a take, was refused
+pub record WasStopped (log : List Moment) : Type 0 where
+  pub moment : Moment
+  pub there : Has log moment
+  pub refusal : Refusal
+  pub refused : moment.entry.reply ≡ Refused refusal
+  pub step : (moment.entry.who ≢ 0) ⊎ (moment.entry.step ≡ TakeStep)
+
+-- or all turns were taken
+abbrev pub HasStopped : List Moment → Type 0
+HasStopped log = WasStopped log ⊎ (2 ^ 40 ≤ length log)
+
+-- what the line asks for was asked, if the history tells the answer
+abbrev pub LineMade : {X : Type 0} → Start → List Step → List Moment → List Moment → Result X StepRefusal → Type 0
+LineMade s wanted old new (Ok x) = GrewAsking s wanted old new
+LineMade s wanted old new (Err steps.Memory) = GrewAsking s [] old new
+LineMade s wanted old new (Err steps.TurnsSpent) = GrewAsking s [] old new
+LineMade s wanted old new (Err (steps.Refused refusal)) = GrewAsking s wanted old new
+
+-- no ticket is out after it, unless the work was stopped
+abbrev pub LineRests : {X : Type 0} → Start → List Moment → Result X StepRefusal → Type 0
+LineRests s new (Ok x) = NoneOut s new
+LineRests s new (Err steps.Memory) = Unit {0}
+LineRests s new (Err steps.TurnsSpent) = 2 ^ 40 ≤ length new
+LineRests s new (Err (steps.Refused refusal)) = NoneOut s new ⊎ HasStopped new
+
+-- all lines were carried out, and no ticket is out, unless the work was stopped
+pub record AreMade (s : Start) (wanted : List Step) (old new : List Moment) : Type 0 where
+  pub grew : GrewAsking s wanted old new
+  pub rests : NoneOut s new
+
+-- and no unit is ready
+pub record AreDone (s : Start) (wanted : List Step) (old new : List Moment) : Type 0 where
+  pub grew : GrewAsking s wanted old new
+  pub idle : IsIdle s new
