@@ -1,5 +1,5 @@
 -- One piece after another.
-use Rattle.std.proofs.Common.{◌≡◌, ℕ, ◌+◌, true, false, Bool, List, ◌++◌, length, Option, Some, None, Result, Ok, Err, OnOk, is_err, refl, sym, ◌∙◌, ap, subst, arith, append_assoc, length-append}
+use Rattle.std.proofs.Common.{◌≡◌, ℕ, true, false, Bool, List, ◌++◌, Option, Some, None, Result, Ok, Err, OnOk, OnErr, is_err, refl, sym, ◌∙◌, ap, subst, arith, append_assoc, length-append}
 use Rattle.std.specs.Io.KnownBytes.{append_known, Consumes}
 use Rattle.esr_hash.specs.declared.hasher.Hasher.{Hasher}
 use Rattle.esr_hash.specs.Fed.{HasFed}
@@ -27,6 +27,10 @@ consumes_more (Some a) (Some b) (Some c) xs ys h k = h ∙ ap (λ (l : List ℕ)
 pub on_ok : {T E : Type 0} (P : Type 0) (r : Result T E) → is_err r ≡ false → OnOk r P → P
 on_ok P (Ok x) is h = h
 on_ok P (Err e) is h = absurd cc
+
+pub on_err : {T E : Type 0} (P : Type 0) (r : Result T E) → is_err r ≡ true → OnErr r P → P
+on_err P (Ok x) is h = absurd cc
+on_err P (Err e) is h = h
 
 -- an object that tells that no call fails has its count still, after one call more
 pub steady_more : {failed : Bool} (a b : Origin) (x y z : ℕ) → b ≡ a → (a.is_sure ≡ true → y ≡ x) → ServesAll b.is_sure y z failed → a.is_sure ≡ true → z ≡ x

@@ -1,5 +1,7 @@
 ghost use Rattle.std.specs.Prelude.{None, false, [], ◌<◌, length, IsSomeAnd};
 
+mod back;
+
 use crate::{copy_part, hash_file, part_plan};
 use esr_depot::{CallError, Counted, Failed, Stage};
 use esr_hash::{Hasher, Print, print_read};

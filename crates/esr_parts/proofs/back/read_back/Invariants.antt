@@ -1,0 +1,24 @@
+use Rattle.std.proofs.Common.{◌≡◌, ◌+◌, ◌≤◌, true, List, ℕ, length, option_map}
+use Rattle.esr_source.specs.Begun.{more}
+use Rattle.esr_parts.specs.Back.{Taken}
+use Rattle.esr_parts.proofs.back.read_back.Given as goal
+
+abbrev pub invariant-loop-got : goal.invariant-loop-got
+invariant-loop-got g l =
+    record {
+      files : g.T.Target.files l.target ≡ g.T.Target.files l.fn.target;
+      made_for : g.T.Target.made_for l.target ≡ g.T.Target.made_for l.fn.target;
+      buffer : length l.buf ≡ length l.fn.buf;
+      fetch : g.F.Counted.faults l.fn.fetch ≤ g.F.Counted.faults l.fetch;
+      target : g.T.Counted.faults l.fn.target ≤ g.T.Counted.faults l.target;
+      fetch_sure : g.F.Fetch.is_sure l.fetch ≡ g.F.Fetch.is_sure l.fn.fetch;
+      target_sure : g.T.Target.is_sure l.target ≡ g.T.Target.is_sure l.fn.target;
+      steady : g.T.Target.is_sure l.fn.target ≡ true → g.T.Counted.faults l.target ≡ g.T.Counted.faults l.fn.target;
+      piece : List ℕ;
+      taken : Taken (g.F.Fetch.left l.fn.fetch) (g.F.Fetch.left l.fetch) l.fn.hasher l.hasher piece;
+      grew : g.T.Target.begun l.target ≡ option_map (more piece) (g.T.Target.begun l.fn.target);
+      count : length piece + l.missing ≡ l.size;
+    }
+
+abbrev pub decreases-loop-got : goal.decreases-loop-got
+decreases-loop-got g l = l.missing
