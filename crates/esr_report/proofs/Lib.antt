@@ -1,3 +1,4 @@
 pub mod Texts
 pub mod Putting
 pub mod Sorting
+pub mod FirstEnds

@@ -2,3 +2,4 @@ pub mod Replies
 pub mod Lines
 pub mod Status
 pub mod Code
+pub mod Ends

@@ -3,9 +3,10 @@ ghost use Rattle.std.specs.Prelude.{◌≡◌, map, IfOk, option_map};
 ghost use Rattle.esr_report.specs.Replies.{fails_swap, has_fallen, is_of_line, from_line, falls_before, deposed_by, end_of_op, ask_reply, look_reply, answer_at, is_wait, wait_reply, replies};
 ghost use Rattle.esr_core.specs.After.{or_else, swaps_record};
 ghost use Rattle.esr_desk.specs.Entries.{step_of, answer_of};
+ghost use Rattle.esr_report.specs.Ends.{AreEnds};
 ghost use Rattle.esr_report.specs.Code.{reply_of};
 
-use crate::tickets::end_of_op;
+use crate::tickets::{OpEnd, end_of_op, ends_of};
 use crate::{Replies, Reply};
 use esr_desk::{Answer, Entry, EntryRefusal, History, Step, Why};
 use esr_script::{Item, Script};
@@ -90,21 +91,23 @@ fn falls_before(entries: &[Entry]) -> bool
 }
 
 /// What an accepted command is answered: by the end of its op, else by a record swap that failed.
-fn op_reply(entries: &[Entry], op: u64) -> Option<Reply>
+fn op_reply(entries: &[Entry], ends: &[OpEnd], op: u64) -> Option<Reply>
+    requires { AreEnds entries.now ends.now }
     ensures { option_map reply_of result ≡ or_else (end_of_op entries.now op entries.now) (deposed_by (has_fallen entries.now)) }
 {
-    match end_of_op(entries, op) {
+    match end_of_op(ends, op) {
         Some(reply) => Some(reply),
         None => has_fallen(entries).then_some(Reply::Deposed),
     }
 }
 
 /// What the ask of a command is answered.
-fn ask_reply(entries: &[Entry], answer: &Answer) -> Option<Reply>
+fn ask_reply(entries: &[Entry], ends: &[OpEnd], answer: &Answer) -> Option<Reply>
+    requires { AreEnds entries.now ends.now }
     ensures { option_map reply_of result ≡ ask_reply entries.now (answer_of answer.now) }
 {
     match answer {
-        Answer::Accepted { op } => op_reply(entries, *op),
+        Answer::Accepted { op } => op_reply(entries, ends, *op),
         Answer::Refused {
             refusal: EntryRefusal::DepotFault,
         } => Some(Reply::Failed { why: Why::Depot }),
@@ -132,11 +135,17 @@ fn look_reply(alloc: Global, answer: &Answer) -> Result<Option<Reply>, AllocErro
 }
 
 /// What the line of an entry is answered.
-fn answer_at(alloc: Global, entries: &[Entry], entry: &Entry) -> Result<Option<Reply>, AllocError>
+fn answer_at(
+    alloc: Global,
+    entries: &[Entry],
+    ends: &[OpEnd],
+    entry: &Entry,
+) -> Result<Option<Reply>, AllocError>
+    requires { AreEnds entries.now ends.now }
     ensures { IfOk result (λ r. option_map reply_of r ≡ answer_at entries.now entry.now.step entry.now.reply) }
 {
     match &entry.step {
-        Step::Ask { command: _ } => Ok(ask_reply(entries, &entry.answer)),
+        Step::Ask { command: _ } => Ok(ask_reply(entries, ends, &entry.answer)),
         Step::Look => look_reply(alloc, &entry.answer),
         _ => Ok(None),
     }
@@ -161,6 +170,7 @@ pub fn replies(alloc: Global, script: &Script, history: &History) -> Result<Repl
     ensures { IfOk result (λ rs. map reply_of rs ≡ replies script.now history.now) }
 {
     let entries = history.as_slice();
+    let ends = ends_of(alloc, entries)?;
     let mut rest = entries;
     let mut down = false;
     let mut replies = Replies::new(alloc);
@@ -173,7 +183,7 @@ pub fn replies(alloc: Global, script: &Script, history: &History) -> Result<Repl
         let [entry, more @ ..] = from_line(rest) else {
             return Ok(replies);
         };
-        let Some(reply) = answer_at(alloc, entries, entry)? else {
+        let Some(reply) = answer_at(alloc, entries, &ends, entry)? else {
             return Ok(replies);
         };
         replies.push(reply)?;

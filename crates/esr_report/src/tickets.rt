@@ -1,12 +1,43 @@
-//! Which op a ticket is of, and how an op ended.
-ghost use Rattle.std.specs.Prelude.{◌≡◌, option_map};
+//! Which op a ticket is of, and how ops ended.
+ghost use Rattle.std.specs.Prelude.{◌≡◌, ℕ, option_map, IfOk, OnOk};
+ghost use Rattle.esr_core.specs.After.{or_else};
 ghost use Rattle.esr_formats.specs.Ids.{number_of};
-ghost use Rattle.esr_report.specs.Replies.{op_by, op_of_ticket, uuid_by, uuid_of_ticket, ends_by, ends_at, end_of_op};
+ghost use Rattle.esr_report.specs.Replies.{op_by, op_of_ticket, uuid_by, uuid_of_ticket, ends_by, ends_at};
+ghost use Rattle.esr_report.specs.Ends.{reply_of_end, end_in, first_end, AreEnds};
 ghost use Rattle.esr_report.specs.Code.{reply_of};
 
 use crate::Reply;
-use esr_desk::{Answer, Entry, Given, Step};
+use esr_desk::{Answer, Entry, Given, Step, Why};
 use esr_names::Id;
+use std::alloc::{AllocError, Global};
+
+/// How an op ended: its snapshot is in the root, or one of its units failed.
+#[derive(Clone, Copy, Debug)]
+pub enum End {
+    Made { uuid: Id },
+    Failed { why: Why },
+}
+
+impl End {
+    ghost use Rattle.esr_report.specs.Ends.{reply_of_end};
+
+    /// What it answers the command of the op.
+    fn reply(self) -> Reply
+        ensures { reply_of result ≡ reply_of_end self }
+    {
+        match self {
+            End::Made { uuid } => Reply::Made { uuid },
+            End::Failed { why } => Reply::Failed { why },
+        }
+    }
+}
+
+/// The end of an op.
+#[derive(Clone, Copy, Debug)]
+pub struct OpEnd {
+    pub op: u64,
+    pub end: End,
+}
 
 /// The op that a take gave to this ticket.
 fn op_by(entry: &Entry, ticket: u64) -> Option<u64>
@@ -63,37 +94,56 @@ fn uuid_of_ticket(entries: &[Entry], ticket: u64) -> Option<Id>
 }
 
 /// What a step of a ticket answers the command of its op, if it ends it.
-fn ends_by(entries: &[Entry], entry: &Entry) -> Option<Reply>
-    ensures { option_map reply_of result ≡ ends_by entries.now entry.now.who entry.now.step entry.now.reply }
+fn ends_by(entries: &[Entry], entry: &Entry) -> Option<End>
+    ensures { option_map reply_of_end result ≡ ends_by entries.now entry.now.who entry.now.step entry.now.reply }
 {
     match (&entry.step, &entry.answer) {
         (Step::Settle, Answer::Settled) => {
-            uuid_of_ticket(entries, entry.who).map(|uuid| Reply::Made { uuid })
+            uuid_of_ticket(entries, entry.who).map(|uuid| End::Made { uuid })
         }
-        (Step::Failed { why }, Answer::Ended) => Some(Reply::Failed { why: *why }),
+        (Step::Failed { why }, Answer::Ended) => Some(End::Failed { why: *why }),
         _ => None,
     }
 }
 
-/// The same where the ticket is of this op.
-fn ends_at(entries: &[Entry], op: u64, entry: &Entry) -> Option<Reply>
-    ensures { option_map reply_of result ≡ ends_at entries.now op entry.now }
+/// The end of an op that an entry tells.
+fn op_end(entries: &[Entry], entry: &Entry) -> Option<OpEnd>
+    ensures { (op : ℕ) → ends_at entries.now op entry.now ≡ end_in result op }
 {
-    if op_of_ticket(entries, entry.who) == Some(op) {
-        ends_by(entries, entry)
-    } else {
-        None
-    }
+    let end = ends_by(entries, entry)?;
+    let op = op_of_ticket(entries, entry.who)?;
+    Some(OpEnd { op, end })
 }
 
-/// What answers the command of an op, by the first of its units that ends it.
-pub fn end_of_op(entries: &[Entry], op: u64) -> Option<Reply>
-    ensures { option_map reply_of result ≡ end_of_op entries.now op entries.now }
+/// Appends an end where there is one.
+#[tactic(auto, using(crate::proofs::FirstEnds::first_end_more))]
+fn keep(ends: &mut Vec<OpEnd>, end: Option<OpEnd>) -> Result<(), AllocError>
+    ensures { OnOk result ((op : ℕ) → first_end ends.new.items op ≡ or_else (first_end ends.old.items op) (end_in end op)) }
 {
+    if let Some(end) = end {
+        ends.push(end)?;
+    }
+    Ok(())
+}
+
+/// The ends of ops, in the order of the entries that tell them.
+pub fn ends_of(alloc: Global, entries: &[Entry]) -> Result<Vec<OpEnd>, AllocError>
+    ensures { IfOk result (λ ends. AreEnds entries.now ends.items) }
+{
+    let mut ends = Vec::new(alloc);
     for entry in entries {
-        let end = ends_at(entries, op, entry);
-        if end.is_some() {
-            return end;
+        keep(&mut ends, op_end(entries, entry))?;
+    }
+    Ok(ends)
+}
+
+/// What answers the command of an op, by the first of its ends.
+pub fn end_of_op(ends: &[OpEnd], op: u64) -> Option<Reply>
+    ensures { option_map reply_of result ≡ first_end ends.now op }
+{
+    for end in ends {
+        if end.op == op {
+            return Some(end.end.reply());
         }
     }
     None
