@@ -359,16 +359,17 @@ module _ {S F H T : Type 0} (laws : QuietLaws S F H T) (count : Counts S F H T) 
         let less : length history < 2 ^ 40 = few in
         omega (arith, many, most, less)
 
-    well : AreKnown lines → AreDone s (steps_of moment lines) [] log → IsAnsweredWell lines history
+    well : AreKnown lines → AreDone s moment lines [] log → IsAnsweredWell s moment lines log history
     well known done =
         let asked : asked_steps log ≡ steps_of moment lines = ap asked_steps done.grew.is ∙ done.grew.asked refl in
         record {
           answered = subst (λ (es : List Entry). AreAnswered lines (replies lines es)) entries (laws.answered s log lines moment smooth none_failed rules done.idle known asked);
           ends = subst (λ (es : List Entry). EndsWell lines es) entries (laws.ends s log lines moment smooth none_failed rules done.idle known asked);
+          waits = done.waits;
         }
 
   pub completes : (status : ℕ) → (no_deletes : world.deletes ≡ fin.empty) → Legal s log → (s.tells ≡ true → AreTold log) → AreShown {S = S} {F = F} {H = H} {T = T} count s log faults → AreOnce s log → IsCalm true after.sure history → AreDeposedSo history
-      → MadeFirst s (steps_of moment lines) [] log → AreDone s (steps_of moment lines) [] log ⊎ HasStopped log → AreKnown lines → status ≡ status_of (ending lines history) → IsQuietFor telling before lines → Completes telling lines world clock after history status
+      → MadeFirst s (steps_of moment lines) [] log → AreDone s moment lines [] log ⊎ HasStopped log → AreKnown lines → status ≡ status_of (ending lines history) → IsQuietFor telling before lines → Completes telling size moment lines before world clock after history status
   completes status no_deletes legal told shown once calm named made done known is quiet_for tells_all =
       ⊎_elim
       (λ (spent : Spent history). inl (inl spent))
@@ -378,7 +379,7 @@ module _ {S F H T : Type 0} (laws : QuietLaws S F H T) (count : Counts S F H T) 
       (λ (few : length history < 2 ^ 40).
       inr (
         ⊎_elim
-            (λ (all : AreDone s (steps_of moment lines) [] log). well no_deletes legal told shown once calm named made quiet_for tells_all few unspent known all)
+            (λ (all : AreDone s moment lines [] log). well no_deletes legal told shown once calm named made quiet_for tells_all few unspent known all)
             (λ (stopped : HasStopped log). absurd (not_stopped no_deletes legal told shown once calm named made quiet_for tells_all few unspent stopped))
             done,
         is,

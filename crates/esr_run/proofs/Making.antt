@@ -5,6 +5,8 @@ use Rattle.std.specs.FinMap as fin
 use Rattle.esr_model.specs.Values.{Has}
 use Rattle.esr_core.specs.World.{Ticket}
 use Rattle.esr_core.specs.Entry.{Given, Gave, Step, TakeStep, NothingReady, Reply, Refusal, Refused, Moment}
+use Rattle.esr_script.specs.declared.item.Item.{Item}
+use Rattle.esr_script.specs.declared.item.Item.TheVariants as items
 use Rattle.esr_script.specs.declared.item.ScriptLine.{ScriptLine}
 use Rattle.esr_desk.specs.declared.refusal.StepRefusal.{StepRefusal}
 use Rattle.esr_desk.specs.declared.refusal.StepRefusal.TheVariants as steps
@@ -15,14 +17,14 @@ use Rattle.esr_desk.specs.Outcome.{Stepped, Outcome}
 use Rattle.esr_desk.specs.Last.{IsLast}
 use Rattle.esr_desk.specs.Grew.{NoneOut}
 use Rattle.esr_quiet.specs.Asked.{GrewAsking}
-use Rattle.esr_quiet.specs.Asking.{asks_of, asking_none, asking_on, asking_stepped, asking_refused}
+use Rattle.esr_quiet.specs.Asking.{asking_none, asking_on}
 use Rattle.esr_quiet.specs.Numbers.{HasNoTickets}
 use Rattle.esr_drive.specs.Stopped.{IsStopped}
 use Rattle.esr_complete.specs.Lines.{steps_of_item, steps_of}
 use Rattle.esr_complete.specs.Answers.{IsIdle}
 use Rattle.esr_run.specs.Script.{is_carried, first_bad}
 use Rattle.esr_run.specs.Laws.{StepsStay}
-use Rattle.esr_run.specs.Made.{MadeFirst, WasStopped, HasStopped, LineMade, LineRests, AreMade, AreDone}
+use Rattle.esr_run.specs.Made.{MadeFirst, WasStopped, HasStopped, LineMade, LineRests, WaitEnds, WaitEnded, WaitsEnded, AreMade, AreDone}
 
 -- ---- a step of who 0 that takes no unit
 
@@ -32,23 +34,6 @@ GivesNone reply = (ticket op : ℕ) (unit : Given) → reply ≢ Gave ticket op 
 
 refused_none : (refusal : Refusal) → GivesNone (Refused refusal)
 refused_none refusal ticket op unit e = cc
-
-pub made_by : {X : Type 0} (s : Start) (old new : List Moment) (step : Step) (ok : X → Reply) (result : Result X StepRefusal) → Outcome s old new 0 step ok result → LineMade s (asks_of step) old new result
-made_by s old new step ok (Ok x) h = asking_stepped s old new step (ok x) h
-made_by s old new step ok (Err steps.Memory) h = asking_refused s old new step None h.0
-made_by s old new step ok (Err steps.TurnsSpent) h = asking_refused s old new step None h.0
-made_by s old new step ok (Err (steps.Refused refusal)) h = asking_stepped s old new step (Refused (refusal_of refusal)) h.0
-
--- a refusal is handed on
-pub line_on : (X Y : Type 0) (s : Start) (wanted : List Step) (old new : List Moment) (e : StepRefusal) → LineMade {X = X} s wanted old new (Err e) → LineMade {X = Y} s wanted old new (Err e)
-line_on X Y s wanted old new steps.Memory h = h
-line_on X Y s wanted old new steps.TurnsSpent h = h
-line_on X Y s wanted old new (steps.Refused refusal) h = h
-
-pub rests_on : (X Y : Type 0) (s : Start) (new : List Moment) (e : StepRefusal) → LineRests {X = X} s new (Err e) → LineRests {X = Y} s new (Err e)
-rests_on X Y s new steps.Memory h = h
-rests_on X Y s new steps.TurnsSpent h = h
-rests_on X Y s new (steps.Refused refusal) h = h
 
 same_or_not : (k : ℕ) → (k ≡ 0) ⊎ (k ≢ 0)
 same_or_not zero = inl refl
@@ -75,12 +60,6 @@ module _ (laws : StepsStay) (s : Start) (numbered : HasNoTickets s) (alone : s.a
 
 -- ---- a wait
 
-pub made_waiting : (s : Start) (old new : List Moment) (result : Result Unit StepRefusal) → GrewAsking s [] old new → LineMade s [] old new result
-made_waiting s old new (Ok x) h = h
-made_waiting s old new (Err steps.Memory) h = h
-made_waiting s old new (Err steps.TurnsSpent) h = h
-made_waiting s old new (Err (steps.Refused refusal)) h = h
-
 has_at : (front back : List Moment) (m : Moment) → Has (front ++ m ∷ back) m
 has_at [] back m = inl refl
 has_at (n ∷ front) back m = inr (has_at front back m)
@@ -104,6 +83,12 @@ rests_waiting s old new (Err steps.Memory) ok stopped alone rest = tt
 rests_waiting s old new (Err steps.TurnsSpent) ok stopped alone rest = stopped alone
 rests_waiting s old new (Err (steps.Refused refusal)) ok stopped alone rest = inr (was_stopped s new (steps.Refused refusal) alone stopped (λ e. cc))
 
+pub wait_ends : (s : Start) (new : List Moment) (result : Result Unit StepRefusal) → OnOk result (IsLast new 0 TakeStep NothingReady) → IfErr result (IsStopped s new) → s.alone ≡ true → WaitEnds new result
+wait_ends s new (Ok x) idle stopped alone = idle
+wait_ends s new (Err steps.Memory) idle stopped alone = tt
+wait_ends s new (Err steps.TurnsSpent) idle stopped alone = tt
+wait_ends s new (Err (steps.Refused refusal)) idle stopped alone = was_stopped s new (steps.Refused refusal) alone stopped (λ e. cc)
+
 -- ---- line after line
 
 has_front : (front back : List Moment) (m : Moment) → Has front m → Has (front ++ back) m
@@ -125,46 +110,149 @@ stopped_stays s asked old new g (inr all) =
     let most : 2 ^ 40 ≤ length old = all in
     inr (omega (arith, whole, most))
 
--- so many lines were carried out
-pub record Front (s : Start) (moment : ℕ) (left lines : List ScriptLine) (old new : List Moment) : Type 0 where
-  pub asked : List Step
-  pub grew : GrewAsking s asked old new
-  pub is : asked ++ steps_of moment left ≡ steps_of moment lines
+-- ---- waits that have ended
 
-abbrev pub Rests : Start → List Moment → List Moment → Type 0
-Rests s old new = s.alone ≡ true → NoneOut s old → NoneOut s new ⊎ HasStopped new
+wait_or_not : (item : Item) → (item ≡ items.Wait) ⊎ (item ≢ items.Wait)
+wait_or_not items.Wait = inl refl
+wait_or_not (items.Snapshot name indices) = inr (λ e. cc)
+wait_or_not (items.Clone source name indices) = inr (λ e. cc)
+wait_or_not (items.Delete names) = inr (λ e. cc)
+wait_or_not (items.Restore name place) = inr (λ e. cc)
+wait_or_not items.Cleanup = inr (λ e. cc)
+wait_or_not items.Failover = inr (λ e. cc)
+wait_or_not items.List = inr (λ e. cc)
+wait_or_not items.Check = inr (λ e. cc)
+wait_or_not items.Verify = inr (λ e. cc)
 
-pub front_none : (s : Start) (moment : ℕ) (lines : List ScriptLine) (log : List Moment) → Front s moment lines lines log log
-front_none s moment lines log = record { asked = []; grew = asking_none s log; is = refl }
+-- no ticket is out after a line, and after a wait no unit is ready, unless the work was stopped
+abbrev pub LineEnded : Start → Item → List Moment → Type 0
+LineEnded s item new = (NoneOut s new × (item ≡ items.Wait → IsLast new 0 TakeStep NothingReady)) ⊎ HasStopped new
 
-pub front_next : (s : Start) (moment : ℕ) (line : ScriptLine) (rest lines : List ScriptLine) (old mid new : List Moment) → Front s moment (line ∷ rest) lines old mid → GrewAsking s (steps_of_item moment line.item) mid new → Front s moment rest lines old new
-front_next s moment line rest lines old mid new f g = record {
-  asked = f.asked ++ steps_of_item moment line.item;
-  grew = asking_on s f.asked (steps_of_item moment line.item) old mid new f.grew g;
-  is = append_assoc f.asked (steps_of_item moment line.item) (steps_of moment rest) ∙ f.is;
+pub refused_line : (s : Start) (item : Item) (new : List Moment) → NoneOut s new ⊎ HasStopped new → (item ≡ items.Wait → HasStopped new) → LineEnded s item new
+refused_line s item new rests stopped =
+    ⊎_elim
+    (λ (wait : item ≡ items.Wait). inr (stopped wait))
+    (λ (other : item ≢ items.Wait). ⊎_elim (λ (none : NoneOut s new). inl (none, λ wait. absurd (other wait))) (λ (was : HasStopped new). inr was) rests)
+    (wait_or_not item)
+
+pub ended_refused : (new : List Moment) (e : StepRefusal) (refusal : EntryRefusal) → e ≡ steps.Refused refusal → WaitEnds {X = Unit} new (Err e) → HasStopped new
+ended_refused new e refusal is h = subst (λ (x : StepRefusal). WaitEnds {X = Unit} new (Err x)) is h
+
+wait_on : (s : Start) (moment : ℕ) (before : List ScriptLine) (asked : List Step) (old mid new : List Moment) → GrewAsking s asked mid new → WaitEnded s moment before old mid → WaitEnded s moment before old new
+wait_on s moment before asked old mid new g w = record {
+  front = w.front;
+  back = w.back ++ g.more;
+  is = g.is ∙ ap (λ (log : List Moment). log ++ g.more) w.is ∙ append_assoc w.front w.back g.more;
+  grew = w.grew;
+  idle = w.idle;
 }
 
+wait_here : (s : Start) (moment : ℕ) (done : List ScriptLine) (item : Item) (old mid new : List Moment) → item ≡ items.Wait → GrewAsking s (steps_of moment done) old mid → GrewAsking s (steps_of_item moment item) mid new → NoneOut s new → IsLast new 0 TakeStep NothingReady → WaitEnded s moment done old new
+wait_here s moment done item old mid new wait f g none last = record {
+  front = new;
+  back = [];
+  is = sym (append-nil new);
+  grew = subst (λ (l : List Step). GrewAsking s l old new) (ap (λ (i : Item). steps_of moment done ++ steps_of_item moment i) wait ∙ append-nil (steps_of moment done)) (asking_on s (steps_of moment done) (steps_of_item moment item) old mid new f g);
+  idle = record { none_out = none; none_ready = last };
+}
+
+-- where a line stands among these and one more: it is the last, or stands before it
+split_last : (done : List ScriptLine) (last : ScriptLine) (before : List ScriptLine) (line : ScriptLine) (after : List ScriptLine) → done ++ last ∷ [] ≡ before ++ line ∷ after
+    → ((before ≡ done) × (line ≡ last)) ⊎ ((rest : List ScriptLine) × (done ≡ before ++ line ∷ rest))
+split_last [] last [] line after e = inl (refl, cc)
+split_last [] last (b ∷ before) line after e = absurd (none before line after (let rest : [] ≡ before ++ line ∷ after = cc in rest))
+  where
+    none : (before : List ScriptLine) (line : ScriptLine) (after : List ScriptLine) → [] ≡ before ++ line ∷ after → ⊥
+    none [] line after e = cc
+    none (b ∷ before) line after e = cc
+split_last (d ∷ done) last [] line after e = let same : d ≡ line = cc in inr (done, ap (λ (l : ScriptLine). l ∷ done) same)
+split_last (d ∷ done) last (b ∷ before) line after e =
+    let same : d ≡ b = cc in
+    let rest : done ++ last ∷ [] ≡ before ++ line ∷ after = cc in
+    ⊎_elim
+    (λ (here : (before ≡ done) × (line ≡ last)). inl (ap (λ (l : ScriptLine). l ∷ before) (sym same) ∙ ap (λ (l : List ScriptLine). d ∷ l) here.0, here.1))
+    (λ (earlier : (r : List ScriptLine) × (done ≡ before ++ line ∷ r)). inr (earlier.0, ap (λ (l : List ScriptLine). d ∷ l) earlier.1 ∙ ap (λ (l : ScriptLine). l ∷ (before ++ line ∷ earlier.0)) same))
+    (split_last done last before line after rest)
+
+no_waits : (s : Start) (moment : ℕ) (old new : List Moment) → WaitsEnded s moment [] old new
+no_waits s moment old new [] after line e wait = absurd cc
+no_waits s moment old new (b ∷ before) after line e wait = absurd cc
+
+waits_next : (s : Start) (moment : ℕ) (done : List ScriptLine) (line : ScriptLine) (old mid new : List Moment) → GrewAsking s (steps_of moment done) old mid → GrewAsking s (steps_of_item moment line.item) mid new → WaitsEnded s moment done old mid
+    → NoneOut s new → (line.item ≡ items.Wait → IsLast new 0 TakeStep NothingReady) → WaitsEnded s moment (done ++ line ∷ []) old new
+waits_next s moment done line old mid new f g waits none last before after l is wait =
+    ⊎_elim
+    (λ (here : (before ≡ done) × (l ≡ line)).
+    let own : line.item ≡ items.Wait = sym (ap (λ (x : ScriptLine). x.item) here.1) ∙ wait in
+    subst (λ (b : List ScriptLine). WaitEnded s moment b old new) (sym here.0) (wait_here s moment done line.item old mid new own f g none (last own)))
+    (λ (earlier : (rest : List ScriptLine) × (done ≡ before ++ l ∷ rest)). wait_on s moment before (steps_of_item moment line.item) old mid new g (waits before earlier.0 l earlier.1 wait))
+    (split_last done line before l after is)
+
+-- ---- so many lines were carried out
+
+steps_append : (moment : ℕ) (a b : List ScriptLine) → steps_of moment (a ++ b) ≡ steps_of moment a ++ steps_of moment b
+steps_append moment [] b = refl
+steps_append moment (line ∷ a) b = ap (λ (l : List Step). steps_of_item moment line.item ++ l) (steps_append moment a b) ∙ sym (append_assoc (steps_of_item moment line.item) (steps_of moment a) (steps_of moment b))
+
+-- no ticket is out, and each wait among them has ended
+pub record Rested (s : Start) (moment : ℕ) (done : List ScriptLine) (old new : List Moment) : Type 0 where
+  pub none_out : NoneOut s new
+  pub waits : WaitsEnded s moment done old new
+
+pub record Front (s : Start) (moment : ℕ) (left lines : List ScriptLine) (old new : List Moment) : Type 0 where
+  pub done : List ScriptLine
+  pub is : done ++ left ≡ lines
+  pub grew : GrewAsking s (steps_of moment done) old new
+  pub rests : s.alone ≡ true → NoneOut s old → Rested s moment done old new ⊎ HasStopped new
+
+pub front_none : (s : Start) (moment : ℕ) (lines : List ScriptLine) (log : List Moment) → Front s moment lines lines log log
+front_none s moment lines log = record { done = []; is = refl; grew = asking_none s log; rests = λ alone none. inl (record { none_out = none; waits = no_waits s moment log log }) }
+
+pub front_next : (s : Start) (moment : ℕ) (line : ScriptLine) (rest lines : List ScriptLine) (old mid new : List Moment) → Front s moment (line ∷ rest) lines old mid → GrewAsking s (steps_of_item moment line.item) mid new
+    → (s.alone ≡ true → NoneOut s mid → LineEnded s line.item new) → Front s moment rest lines old new
+front_next s moment line rest lines old mid new f g ended =
+    let same : steps_of moment (f.done ++ line ∷ []) ≡ steps_of moment f.done ++ steps_of_item moment line.item =
+    steps_append moment f.done (line ∷ []) ∙ ap (λ (l : List Step). steps_of moment f.done ++ l) (append-nil (steps_of_item moment line.item)) in
+    record {
+      done = f.done ++ line ∷ [];
+      is = append_assoc f.done (line ∷ []) rest ∙ f.is;
+      grew = subst (λ (l : List Step). GrewAsking s l old new) (sym same) (asking_on s (steps_of moment f.done) (steps_of_item moment line.item) old mid new f.grew g);
+      rests = λ alone none. ⊎_elim
+          (λ (r : Rested s moment f.done old mid). ⊎_elim
+          (λ (e : NoneOut s new × (line.item ≡ items.Wait → IsLast new 0 TakeStep NothingReady)). inl (record { none_out = e.0; waits = waits_next s moment f.done line old mid new f.grew g r.waits e.0 e.1 }))
+          (λ (was : HasStopped new). inr was)
+          (ended alone r.none_out))
+          (λ (was : HasStopped mid). inr (stopped_stays s (steps_of_item moment line.item) mid new g was))
+          (f.rests alone none);
+    }
+
+front_steps : (s : Start) (moment : ℕ) (left lines : List ScriptLine) (old new : List Moment) (f : Front s moment left lines old new) → steps_of moment f.done ++ steps_of moment left ≡ steps_of moment lines
+front_steps s moment left lines old new f = sym (steps_append moment f.done left) ∙ ap (steps_of moment) f.is
+
 -- a line that added nothing of its own
-pub front_first : (s : Start) (moment : ℕ) (left lines : List ScriptLine) (old mid new : List Moment) → Front s moment left lines old mid → GrewAsking s [] mid new → MadeFirst s (steps_of moment lines) old new
+front_first : (s : Start) (moment : ℕ) (left lines : List ScriptLine) (old mid new : List Moment) → Front s moment left lines old mid → GrewAsking s [] mid new → MadeFirst s (steps_of moment lines) old new
 front_first s moment left lines old mid new f g = record {
-  first = f.asked ++ [];
+  first = steps_of moment f.done ++ [];
   rest = steps_of moment left;
-  grew = asking_on s f.asked [] old mid new f.grew g;
-  is = ap (λ (l : List Step). l ++ steps_of moment left) (append-nil f.asked) ∙ f.is;
+  grew = asking_on s (steps_of moment f.done) [] old mid new f.grew g;
+  is = ap (λ (l : List Step). l ++ steps_of moment left) (append-nil (steps_of moment f.done)) ∙ front_steps s moment left lines old mid f;
 }
 
 pub front_made : (s : Start) (moment : ℕ) (left lines : List ScriptLine) (old new : List Moment) → Front s moment left lines old new → MadeFirst s (steps_of moment lines) old new
-front_made s moment left lines old new f = record { first = f.asked; rest = steps_of moment left; grew = f.grew; is = f.is }
-
-pub rests_next : (s : Start) (asked : List Step) (old mid new : List Moment) → Rests s old mid → GrewAsking s asked mid new → (s.alone ≡ true → NoneOut s mid → NoneOut s new ⊎ HasStopped new) → Rests s old new
-rests_next s asked old mid new first g next alone rest = ⊎_elim (λ n. next alone n) (λ h. inr (stopped_stays s asked mid new g h)) (first alone rest)
+front_made s moment left lines old new f = record { first = steps_of moment f.done; rest = steps_of moment left; grew = f.grew; is = front_steps s moment left lines old new f }
 
 -- all of them
-pub front_all : (s : Start) (moment : ℕ) (left lines : List ScriptLine) (old new : List Moment) → left ≡ [] → Front s moment left lines old new → Rests s old new → s.alone ≡ true → NoneOut s old
-    → AreMade s (steps_of moment lines) old new ⊎ HasStopped new
-front_all s moment left lines old new none f rests alone rest =
-    let all : f.asked ≡ steps_of moment lines = sym (append-nil f.asked) ∙ ap (λ (l : List ScriptLine). f.asked ++ steps_of moment l) (sym none) ∙ f.is in
-    ⊎_elim (λ n. inl (record { grew = subst (λ (l : List Step). GrewAsking s l old new) all f.grew; rests = n })) (λ h. inr h) (rests alone rest)
+pub front_all : (s : Start) (moment : ℕ) (left lines : List ScriptLine) (old new : List Moment) → left ≡ [] → Front s moment left lines old new → s.alone ≡ true → NoneOut s old → AreMade s moment lines old new ⊎ HasStopped new
+front_all s moment left lines old new none f alone out =
+    let all : f.done ≡ lines = sym (append-nil f.done) ∙ ap (λ (l : List ScriptLine). f.done ++ l) (sym none) ∙ f.is in
+    ⊎_elim
+    (λ (r : Rested s moment f.done old new). inl (record {
+      grew = subst (λ (l : List ScriptLine). GrewAsking s (steps_of moment l) old new) all f.grew;
+      waits = subst (λ (l : List ScriptLine). WaitsEnded s moment l old new) all r.waits;
+      rests = r.none_out;
+    }))
+    (λ (was : HasStopped new). inr was)
+    (f.rests alone out)
 
 -- ---- and the work after them
 
@@ -176,12 +264,16 @@ made_then s wanted old mid new f g = record {
   is = ap (λ (l : List Step). l ++ f.rest) (append-nil f.first) ∙ f.is;
 }
 
-pub done_then : (s : Start) (wanted : List Step) (old mid new : List Moment) → (s.alone ≡ true → NoneOut s old → AreMade s wanted old mid ⊎ HasStopped mid) → GrewAsking s [] mid new → (s.alone ≡ true → NoneOut s mid → IsIdle s new ⊎ HasStopped new)
-    → s.alone ≡ true → NoneOut s old → AreDone s wanted old new ⊎ HasStopped new
-done_then s wanted old mid new made g done alone none =
+pub done_then : (s : Start) (moment : ℕ) (lines : List ScriptLine) (old mid new : List Moment) → (s.alone ≡ true → NoneOut s old → AreMade s moment lines old mid ⊎ HasStopped mid) → GrewAsking s [] mid new → (s.alone ≡ true → NoneOut s mid → IsIdle s new ⊎ HasStopped new)
+    → s.alone ≡ true → NoneOut s old → AreDone s moment lines old new ⊎ HasStopped new
+done_then s moment lines old mid new made g done alone none =
     ⊎_elim
     (λ all. ⊎_elim
-    (λ idle. inl (record { grew = subst (λ (l : List Step). GrewAsking s l old new) (append-nil wanted) (asking_on s wanted [] old mid new all.grew g); idle = idle }))
+    (λ idle. inl (record {
+      grew = subst (λ (l : List Step). GrewAsking s l old new) (append-nil (steps_of moment lines)) (asking_on s (steps_of moment lines) [] old mid new all.grew g);
+      waits = λ before after line is wait. wait_on s moment before [] old mid new g (all.waits before after line is wait);
+      idle = idle;
+    }))
     (λ stopped. inr stopped)
     (done alone all.rests))
     (λ stopped. inr (stopped_stays s [] mid new g stopped))
@@ -194,14 +286,6 @@ pub step_refused : (s : Start) (new : List Moment) (e : StepRefusal) (refusal : 
 step_refused s new e refusal is h alone = was_stopped s new (steps.Refused refusal) alone (subst (IsStopped s new) is h) (λ none. cc)
 
 -- ---- by the answer of a line
-
--- it was answered, or refused as the history tells
-pub made_refused : (s : Start) (moment : ℕ) (line : ScriptLine) (rest lines : List ScriptLine) (old mid new : List Moment) (result : Result Unit StepRefusal) → Front s moment (line ∷ rest) lines old mid → LineMade s (steps_of_item moment line.item) mid new result
-    → (result ≡ Err steps.Memory → ⊥) → (result ≡ Err steps.TurnsSpent → ⊥) → Front s moment rest lines old new
-made_refused s moment line rest lines old mid new (Ok x) f made some turns = front_next s moment line rest lines old mid new f made
-made_refused s moment line rest lines old mid new (Err steps.Memory) f made some turns = absurd (some refl)
-made_refused s moment line rest lines old mid new (Err steps.TurnsSpent) f made some turns = absurd (turns refl)
-made_refused s moment line rest lines old mid new (Err (steps.Refused refusal)) f made some turns = front_next s moment line rest lines old mid new f made
 
 -- a line that stopped
 pub made_stopped : (s : Start) (moment : ℕ) (left lines : List ScriptLine) (wanted : List Step) (old mid new : List Moment) (e : StepRefusal) → Front s moment left lines old mid → LineMade {X = Unit} s wanted mid new (Err e) → (e ≡ steps.Memory) ⊎ (e ≡ steps.TurnsSpent)
@@ -216,39 +300,20 @@ made_stopped s moment left lines wanted old mid new (steps.Refused refusal) f ma
     no_turns : (refusal : EntryRefusal) → steps.Refused refusal ≡ steps.TurnsSpent → ⊥
     no_turns refusal e = cc
 
-line_rests : (s : Start) (new : List Moment) (result : Result Unit StepRefusal) → (result ≡ Err steps.Memory → ⊥) → LineRests s new result → NoneOut s new ⊎ HasStopped new
-line_rests s new (Ok x) some h = inl h
-line_rests s new (Err steps.Memory) some h = absurd (some refl)
-line_rests s new (Err steps.TurnsSpent) some h = inr (inr h)
-line_rests s new (Err (steps.Refused refusal)) some h = h
-
-line_grew : (s : Start) (wanted : List Step) (mid new : List Moment) (result : Result Unit StepRefusal) → LineMade s wanted mid new result → (asked : List Step) × GrewAsking s asked mid new
-line_grew s wanted mid new (Ok x) h = (wanted, h)
-line_grew s wanted mid new (Err steps.Memory) h = ([], h)
-line_grew s wanted mid new (Err steps.TurnsSpent) h = ([], h)
-line_grew s wanted mid new (Err (steps.Refused refusal)) h = (wanted, h)
-
--- what rests after it
-pub rests_after : (s : Start) (wanted : List Step) (old mid new : List Moment) (result : Result Unit StepRefusal) → Rests s old mid → LineMade s wanted mid new result → (result ≡ Err steps.Memory → ⊥)
-    → (s.alone ≡ true → NoneOut s mid → LineRests s new result) → Rests s old new
-rests_after s wanted old mid new result rests made some line =
-    let g = line_grew s wanted mid new result made in
-    rests_next s g.0 old mid new rests g.1 (λ alone none. line_rests s new result some (line alone none))
-
 -- all turns were taken
-pub turns_stopped : (s : Start) (wanted : List Step) (lines : List Step) (old mid new : List Moment) → Rests s old mid → LineMade {X = Unit} s wanted mid new (Err steps.TurnsSpent) → (s.alone ≡ true → NoneOut s mid → LineRests {X = Unit} s new (Err steps.TurnsSpent))
-    → s.alone ≡ true → NoneOut s old → AreMade s lines old new ⊎ HasStopped new
-turns_stopped s wanted lines old mid new rests made line alone none =
-    ⊎_elim (λ out. inr (inr (line alone out))) (λ stopped. inr (stopped_stays s [] mid new made stopped)) (rests alone none)
+pub turns_stopped : (s : Start) (moment : ℕ) (wanted : List Step) (left lines : List ScriptLine) (old mid new : List Moment) → Front s moment left lines old mid → LineMade {X = Unit} s wanted mid new (Err steps.TurnsSpent) → (s.alone ≡ true → NoneOut s mid → LineRests {X = Unit} s new (Err steps.TurnsSpent))
+    → s.alone ≡ true → NoneOut s old → AreMade s moment lines old new ⊎ HasStopped new
+turns_stopped s moment wanted left lines old mid new f made line alone none =
+    ⊎_elim (λ (r : Rested s moment f.done old mid). inr (inr (line alone r.none_out))) (λ (was : HasStopped mid). inr (stopped_stays s [] mid new made was)) (f.rests alone none)
 
 -- on the history of a repository, from its beginning on
-pub done_on : {X E : Type 0} (s : Start) (wanted : List Step) (old new same : List Moment) (r : Result X E) → OnOk r (s.alone ≡ true → NoneOut s old → AreDone s wanted old new ⊎ HasStopped new) → same ≡ new → old ≡ [] → s.alone ≡ true → HasNoTickets s
-    → OnOk r (AreDone s wanted [] same ⊎ HasStopped same)
-done_on {X} {E} s wanted old new same (Err e) done is begun alone numbered = tt
-done_on {X} {E} s wanted old new same (Ok x) done is begun alone numbered =
+pub done_on : {X E : Type 0} (s : Start) (moment : ℕ) (lines : List ScriptLine) (old new same : List Moment) (r : Result X E) → OnOk r (s.alone ≡ true → NoneOut s old → AreDone s moment lines old new ⊎ HasStopped new) → same ≡ new → old ≡ [] → s.alone ≡ true → HasNoTickets s
+    → OnOk r (AreDone s moment lines [] same ⊎ HasStopped same)
+done_on {X} {E} s moment lines old new same (Err e) done is begun alone numbered = tt
+done_on {X} {E} s moment lines old new same (Ok x) done is begun alone numbered =
     let none : NoneOut s [] = λ k. ap (λ (m : FinMap nat_cmp Ticket). (or_no_ticket (fin.get m k)).out) numbered.none ∙ ap (λ (o : Option Ticket). (or_no_ticket o).out) (fin.get-empty nat_cmp k) in
-    subst (λ (l : List Moment). AreDone s wanted [] l ⊎ HasStopped l) (sym is)
-    (subst (λ (l : List Moment). AreDone s wanted l new ⊎ HasStopped new) begun (done alone (subst (NoneOut s) (sym begun) none)))
+    subst (λ (l : List Moment). AreDone s moment lines [] l ⊎ HasStopped l) (sym is)
+    (subst (λ (l : List Moment). AreDone s moment lines l new ⊎ HasStopped new) begun (done alone (subst (NoneOut s) (sym begun) none)))
 
 pub done_or : {X E : Type 0} (P : Type 0) (status : ℕ) (r : Result X E) → OnOk r P → (IsErr r → status ≡ 8) → (status ≡ 8) ⊎ P
 done_or {X} {E} P status (Ok x) h wanting = inr h
@@ -265,13 +330,14 @@ take_rest [] = take_all (length (drop 1 none) - 1) (drop 1 none) (let few : 0 �
 take_rest (x ∷ rest) = take_all (length (x ∷ rest) - 1) rest (let le : length rest ≤ suc (length rest) - 1 = omega arith in le)
 
 step_front : (s : Start) (moment : ℕ) (line : ScriptLine) (left lines : List ScriptLine) (old mid new : List Moment) → 1 ≤ length left → line ≡ slice_index_or left 0 line → Front s moment left lines old mid → GrewAsking s (steps_of_item moment line.item) mid new
-    → Front s moment (drop 1 left) lines old new
-step_front s moment line [] lines old mid new some is f g = absurd (let none : List ScriptLine = [] in let le : 1 ≤ length none = some in omega (arith, le))
-step_front s moment line (x ∷ rest) lines old mid new some is f g = front_next s moment x rest lines old mid new f (subst (λ (l : ScriptLine). GrewAsking s (steps_of_item moment l.item) mid new) is g)
+    → (s.alone ≡ true → NoneOut s mid → LineEnded s line.item new) → Front s moment (drop 1 left) lines old new
+step_front s moment line [] lines old mid new some is f g ended = absurd (let none : List ScriptLine = [] in let le : 1 ≤ length none = some in omega (arith, le))
+step_front s moment line (x ∷ rest) lines old mid new some is f g ended =
+    front_next s moment x rest lines old mid new f (subst (λ (l : ScriptLine). GrewAsking s (steps_of_item moment l.item) mid new) is g) (subst (λ (l : ScriptLine). s.alone ≡ true → NoneOut s mid → LineEnded s l.item new) is ended)
 
 pub front_step : (s : Start) (moment : ℕ) (line : ScriptLine) (left lines : List ScriptLine) (old mid new : List Moment) → 1 ≤ length left → line ≡ slice_index_or left 0 line → Front s moment left lines old mid → GrewAsking s (steps_of_item moment line.item) mid new
-    → Front s moment (take (length left - 1) (drop 1 left)) lines old new
-front_step s moment line left lines old mid new some is f g = subst (λ (l : List ScriptLine). Front s moment l lines old new) (sym (take_rest left)) (step_front s moment line left lines old mid new some is f g)
+    → (s.alone ≡ true → NoneOut s mid → LineEnded s line.item new) → Front s moment (take (length left - 1) (drop 1 left)) lines old new
+front_step s moment line left lines old mid new some is f g ended = subst (λ (l : List ScriptLine). Front s moment l lines old new) (sym (take_rest left)) (step_front s moment line left lines old mid new some is f g ended)
 
 when_good : (b : Bool) (number : ℕ) (o : Option ℕ) → (if b then o else Some number) ≡ None → o ≡ None
 when_good true number o e = e

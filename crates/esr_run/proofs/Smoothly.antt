@@ -71,7 +71,7 @@ pub opens_well : {S F H T : Type 0} (laws : Laws) (quiet_laws : QuietLaws S F H 
     → LegalRun (Begun files size quiet mid k) mid.clock after history → IsPast (Begun files size quiet mid k) mid.clock mid.since after history → AreShown count (Begun files size quiet mid k) (log_of after mid.clock history) faults
     → AreOnce (Begun files size quiet mid k) (log_of after mid.clock history) → IsCalm quiet after.sure history → MadeFirst (Begun files size quiet mid k) (steps_of moment lines) [] (log_of after mid.clock history)
     → AreDeposedSo history → first_bad lines ≡ None → IsTold status text (Some (Carried lines history))
-    → (status ≡ 8) ⊎ (AreDone (Begun files size quiet mid k) (steps_of moment lines) [] (log_of after mid.clock history) ⊎ HasStopped (log_of after mid.clock history))
+    → (status ≡ 8) ⊎ (AreDone (Begun files size quiet mid k) moment lines [] (log_of after mid.clock history) ⊎ HasStopped (log_of after mid.clock history))
     → OpensWell count files size moment lines before after history faults status
 unfolding opened_run
 opens_well {S} {F} {H} {T} laws quiet_laws count files size moment lines quiet before mid after k history faults status text o quiet_is legal past shown once calm made named good told (inl wanting) quiet_for = inl wanting
@@ -89,7 +89,7 @@ opens_well {S} {F} {H} {T} laws quiet_laws count files size moment lines quiet b
           (subst (λ (b : Bool). IsCalm b after.sure history) yes_quiet calm)
           named
           (subst (λ (s : Start). MadeFirst s (steps_of moment lines) [] (log_of after mid.clock history)) same made)
-          (subst (λ (s : Start). AreDone s (steps_of moment lines) [] (log_of after mid.clock history) ⊎ HasStopped (log_of after mid.clock history)) same done)
+          (subst (λ (s : Start). AreDone s moment lines [] (log_of after mid.clock history) ⊎ HasStopped (log_of after mid.clock history)) same done)
           (are_known lines good) is quiet_for,
     )))
     (carried_status status text lines history told)

@@ -233,7 +233,7 @@ end_of_refusal (refusals.TermsSpent term) = Some NoTerm
 abbrev pub OpensWell : {S F H T : Type 0} → Counts S F H T → Telling → ℕ → ℕ → List ScriptLine → Look → Look → List Entry → List (Fault S F H T) → ℕ → Type 0
 OpensWell count files size moment lines before after history faults status =
     IsQuietFor files before lines
-    → (status ≡ 8) ⊎ (IsLastTerm before ⊎ ((r : IsOpenedRun count files size moment lines before after history faults) × Completes files lines r.world r.clock after history status))
+    → (status ≡ 8) ⊎ (IsLastTerm before ⊎ ((r : IsOpenedRun count files size moment lines before after history faults) × Completes files size moment lines before r.world r.clock after history status))
 
 -- The words ask for these lines, each of which can be carried out, over quiet objects; and no call of the script or of the
 -- output failed.
@@ -250,4 +250,4 @@ pub record IsSmoothFor (given : Given) (files : Telling) (before : Look) (reader
 abbrev pub IsComplete : {S F H T : Type 0} → Counts S F H T → Given → Telling → ℕ → Look → Look → ℕ → ℕ → List Entry → List (Fault S F H T) → ℕ → Type 0
 IsComplete count given files reader before after old_out new_out history faults status =
     (lines : List ScriptLine) → IsSmoothFor given files before reader old_out new_out lines
-    → (status ≡ 8) ⊎ (IsLastTerm before ⊎ ((c : IsCarried count given files before after history faults) × Completes files c.lines c.run.world c.run.clock after history status))
+    → (status ≡ 8) ⊎ (IsLastTerm before ⊎ ((c : IsCarried count given files before after history faults) × Completes files c.size given.moment c.lines before c.run.world c.run.clock after history status))

@@ -1,9 +1,9 @@
 -- Completeness: what a run ends with where nothing fails.
-use Rattle.std.specs.Prelude.{◌≡◌, ◌≢◌, ◌⊎◌, ℕ, ◌^◌, ◌<◌, ◌≤◌, true, List, length, Option, Some, Err}
+use Rattle.std.specs.Prelude.{◌≡◌, ◌≢◌, ◌⊎◌, ℕ, ◌^◌, ◌<◌, ◌≤◌, true, List, [], length, Option, Some, Err}
 use Rattle.esr_model.specs.Values.{Bytes, Has}
 use Rattle.esr_model.specs.Shelf.{Shelved}
 use Rattle.esr_core.specs.World.{World}
-use Rattle.esr_core.specs.Entry.{Entry}
+use Rattle.esr_core.specs.Entry.{Entry, Moment}
 use Rattle.esr_depot.specs.Image.{Image as Held}
 use Rattle.esr_depot.specs.Look.{Look, now}
 use Rattle.esr_script.specs.declared.item.AskedIndex.{AskedIndex}
@@ -11,14 +11,16 @@ use Rattle.esr_script.specs.declared.item.Item.TheVariants as items
 use Rattle.esr_script.specs.declared.item.ScriptLine.{ScriptLine}
 use Rattle.esr_report.specs.Replies.{replies}
 use Rattle.esr_report.specs.Status.{ending, status_of}
+use Rattle.esr_desk.specs.Start.{Start}
 use Rattle.esr_opening.specs.Found.{Damage, LastTerm, found}
 use Rattle.esr_opening.specs.Hindrances.{IsOpenDelete}
 use Rattle.esr_opening.specs.declared.refusal.Why.{Why}
 use Rattle.esr_repo.specs.Log.{log_of}
 use Rattle.esr_quiet.specs.Smooth.{IsSpent}
 use Rattle.esr_complete.specs.Answers.{AreAnswered, EndsWell}
-use Rattle.esr_run.specs.Start.{Telling, formats_by}
+use Rattle.esr_run.specs.Start.{Telling, formats_by, start_of}
 use Rattle.esr_run.specs.Images.{Holds, TellsAll}
+use Rattle.esr_run.specs.Made.{WaitsEnded}
 
 -- each shard for which the lines ask is there
 abbrev pub AreThere : Telling → List ScriptLine → Type 0
@@ -43,12 +45,15 @@ HasSpent history = ((e : Entry) × Has history e × IsSpent e.reply) ⊎ (2 ^ 40
 abbrev pub IsLastTerm : Look → Type 0
 IsLastTerm before = (i : Held) × (term : ℕ) × (now before ≡ Some i) × (found i ≡ Err (LastTerm term))
 
--- each line is answered well, so that the run ends with 0, or with 1 since a command was refused by a rule
-pub record IsAnsweredWell (lines : List ScriptLine) (history : List Entry) : Type 0 where
+-- Each line is answered well, so that the run ends with 0, or with 1 since a command was refused by a rule; and the work of each
+-- wait was done when it ended.
+pub record IsAnsweredWell (s : Start) (moment : ℕ) (lines : List ScriptLine) (log : List Moment) (history : List Entry) : Type 0 where
   pub answered : AreAnswered lines (replies lines history)
   pub ends : EndsWell lines history
+  pub waits : WaitsEnded s moment lines [] log
 
 -- so it is, unless a number was spent, where the digests are honest
-abbrev pub Completes : Telling → List ScriptLine → World → ℕ → Look → List Entry → ℕ → Type 0
-Completes telling lines world clock after history status =
-    TellsAll (formats_by telling) world (log_of after clock history) → HasSpent history ⊎ (IsAnsweredWell lines history × (status ≡ status_of (ending lines history)))
+abbrev pub Completes : Telling → ℕ → ℕ → List ScriptLine → Look → World → ℕ → Look → List Entry → ℕ → Type 0
+Completes telling size moment lines before world clock after history status =
+    TellsAll (formats_by telling) world (log_of after clock history)
+    → HasSpent history ⊎ (IsAnsweredWell (start_of telling size true before world) moment lines (log_of after clock history) history × (status ≡ status_of (ending lines history)))

@@ -1,12 +1,16 @@
 -- How far lines were carried out.
-use Rattle.std.specs.Prelude.{◌≡◌, ◌≢◌, ◌⊎◌, ℕ, ◌^◌, ◌≤◌, List, [], ◌++◌, length, Result, Ok, Err}
+use Rattle.std.specs.Prelude.{◌≡◌, ◌≢◌, ◌⊎◌, ℕ, ◌^◌, ◌≤◌, List, [], ◌∷◌, ◌++◌, length, Result, Ok, Err}
 use Rattle.esr_model.specs.Values.{Has}
-use Rattle.esr_core.specs.Entry.{Step, TakeStep, Refused, Refusal, Moment}
+use Rattle.esr_core.specs.Entry.{Step, TakeStep, NothingReady, Refused, Refusal, Moment}
+use Rattle.esr_script.specs.declared.item.Item.TheVariants as items
+use Rattle.esr_script.specs.declared.item.ScriptLine.{ScriptLine}
 use Rattle.esr_desk.specs.declared.refusal.StepRefusal.{StepRefusal}
 use Rattle.esr_desk.specs.declared.refusal.StepRefusal.TheVariants as steps
 use Rattle.esr_desk.specs.Start.{Start}
 use Rattle.esr_desk.specs.Grew.{NoneOut}
+use Rattle.esr_desk.specs.Last.{IsLast}
 use Rattle.esr_quiet.specs.Asked.{GrewAsking}
+use Rattle.esr_complete.specs.Lines.{steps_of}
 use Rattle.esr_complete.specs.Answers.{IsIdle}
 
 -- the first of these steps were asked
@@ -42,12 +46,34 @@ LineRests s new (Err steps.Memory) = Unit {0}
 LineRests s new (Err steps.TurnsSpent) = 2 ^ 40 ≤ length new
 LineRests s new (Err (steps.Refused refusal)) = NoneOut s new ⊎ HasStopped new
 
--- all lines were carried out, and no ticket is out, unless the work was stopped
-pub record AreMade (s : Start) (wanted : List Step) (old new : List Moment) : Type 0 where
-  pub grew : GrewAsking s wanted old new
+-- after a wait no unit is ready, unless the work was stopped
+abbrev pub WaitEnds : {X : Type 0} → List Moment → Result X StepRefusal → Type 0
+WaitEnds new (Ok x) = IsLast new 0 TakeStep NothingReady
+WaitEnds new (Err steps.Memory) = Unit {0}
+WaitEnds new (Err steps.TurnsSpent) = Unit {0}
+WaitEnds new (Err (steps.Refused refusal)) = HasStopped new
+
+-- A wait has ended at some point of the history: up to it what the lines before ask for was asked, and nothing else; there no
+-- unit is ready, and none is out.
+pub record WaitEnded (s : Start) (moment : ℕ) (before : List ScriptLine) (old log : List Moment) : Type 0 where
+  pub front : List Moment
+  pub back : List Moment
+  pub is : log ≡ front ++ back
+  pub grew : GrewAsking s (steps_of moment before) old front
+  pub idle : IsIdle s front
+
+-- so has each wait among the lines
+abbrev pub WaitsEnded : Start → ℕ → List ScriptLine → List Moment → List Moment → Type 0
+WaitsEnded s moment lines old log = (before after : List ScriptLine) (line : ScriptLine) → lines ≡ before ++ line ∷ after → line.item ≡ items.Wait → WaitEnded s moment before old log
+
+-- all lines were carried out, each wait has ended, and no ticket is out
+pub record AreMade (s : Start) (moment : ℕ) (lines : List ScriptLine) (old new : List Moment) : Type 0 where
+  pub grew : GrewAsking s (steps_of moment lines) old new
+  pub waits : WaitsEnded s moment lines old new
   pub rests : NoneOut s new
 
 -- and no unit is ready
-pub record AreDone (s : Start) (wanted : List Step) (old new : List Moment) : Type 0 where
-  pub grew : GrewAsking s wanted old new
+pub record AreDone (s : Start) (moment : ℕ) (lines : List ScriptLine) (old new : List Moment) : Type 0 where
+  pub grew : GrewAsking s (steps_of moment lines) old new
+  pub waits : WaitsEnded s moment lines old new
   pub idle : IsIdle s new

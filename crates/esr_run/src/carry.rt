@@ -1,5 +1,6 @@
 //! The lines of a script are carried out, in order.
 ghost use Rattle.std.specs.Prelude.{◌≡◌, ◌⊎◌, ◌≤◌, ◌^◌, ◌∷◌, [], true, None, OnOk};
+ghost use Rattle.esr_script.specs.declared.item.Item.TheVariants.{Wait};
 ghost use Rattle.esr_core.specs.Entry.{AskStep, LookStep};
 ghost use Rattle.esr_desk.specs.Sources.{AreSources};
 ghost use Rattle.esr_desk.specs.Grew.{NoneOut};
@@ -7,7 +8,7 @@ ghost use Rattle.esr_quiet.specs.Asked.{GrewAsking};
 ghost use Rattle.esr_quiet.specs.Numbers.{HasNoTickets};
 ghost use Rattle.esr_complete.specs.Answers.{IsIdle};
 ghost use Rattle.esr_complete.specs.Lines.{command_of_line, steps_of_item, steps_of};
-ghost use Rattle.esr_run.specs.Made.{MadeFirst, HasStopped, LineMade, LineRests, AreMade, AreDone};
+ghost use Rattle.esr_run.specs.Made.{MadeFirst, HasStopped, LineMade, LineRests, WaitEnds, AreMade, AreDone};
 ghost use Rattle.esr_run.specs.Script.{is_askable, is_carried, first_bad};
 
 use crate::command::command_of;
@@ -69,6 +70,7 @@ fn wait<Q: Desk<Shard = S::Shard>, S: Sources, G: Gate>(
     requires numbered { HasNoTickets Q.start }
     ensures made { LineMade Q.start [] (Q.seen desk.old) (Q.seen desk.new) result }
     ensures rests { Q.start.alone ≡ true → NoneOut Q.start (Q.seen desk.old) → LineRests Q.start (Q.seen desk.new) result }
+    ensures ended { Q.start.alone ≡ true → WaitEnds (Q.seen desk.new) result }
 {
     work(alloc, desk, sources, gate, part_size)
 }
@@ -89,6 +91,7 @@ fn carry_line<Q: Desk<Shard = S::Shard>, S: Sources, G: Gate>(
     requires numbered { HasNoTickets Q.start }
     ensures made { LineMade Q.start (steps_of_item moment item.now) (Q.seen desk.old) (Q.seen desk.new) result }
     ensures rests { Q.start.alone ≡ true → NoneOut Q.start (Q.seen desk.old) → LineRests Q.start (Q.seen desk.new) result }
+    ensures ended { item.now ≡ Wait → Q.start.alone ≡ true → WaitEnds (Q.seen desk.new) result }
 {
     match item {
         Item::Snapshot { name, indices } => ask(alloc, desk, name, indices.as_slice(), moment),
@@ -115,7 +118,7 @@ fn carry_lines<Q: Desk<Shard = S::Shard>, S: Sources, G: Gate>(
     requires sized { (1 ≤ part_size) × (part_size ≤ 2 ^ 30) }
     requires numbered { HasNoTickets Q.start }
     ensures made { MadeFirst Q.start (steps_of moment lines.now) (Q.seen desk.old) (Q.seen desk.new) }
-    ensures rests { OnOk result (Q.start.alone ≡ true → NoneOut Q.start (Q.seen desk.old) → AreMade Q.start (steps_of moment lines.now) (Q.seen desk.old) (Q.seen desk.new) ⊎ HasStopped (Q.seen desk.new)) }
+    ensures rests { OnOk result (Q.start.alone ≡ true → NoneOut Q.start (Q.seen desk.old) → AreMade Q.start moment lines.now (Q.seen desk.old) (Q.seen desk.new) ⊎ HasStopped (Q.seen desk.new)) }
 {
     let mut left = lines;
     while let [line, rest @ ..] = left {
@@ -169,7 +172,7 @@ pub(crate) fn carry<Q: Desk<Shard = S::Shard>, S: Sources, G: Gate>(
     requires sized { (1 ≤ part_size) × (part_size ≤ 2 ^ 30) }
     requires numbered { HasNoTickets Q.start }
     ensures made { MadeFirst Q.start (steps_of moment lines.now) (Q.seen desk.old) (Q.seen desk.new) }
-    ensures done { OnOk result (Q.start.alone ≡ true → NoneOut Q.start (Q.seen desk.old) → AreDone Q.start (steps_of moment lines.now) (Q.seen desk.old) (Q.seen desk.new) ⊎ HasStopped (Q.seen desk.new)) }
+    ensures done { OnOk result (Q.start.alone ≡ true → NoneOut Q.start (Q.seen desk.old) → AreDone Q.start moment lines.now (Q.seen desk.old) (Q.seen desk.new) ⊎ HasStopped (Q.seen desk.new)) }
 {
     match carry_lines(alloc, desk, lines, sources, gate, part_size, moment) {
         Ok(()) => work_out(alloc, desk, sources, gate, part_size),

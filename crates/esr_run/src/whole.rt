@@ -37,6 +37,7 @@ use esr_solo::Solo;
 use esr_source::{Gate, Lines, Out, Sources, Targets};
 use std::alloc::{AllocError, Global};
 use std::marker::Brand;
+use std::sync::Wait;
 
 /// A run that is not printed yet.
 #[derive(Drop)]
@@ -85,7 +86,7 @@ fn carry_on<D: Depot, S: Sources, T: Targets, G: Gate, K: Told>(
     ensures shown { AreShown (record { stage = D.Stage.faults; fetch = D.Fetch.faults; shard = S.Shard.faults; target = T.Target.faults; made_for = λ h. (S.Shard.origin h).address }) K.start result.0 result.1 }
     ensures once { AreOnce K.start result.0 }
     ensures made { MadeFirst K.start (steps_of moment asked.now.script) [] result.0 }
-    ensures done { OnOk result.2 (AreDone K.start (steps_of moment asked.now.script) [] result.0 ⊎ HasStopped result.0) }
+    ensures done { OnOk result.2 (AreDone K.start moment asked.now.script [] result.0 ⊎ HasStopped result.0) }
 {
     let mut desk = Solo::<D, K, S::Shard, T::Target>::new(alloc, repo);
     let lines = asked.script.as_slice();
@@ -129,7 +130,7 @@ fn run_told<D: Depot, S: Sources, T: Targets, G: Gate, K: Told>(
     ensures once { AreOnce K.start (log_of (D.look result.0.depot) K.clock result.0.history) }
     ensures calm { IsCalm K.start.quiet (D.look result.0.depot).sure result.0.history }
     ensures made { MadeFirst K.start (steps_of moment asked.now.script) [] (log_of (D.look result.0.depot) K.clock result.0.history) }
-    ensures done { (result.0.verdict.status ≡ 8) ⊎ (AreDone K.start (steps_of moment asked.now.script) [] (log_of (D.look result.0.depot) K.clock result.0.history) ⊎ HasStopped (log_of (D.look result.0.depot) K.clock result.0.history)) }
+    ensures done { (result.0.verdict.status ≡ 8) ⊎ (AreDone K.start moment asked.now.script [] (log_of (D.look result.0.depot) K.clock result.0.history) ⊎ HasStopped (log_of (D.look result.0.depot) K.clock result.0.history)) }
     ensures told { IsTold result.0.verdict.status result.0.verdict.text (Some (Carried asked.now.script result.0.history)) }
 {
     let repo = Repo::<D, K>::from_opening(alloc, opening);
@@ -216,8 +217,9 @@ fn carry_out<D: Depot, S: Sources, T: Targets, G: Gate, I: Lines>(
 /// Carries out the script for which the words ask, or the one command, as a script of that line, on a container into which
 /// nothing was written, or one that an earlier run left, and prints what each line was answered. The script is read to its
 /// end where the words ask for one, and else not at all. `moment` is the time of the snapshots, in milliseconds. `targets`
-/// is for restores, which come later.
-pub fn run<D: Depot, S: Sources, T: Targets, G: Gate, I: Lines, O: Out>(
+/// is for restores, and `rt` for workers that wait for one another, which come later.
+pub fn run<R: Wait, D: Depot, S: Sources, T: Targets, G: Gate, I: Lines, O: Out>(
+    _rt: &R,
     alloc: Global,
     words: &Words,
     script: &mut I,

@@ -6,6 +6,7 @@ use esr_memdepot::{Call, Failing, Leaves, MemDepot};
 use esr_seq::Seq;
 use esr_source::{Address, Call as SourceCall, FailingAt, MemOut};
 use std::alloc::{AllocError, Global};
+use std::sync::Wait;
 use std::test::Fail;
 
 /// More calls of one kind than a run of the script makes.
@@ -15,10 +16,15 @@ const CALLS: u64 = 12;
 const MOMENTS: u64 = 1000;
 
 /// A run over an empty container whose call of that kind and number fails, and what it printed.
-fn run_with(alloc: Global, script: &str, failing: Failing) -> Result<(Left, MemOut), AllocError> {
+fn run_with(
+    rt: &impl Wait,
+    alloc: Global,
+    script: &str,
+    failing: Failing,
+) -> Result<(Left, MemOut), AllocError> {
     let mut plan = Seq::new(alloc);
     plan.push(failing)?;
-    run_on(alloc, MemDepot::new(alloc, plan), script)
+    run_on(rt, alloc, MemDepot::new(alloc, plan), script)
 }
 
 /// Whether the entry is a settle whose record may stand.
@@ -59,14 +65,14 @@ fn a_settle_that_fails(rt: HostRuntime) -> Result<(), Fail> {
             nth: 4,
             leaves,
         };
-        let (left, out) = run_with(alloc, "snapshot s1 logs/1/src\n", failing)?;
+        let (left, out) = run_with(&rt, alloc, "snapshot s1 logs/1/src\n", failing)?;
         assert_eq!(rt;
             out.as_slice(),
             "1 snapshot s1 deposed\ndeposed\n".as_bytes()
         );
         assert_eq!(rt; left.status, 3);
         assert_eq!(rt;
-            run_on(alloc, left.depot, "list\n")?.1.as_slice(),
+            run_on(&rt, alloc, left.depot, "list\n")?.1.as_slice(),
             printed.as_bytes()
         );
     }
@@ -82,7 +88,7 @@ fn a_commit_that_fails(rt: HostRuntime) -> Result<(), Fail> {
         leaves: Leaves::Old,
     };
     let script = "snapshot s1 logs/1/src\nsnapshot s2 other/1/b\nwait\nsnapshot s1 logs/1/src\n";
-    let (left, out) = run_with(alloc, script, failing)?;
+    let (left, out) = run_with(&rt, alloc, script, failing)?;
     let printed =
         "1 snapshot s1 failed depot\n2 snapshot s2 ok AAAAAAAAAAEAAAAAAAAAAg\n3 wait\n4 snapshot s1 ok AAAAAAAAAAEAAAAAAAAACA\n";
     assert_eq!(rt; out.as_slice(), printed.as_bytes());
@@ -101,7 +107,7 @@ fn has_root(alloc: Global, depot: &mut MemDepot) -> Result<bool, Fail> {
 
 /// Whether a run in which a call of the container failed is as it should be: its status, the failures that its history tells,
 /// and what is listed after it.
-fn is_right(alloc: Global, left: Left) -> Result<bool, Fail> {
+fn is_right(rt: &impl Wait, alloc: Global, left: Left) -> Result<bool, Fail> {
     let entries = left.history.as_slice();
     let told = entries.iter().filter(|e| is_fault(e)).count();
     let may_settle = entries.iter().any(may_settle);
@@ -113,7 +119,7 @@ fn is_right(alloc: Global, left: Left) -> Result<bool, Fail> {
     } else {
         "1 list 0\n"
     };
-    let is_listed = run_on(alloc, depot, "list\n")?.1.as_slice() == printed.as_bytes();
+    let is_listed = run_on(rt, alloc, depot, "list\n")?.1.as_slice() == printed.as_bytes();
     Ok(is_counted && is_listed && matches!(left.status, 0 | 1 | 3))
 }
 
@@ -135,8 +141,8 @@ fn each_call_of_the_container_fails(rt: HostRuntime) -> Result<(), Fail> {
         for nth in 1..CALLS {
             for leaves in [Leaves::Old, Leaves::New] {
                 let failing = Failing { call, nth, leaves };
-                let (left, _) = run_with(alloc, SCRIPT, failing)?;
-                assert!(rt; is_right(alloc, left)?, "{call:?} {nth}");
+                let (left, _) = run_with(&rt, alloc, SCRIPT, failing)?;
+                assert!(rt; is_right(&rt, alloc, left)?, "{call:?} {nth}");
             }
         }
     }
@@ -161,7 +167,16 @@ fn each_call_of_the_source_fails(rt: HostRuntime) -> Result<(), Fail> {
         let mut out = MemOut::new(alloc, 1000, Seq::new(alloc))?;
         let depot = MemDepot::new(alloc, Seq::new(alloc));
         let reads = Seq::new(alloc);
-        let left = run_over(alloc, depot, &sources, &["run"], SCRIPT, reads, &mut out)?;
+        let left = run_over(
+            &rt,
+            alloc,
+            depot,
+            &sources,
+            &["run"],
+            SCRIPT,
+            reads,
+            &mut out,
+        )?;
         let printed = "1 snapshot s1 failed source\n2 wait\n3 list 0\n";
         assert_eq!(rt; out.as_slice(), printed.as_bytes(), "{call:?} {nth}");
         assert_eq!(rt; left.status, 1);

@@ -5,6 +5,7 @@ use esr_memdepot::MemDepot;
 use esr_seq::Seq;
 use esr_source::{Call, Failing, MemOut, Plan};
 use std::alloc::{AllocError, Global};
+use std::sync::Wait;
 use std::test::Fail;
 
 const REPORT: &str =
@@ -28,6 +29,7 @@ pub(crate) fn first_fails(alloc: Global, call: Call) -> Result<Plan, AllocError>
 
 /// A run over an empty container.
 fn run_in_memory(
+    rt: &impl Wait,
     alloc: Global,
     words: &[&str],
     script: &str,
@@ -36,7 +38,7 @@ fn run_in_memory(
 ) -> Result<Left, AllocError> {
     let depot = MemDepot::new(alloc, Seq::new(alloc));
     let sources = sources_of(alloc, Seq::new(alloc))?;
-    run_over(alloc, depot, &sources, words, script, reads, out)
+    run_over(rt, alloc, depot, &sources, words, script, reads, out)
 }
 
 /// Whether each line of the table is the name and the text of a blob.
@@ -60,7 +62,7 @@ pub(crate) fn holds_all(
 fn a_snapshot_is_made_and_listed(rt: HostRuntime) -> Result<(), Fail> {
     let alloc = rt.alloc();
     let mut out = MemOut::new(alloc, 1000, Seq::new(alloc))?;
-    let mut ended = run_in_memory(alloc, &["run"], SCRIPT, Seq::new(alloc), &mut out)?;
+    let mut ended = run_in_memory(&rt, alloc, &["run"], SCRIPT, Seq::new(alloc), &mut out)?;
     assert_eq!(rt; out.as_slice(), REPORT.as_bytes());
     assert_eq!(rt; ended.status, 0);
     let depot = &mut ended.depot;
@@ -84,7 +86,7 @@ fn bad_words_and_bad_lines_touch_nothing(rt: HostRuntime) -> Result<(), Fail> {
     ];
     for (word, script, printed) in cases {
         let mut out = MemOut::new(alloc, 1000, Seq::new(alloc))?;
-        let mut ended = run_in_memory(alloc, &[word], script, Seq::new(alloc), &mut out)?;
+        let mut ended = run_in_memory(&rt, alloc, &[word], script, Seq::new(alloc), &mut out)?;
         assert_eq!(rt; out.as_slice(), printed.as_bytes());
         assert_eq!(rt; ended.status, 2);
         assert!(rt; ended.depot.read_record(alloc)?.is_none());
@@ -94,6 +96,7 @@ fn bad_words_and_bad_lines_touch_nothing(rt: HostRuntime) -> Result<(), Fail> {
 
 /// Whether a run of these words over an empty container ends with that status and prints that.
 fn prints(
+    rt: &impl Wait,
     alloc: Global,
     words: &[&str],
     reads: Plan,
@@ -101,7 +104,7 @@ fn prints(
     printed: &str,
 ) -> Result<bool, AllocError> {
     let mut out = MemOut::new(alloc, 1000, Seq::new(alloc))?;
-    let ended = run_in_memory(alloc, words, SCRIPT, reads, &mut out)?;
+    let ended = run_in_memory(rt, alloc, words, SCRIPT, reads, &mut out)?;
     Ok(ended.status == status && out.as_slice() == printed.as_bytes())
 }
 
@@ -111,10 +114,19 @@ fn a_command_alone_reads_no_script(rt: HostRuntime) -> Result<(), Fail> {
     let snapshot = ["snapshot", "s1", "logs/1/src"];
     let made = "1 snapshot s1 ok AAAAAAAAAAEAAAAAAAAAAA\n";
     let unreadable = first_fails(alloc, Call::Read)?;
-    assert!(rt; prints(alloc, &["list"], Seq::new(alloc), 0, "1 list 0\n")?);
-    assert!(rt; prints(alloc, &snapshot, Seq::new(alloc), 0, made)?);
-    assert!(rt; prints(alloc, &snapshot, unreadable, 0, made)?);
-    assert!(rt; prints(alloc, &["generate", "7"], Seq::new(alloc), 2, "bad words\n")?);
+    assert!(rt; prints(&rt, alloc, &["list"], Seq::new(alloc), 0, "1 list 0\n")?);
+    assert!(rt; prints(&rt, alloc, &snapshot, Seq::new(alloc), 0, made)?);
+    assert!(rt; prints(&rt, alloc, &snapshot, unreadable, 0, made)?);
+    assert!(rt;
+        prints(
+            &rt,
+            alloc,
+            &["generate", "7"],
+            Seq::new(alloc),
+            2,
+            "bad words\n"
+        )?
+    );
     Ok(())
 }
 
@@ -123,7 +135,7 @@ fn a_reader_that_fails(rt: HostRuntime) -> Result<(), Fail> {
     let alloc = rt.alloc();
     let mut out = MemOut::new(alloc, 1000, Seq::new(alloc))?;
     let reads = first_fails(alloc, Call::Read)?;
-    let mut ended = run_in_memory(alloc, &["run"], SCRIPT, reads, &mut out)?;
+    let mut ended = run_in_memory(&rt, alloc, &["run"], SCRIPT, reads, &mut out)?;
     assert_eq!(rt; ended.status, 6);
     assert_eq!(rt; out.as_slice(), "script unreadable\n".as_bytes());
     assert!(rt; ended.depot.read_record(alloc)?.is_none());
@@ -134,7 +146,7 @@ fn a_reader_that_fails(rt: HostRuntime) -> Result<(), Fail> {
 fn an_output_that_fails(rt: HostRuntime) -> Result<(), Fail> {
     let alloc = rt.alloc();
     let mut out = MemOut::new(alloc, 1000, first_fails(alloc, Call::Write)?)?;
-    let mut ended = run_in_memory(alloc, &["run"], SCRIPT, Seq::new(alloc), &mut out)?;
+    let mut ended = run_in_memory(&rt, alloc, &["run"], SCRIPT, Seq::new(alloc), &mut out)?;
     assert_eq!(rt; ended.status, 5);
     assert!(rt; out.as_slice().is_empty());
     assert!(rt; has_record(alloc, &mut ended.depot, RECORD)?);

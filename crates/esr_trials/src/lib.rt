@@ -6,6 +6,8 @@ mod failing;
 #[cfg(test)]
 mod first;
 #[cfg(test)]
+mod many;
+#[cfg(test)]
 mod names;
 #[cfg(test)]
 mod parts;

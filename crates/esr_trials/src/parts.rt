@@ -6,6 +6,7 @@ use esr_memdepot::MemDepot;
 use esr_seq::Seq;
 use esr_source::{Address, MemFile, MemOut, MemSource, MemSources};
 use std::alloc::{AllocError, Global};
+use std::sync::Wait;
 use std::test::Fail;
 
 /// The one blob of the file, where it is not in parts.
@@ -40,7 +41,7 @@ fn shard_of(alloc: Global, table: &str) -> Result<MemSource, AllocError> {
 }
 
 /// The container after a snapshot of a shard with these files, in parts of four bytes at most.
-fn stored(alloc: Global, files: &str) -> Result<MemDepot, Fail> {
+fn stored(rt: &impl Wait, alloc: Global, files: &str) -> Result<MemDepot, Fail> {
     let mut shards = Seq::new(alloc);
     shards.push(shard_of(alloc, files)?)?;
     let sources = MemSources::new(shards, Seq::new(alloc));
@@ -48,7 +49,7 @@ fn stored(alloc: Global, files: &str) -> Result<MemDepot, Fail> {
     let depot = MemDepot::new(alloc, Seq::new(alloc));
     let (words, script) = (["--chunk-size", "4", "run"], "snapshot s1 logs/1/src\n");
     let reads = Seq::new(alloc);
-    let left = run_over(alloc, depot, &sources, &words, script, reads, &mut out)?;
+    let left = run_over(rt, alloc, depot, &sources, &words, script, reads, &mut out)?;
     if out.as_slice() != "1 snapshot s1 ok AAAAAAAAAAEAAAAAAAAAAA\n".as_bytes() {
         return Err(Fail::new("the snapshot wasn't made"));
     }
@@ -63,7 +64,7 @@ fn is_in_parts(alloc: Global, depot: &mut MemDepot) -> Result<bool, CallError> {
 #[test]
 fn a_file_of_the_size_of_a_part_is_one_blob(rt: HostRuntime) -> Result<(), Fail> {
     let alloc = rt.alloc();
-    let mut depot = stored(alloc, "_0.cfs abcd\n")?;
+    let mut depot = stored(&rt, alloc, "_0.cfs abcd\n")?;
     assert!(rt; holds(alloc, &mut depot, WHOLE, "abcd")?);
     assert_eq!(rt; depot.list(alloc)?.len(), 8);
     Ok(())
@@ -72,7 +73,7 @@ fn a_file_of_the_size_of_a_part_is_one_blob(rt: HostRuntime) -> Result<(), Fail>
 #[test]
 fn a_longer_file_is_in_parts(rt: HostRuntime) -> Result<(), Fail> {
     let alloc = rt.alloc();
-    let mut depot = stored(alloc, "_0.cfs abcde\n")?;
+    let mut depot = stored(&rt, alloc, "_0.cfs abcde\n")?;
     assert!(rt; holds_all(alloc, &mut depot, FIVE)?);
     assert!(rt; is_in_parts(alloc, &mut depot)?);
     assert_eq!(rt; depot.list(alloc)?.len(), 9);
@@ -82,7 +83,7 @@ fn a_longer_file_is_in_parts(rt: HostRuntime) -> Result<(), Fail> {
 #[test]
 fn a_file_of_two_whole_parts_has_no_third(rt: HostRuntime) -> Result<(), Fail> {
     let alloc = rt.alloc();
-    let mut depot = stored(alloc, "_0.cfs abcdefgh\n")?;
+    let mut depot = stored(&rt, alloc, "_0.cfs abcdefgh\n")?;
     assert!(rt; holds_all(alloc, &mut depot, EIGHT)?);
     assert!(rt; is_in_parts(alloc, &mut depot)?);
     assert_eq!(rt; depot.list(alloc)?.len(), 9);
@@ -92,7 +93,7 @@ fn a_file_of_two_whole_parts_has_no_third(rt: HostRuntime) -> Result<(), Fail> {
 #[test]
 fn a_shard_with_no_file_has_no_data_blob(rt: HostRuntime) -> Result<(), Fail> {
     let alloc = rt.alloc();
-    let mut depot = stored(alloc, "")?;
+    let mut depot = stored(&rt, alloc, "")?;
     assert!(rt; holds_all(alloc, &mut depot, NO_FILE)?);
     assert_eq!(rt; depot.list(alloc)?.len(), 7);
     Ok(())
@@ -101,7 +102,7 @@ fn a_shard_with_no_file_has_no_data_blob(rt: HostRuntime) -> Result<(), Fail> {
 #[test]
 fn an_empty_file_is_one_blob_of_no_bytes(rt: HostRuntime) -> Result<(), Fail> {
     let alloc = rt.alloc();
-    let mut depot = stored(alloc, "_0.cfs \n")?;
+    let mut depot = stored(&rt, alloc, "_0.cfs \n")?;
     assert!(rt; holds(alloc, &mut depot, WHOLE, "")?);
     assert!(rt; holds_all(alloc, &mut depot, EMPTY)?);
     assert_eq!(rt; depot.list(alloc)?.len(), 8);

@@ -5,6 +5,7 @@ use esr_memdepot::{Call, Failing, Leaves, MemDepot};
 use esr_seq::Seq;
 use esr_source::MemOut;
 use std::alloc::{AllocError, Global};
+use std::sync::Wait;
 use std::test::Fail;
 
 /// Lines that break the grammar, each after the first thing that is wrong with it.
@@ -102,6 +103,7 @@ fn watched(alloc: Global) -> Result<MemDepot, AllocError> {
 
 /// Whether a run ends with status 2 and that line, and calls no container.
 fn is_refused(
+    rt: &impl Wait,
     alloc: Global,
     words: &[&str],
     script: &str,
@@ -111,30 +113,30 @@ fn is_refused(
     let sources = sources_of(alloc, Seq::new(alloc))?;
     let mut out = MemOut::new(alloc, 100, Seq::new(alloc))?;
     let reads = Seq::new(alloc);
-    let left = run_over(alloc, depot, &sources, words, script, reads, &mut out)?;
+    let left = run_over(rt, alloc, depot, &sources, words, script, reads, &mut out)?;
     let is_untouched = left.depot.fault_count() == 0;
     Ok(left.status == 2 && is_untouched && out.as_slice() == printed.as_bytes())
 }
 
 /// Whether a script in which that line is the fourth is refused for it.
-fn is_bad_line(alloc: Global, line: &str) -> Result<bool, AllocError> {
+fn is_bad_line(rt: &impl Wait, alloc: Global, line: &str) -> Result<bool, AllocError> {
     let script = format!(in alloc; "list\n\n# the fourth\n{line}\nwait\n")?;
-    is_refused(alloc, &["run"], script.as_str(), "bad line 4\n")
+    is_refused(rt, alloc, &["run"], script.as_str(), "bad line 4\n")
 }
 
 /// Whether these words, which spaces part, are refused.
-fn are_bad_words(alloc: Global, line: &str) -> Result<bool, AllocError> {
+fn are_bad_words(rt: &impl Wait, alloc: Global, line: &str) -> Result<bool, AllocError> {
     let mut words = Vec::new(alloc);
     for word in line.split_whitespace() {
         words.push(word)?;
     }
-    is_refused(alloc, &words, SCRIPT, "bad words\n")
+    is_refused(rt, alloc, &words, SCRIPT, "bad words\n")
 }
 
 #[test]
 fn a_run_that_calls_a_watched_container_shows_it(rt: HostRuntime) -> Result<(), Fail> {
     let alloc = rt.alloc();
-    let (left, out) = run_on(alloc, watched(alloc)?, "")?;
+    let (left, out) = run_on(&rt, alloc, watched(alloc)?, "")?;
     assert_eq!(rt; left.depot.fault_count(), 1);
     assert_eq!(rt; out.as_slice(), "depot fault at opening\n".as_bytes());
     Ok(())
@@ -144,7 +146,7 @@ fn a_run_that_calls_a_watched_container_shows_it(rt: HostRuntime) -> Result<(), 
 fn lines_that_break_the_grammar(rt: HostRuntime) -> Result<(), Fail> {
     for line in LINES.lines() {
         let (_, bad) = line.split_once(' ').unwrap_or(("", line));
-        assert!(rt; is_bad_line(rt.alloc(), bad)?, "{line}");
+        assert!(rt; is_bad_line(&rt, rt.alloc(), bad)?, "{line}");
     }
     Ok(())
 }
@@ -152,8 +154,8 @@ fn lines_that_break_the_grammar(rt: HostRuntime) -> Result<(), Fail> {
 #[test]
 fn lines_whose_commands_are_not_there_yet(rt: HostRuntime) -> Result<(), Fail> {
     for line in LATER.lines() {
-        assert!(rt; is_bad_line(rt.alloc(), line)?, "{line}");
-        assert!(rt; are_bad_words(rt.alloc(), line)?, "{line}");
+        assert!(rt; is_bad_line(&rt, rt.alloc(), line)?, "{line}");
+        assert!(rt; are_bad_words(&rt, rt.alloc(), line)?, "{line}");
     }
     Ok(())
 }
@@ -161,7 +163,7 @@ fn lines_whose_commands_are_not_there_yet(rt: HostRuntime) -> Result<(), Fail> {
 #[test]
 fn words_that_ask_for_nothing(rt: HostRuntime) -> Result<(), Fail> {
     for line in WORDS.lines() {
-        assert!(rt; are_bad_words(rt.alloc(), line)?, "{line}");
+        assert!(rt; are_bad_words(&rt, rt.alloc(), line)?, "{line}");
     }
     Ok(())
 }
@@ -176,7 +178,7 @@ fn the_first_bad_line_decides(rt: HostRuntime) -> Result<(), Fail> {
     ];
     for (script, printed) in cases {
         assert!(rt;
-            is_refused(rt.alloc(), &["run"], script, printed)?,
+            is_refused(&rt, rt.alloc(), &["run"], script, printed)?,
             "{script}"
         );
     }
@@ -188,7 +190,7 @@ fn a_script_that_asks_for_nothing_begins_a_term(rt: HostRuntime) -> Result<(), F
     let alloc = rt.alloc();
     for script in ["", "\n\n", "# wait", "   \r\n  # wait\n"] {
         let depot = MemDepot::new(alloc, Seq::new(alloc));
-        let (mut left, out) = run_on(alloc, depot, script)?;
+        let (mut left, out) = run_on(&rt, alloc, depot, script)?;
         assert_eq!(rt; (left.status, out.as_slice().len()), (0, 0));
         let record = r#"{"ops":[],"pending":-1,"safe":-1,"term":1}"#;
         assert!(rt; has_record(alloc, &mut left.depot, record)?);
@@ -212,6 +214,6 @@ fn a_script_of_more_than_4_mebibytes_is_refused(rt: HostRuntime) -> Result<(), F
     let mut script = blanks(alloc)?;
     script.push_str("\t")?;
     assert_eq!(rt; script.len(), 4_194_305);
-    assert!(rt; is_refused(alloc, &["run"], script.as_str(), "bad script\n")?);
+    assert!(rt; is_refused(&rt, alloc, &["run"], script.as_str(), "bad script\n")?);
     Ok(())
 }

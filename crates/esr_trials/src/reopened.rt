@@ -5,6 +5,7 @@ use esr_desk::{FailedObject, Fault};
 use esr_memdepot::{Call, Failing, Leaves, MemDepot, Plan};
 use esr_seq::Seq;
 use std::alloc::Global;
+use std::sync::Wait;
 use std::test::Fail;
 
 /// More moments than two runs have.
@@ -12,13 +13,14 @@ const MOMENTS: u64 = 100;
 
 /// The container that a run leaves if that is what it printed, with that status.
 fn left_by(
+    rt: &impl Wait,
     alloc: Global,
     depot: MemDepot,
     script: &str,
     status: u8,
     printed: &str,
 ) -> Result<MemDepot, Fail> {
-    let (left, out) = run_on(alloc, depot, script)?;
+    let (left, out) = run_on(rt, alloc, depot, script)?;
     if left.status != status || out.as_slice() != printed.as_bytes() {
         return Err(Fail::new("the run ended otherwise"));
     }
@@ -26,8 +28,8 @@ fn left_by(
 }
 
 /// The container that the script leaves in one whose calls of the plan fail.
-fn first_run(alloc: Global, plan: Plan) -> Result<MemDepot, Fail> {
-    let (left, _) = run_on(alloc, MemDepot::new(alloc, plan), SCRIPT)?;
+fn first_run(rt: &impl Wait, alloc: Global, plan: Plan) -> Result<MemDepot, Fail> {
+    let (left, _) = run_on(rt, alloc, MemDepot::new(alloc, plan), SCRIPT)?;
     Ok(left.depot)
 }
 
@@ -58,12 +60,12 @@ fn put(alloc: Global, depot: &mut MemDepot, name: &str, text: &str) -> Result<()
 #[test]
 fn a_run_after_a_crash_before_the_settle(rt: HostRuntime) -> Result<(), Fail> {
     let alloc = rt.alloc();
-    let first = first_run(alloc, Seq::new(alloc))?;
+    let first = first_run(&rt, alloc, Seq::new(alloc))?;
     let mut crashed = cut_before(alloc, &first, RECORD)?;
     assert!(rt; holds(alloc, &mut crashed, "index-0", ROOT)?);
     let printed =
         "1 snapshot s1 ok AAAAAAAAAAIAAAAAAAAAAA\n2 wait\n3 list 1\n- s1 AAAAAAAAAAIAAAAAAAAAAA success\n";
-    let mut depot = left_by(alloc, crashed, SCRIPT, 0, printed)?;
+    let mut depot = left_by(&rt, alloc, crashed, SCRIPT, 0, printed)?;
     assert!(rt;
         has_record(
             alloc,
@@ -81,14 +83,21 @@ fn a_run_after_a_crash_before_the_settle(rt: HostRuntime) -> Result<(), Fail> {
 #[test]
 fn a_third_run_after_a_second_that_crashed(rt: HostRuntime) -> Result<(), Fail> {
     let alloc = rt.alloc();
-    let first = first_run(alloc, Seq::new(alloc))?;
-    let (second, _) = run_on(alloc, first, "snapshot s2 logs/1/src\n")?;
+    let first = first_run(&rt, alloc, Seq::new(alloc))?;
+    let (second, _) = run_on(&rt, alloc, first, "snapshot s2 logs/1/src\n")?;
     let settled = r#"{"ops":[],"pending":1,"safe":1,"term":2}"#;
     let mut crashed = cut_before(alloc, &second.depot, settled)?;
     assert!(rt; crashed.fetch(alloc, "index-1")?.is_some());
     let printed =
         "1 list 1\n- s1 AAAAAAAAAAEAAAAAAAAAAA success\n2 snapshot s3 ok AAAAAAAAAAMAAAAAAAAAAA\n";
-    let mut depot = left_by(alloc, crashed, "list\nsnapshot s3 logs/1/src\n", 0, printed)?;
+    let mut depot = left_by(
+        &rt,
+        alloc,
+        crashed,
+        "list\nsnapshot s3 logs/1/src\n",
+        0,
+        printed,
+    )?;
     assert!(rt;
         has_record(
             alloc,
@@ -103,7 +112,7 @@ fn a_third_run_after_a_second_that_crashed(rt: HostRuntime) -> Result<(), Fail> 
 #[test]
 fn each_crash_lists_the_snapshot_or_not(rt: HostRuntime) -> Result<(), Fail> {
     let alloc = rt.alloc();
-    let first = first_run(alloc, Seq::new(alloc))?;
+    let first = first_run(&rt, alloc, Seq::new(alloc))?;
     let settle = moment_of(alloc, &first, RECORD)?;
     // The settle is the last call.
     for moment in 0..settle.saturating_add(3) {
@@ -115,7 +124,7 @@ fn each_crash_lists_the_snapshot_or_not(rt: HostRuntime) -> Result<(), Fail> {
             } else {
                 "1 list 0\n"
             };
-            left_by(alloc, crashed, "list\n", 0, printed)?;
+            left_by(&rt, alloc, crashed, "list\n", 0, printed)?;
         }
     }
     Ok(())
@@ -139,7 +148,7 @@ fn what_cannot_be_opened(rt: HostRuntime) -> Result<(), Fail> {
         if !record.is_empty() {
             left.swap_record(alloc, record.as_bytes())?;
         }
-        let mut depot = left_by(alloc, left, "list\n", status, printed)?;
+        let mut depot = left_by(&rt, alloc, left, "list\n", status, printed)?;
         assert_eq!(rt; has_record(alloc, &mut depot, record)?, !record.is_empty());
     }
     Ok(())
@@ -154,8 +163,8 @@ fn a_root_that_cannot_be_read(rt: HostRuntime) -> Result<(), Fail> {
         nth: 1,
         leaves: Leaves::Old,
     })?;
-    let first = first_run(alloc, plan)?;
-    let (mut left, out) = run_on(alloc, first, "list\n")?;
+    let first = first_run(&rt, alloc, plan)?;
+    let (mut left, out) = run_on(&rt, alloc, first, "list\n")?;
     assert_eq!(rt; out.as_slice(), "depot fault at opening\n".as_bytes());
     assert_eq!(rt; left.status, 3);
     assert_eq!(rt; left.faults.len(), 1);

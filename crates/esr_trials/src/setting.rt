@@ -9,6 +9,7 @@ use esr_source::{
     MemTargets, NoGate, Plan,
 };
 use std::alloc::{AllocError, Global};
+use std::sync::Wait;
 
 /// What a run over a container in memory leaves.
 pub(crate) type Left = Ended<MemDepot, MemShard, MemTarget>;
@@ -48,6 +49,7 @@ pub(crate) fn sources_of(alloc: Global, plan: Seq<FailingAt>) -> Result<MemSourc
 
 /// A run over that container and these sources, whose reads of the script fail by the plan.
 pub(crate) fn run_over(
+    rt: &impl Wait,
     alloc: Global,
     depot: MemDepot,
     sources: &MemSources,
@@ -60,12 +62,13 @@ pub(crate) fn run_over(
     let mut lines = MemLines::new(Bytes::from_slice(alloc, script.as_bytes())?, reads);
     let targets = MemTargets::new(Seq::new(alloc));
     Ok(run(
-        alloc, &words, &mut lines, depot, sources, &targets, &NoGate, 0, out,
+        rt, alloc, &words, &mut lines, depot, sources, &targets, &NoGate, 0, out,
     ))
 }
 
 /// A run of a script over that container, and what it printed.
 pub(crate) fn run_on(
+    rt: &impl Wait,
     alloc: Global,
     depot: MemDepot,
     script: &str,
@@ -73,7 +76,16 @@ pub(crate) fn run_on(
     let mut out = MemOut::new(alloc, 1000, Seq::new(alloc))?;
     let sources = sources_of(alloc, Seq::new(alloc))?;
     let reads = Seq::new(alloc);
-    let left = run_over(alloc, depot, &sources, &["run"], script, reads, &mut out)?;
+    let left = run_over(
+        rt,
+        alloc,
+        depot,
+        &sources,
+        &["run"],
+        script,
+        reads,
+        &mut out,
+    )?;
     Ok((left, out))
 }
 

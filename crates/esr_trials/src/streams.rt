@@ -5,6 +5,7 @@ use esr_memdepot::MemDepot;
 use esr_seq::Seq;
 use esr_source::{Call, Failing, MemOut, Plan};
 use std::alloc::{AllocError, Global};
+use std::sync::Wait;
 use std::test::Fail;
 
 const REPORT: &str =
@@ -23,6 +24,7 @@ fn nth_fails(alloc: Global, call: Call, nth: u64) -> Result<Plan, AllocError> {
 
 /// A run of a script over an empty container.
 fn run_with(
+    rt: &impl Wait,
     alloc: Global,
     script: &str,
     reads: Plan,
@@ -30,7 +32,7 @@ fn run_with(
 ) -> Result<Left, AllocError> {
     let depot = MemDepot::new(alloc, Seq::new(alloc));
     let sources = sources_of(alloc, Seq::new(alloc))?;
-    run_over(alloc, depot, &sources, &["run"], script, reads, out)
+    run_over(rt, alloc, depot, &sources, &["run"], script, reads, out)
 }
 
 /// The names and the lengths of the blobs.
@@ -55,9 +57,15 @@ fn is_finished(alloc: Global, depot: &mut MemDepot) -> Result<bool, CallError> {
 }
 
 /// Whether the script is read to its end though that read of it is to fail; where it isn't, the run is as it should be.
-fn is_read(alloc: Global, script: &str, nth: u64) -> Result<bool, Fail> {
+fn is_read(rt: &impl Wait, alloc: Global, script: &str, nth: u64) -> Result<bool, Fail> {
     let mut out = MemOut::new(alloc, 1000, Seq::new(alloc))?;
-    let mut left = run_with(alloc, script, nth_fails(alloc, Call::Read, nth)?, &mut out)?;
+    let mut left = run_with(
+        rt,
+        alloc,
+        script,
+        nth_fails(alloc, Call::Read, nth)?,
+        &mut out,
+    )?;
     if left.status == 0 {
         return Ok(out.as_slice() == REPORT.as_bytes());
     }
@@ -83,17 +91,23 @@ fn each_read_of_the_script_fails(rt: HostRuntime) -> Result<(), Fail> {
     let script = long_script(alloc)?;
     // Two whole pieces, the rest, and the end.
     for nth in 1..5 {
-        assert!(rt; !is_read(alloc, script.as_str(), nth)?, "{nth}");
+        assert!(rt; !is_read(&rt, alloc, script.as_str(), nth)?, "{nth}");
     }
-    assert!(rt; is_read(alloc, script.as_str(), 5)?);
+    assert!(rt; is_read(&rt, alloc, script.as_str(), 5)?);
     Ok(())
 }
 
 /// Whether a run whose output has room for so many bytes, and whose write of that number fails, ends with that status,
 /// has written the front of the report that has room, and leaves the container as it should be.
-fn is_cut(alloc: Global, room: usize, nth: u64, written: &str) -> Result<bool, Fail> {
+fn is_cut(
+    rt: &impl Wait,
+    alloc: Global,
+    room: usize,
+    nth: u64,
+    written: &str,
+) -> Result<bool, Fail> {
     let mut out = MemOut::new(alloc, room, nth_fails(alloc, Call::Write, nth)?)?;
-    let mut left = run_with(alloc, SCRIPT, Seq::new(alloc), &mut out)?;
+    let mut left = run_with(rt, alloc, SCRIPT, Seq::new(alloc), &mut out)?;
     let is_told = left.status == 5 && out.as_slice() == written.as_bytes();
     Ok(is_told && is_finished(alloc, &mut left.depot)?)
 }
@@ -102,7 +116,7 @@ fn is_cut(alloc: Global, room: usize, nth: u64, written: &str) -> Result<bool, F
 fn an_output_that_is_full_after_each_byte(rt: HostRuntime) -> Result<(), Fail> {
     for room in 0..REPORT.len() {
         let (front, _) = REPORT.split_at_checked(room).unwrap_or(("", ""));
-        assert!(rt; is_cut(rt.alloc(), room, 0, front)?, "{room}");
+        assert!(rt; is_cut(&rt, rt.alloc(), room, 0, front)?, "{room}");
     }
     Ok(())
 }
@@ -110,11 +124,11 @@ fn an_output_that_is_full_after_each_byte(rt: HostRuntime) -> Result<(), Fail> {
 #[test]
 fn each_write_of_the_output_fails(rt: HostRuntime) -> Result<(), Fail> {
     let alloc = rt.alloc();
-    assert!(rt; is_cut(alloc, 1000, 1, "")?);
-    assert!(rt; is_cut(alloc, 7, 2, "1 snaps")?);
+    assert!(rt; is_cut(&rt, alloc, 1000, 1, "")?);
+    assert!(rt; is_cut(&rt, alloc, 7, 2, "1 snaps")?);
     let mut out = MemOut::new(alloc, 1000, nth_fails(alloc, Call::Write, 2)?)?;
     assert_eq!(rt;
-        run_with(alloc, SCRIPT, Seq::new(alloc), &mut out)?.status,
+        run_with(&rt, alloc, SCRIPT, Seq::new(alloc), &mut out)?.status,
         0
     );
     assert_eq!(rt; out.as_slice(), REPORT.as_bytes());

@@ -14,6 +14,6 @@ pub returns-in-Ok-clause-done : goal.returns-in-Ok-clause-done
 returns-in-Ok-clause-done g c = go c.work_out.result c.work_out.ensures.done
   where
     go : (r : Result Unit AllocError) → OnOk r (g.Q.Desk.start.alone ≡ true → NoneOut g.Q.Desk.start (g.Q.Desk.seen c.carry_lines.new.desk) → IsIdle g.Q.Desk.start (g.Q.Desk.seen c.work_out.new.desk) ⊎ HasStopped (g.Q.Desk.seen c.work_out.new.desk))
-        → OnOk r (g.Q.Desk.start.alone ≡ true → NoneOut g.Q.Desk.start (g.Q.Desk.seen c.args.desk.now) → AreDone g.Q.Desk.start (steps_of c.args.moment c.args.lines.now) (g.Q.Desk.seen c.args.desk.now) (g.Q.Desk.seen c.work_out.new.desk) ⊎ HasStopped (g.Q.Desk.seen c.work_out.new.desk))
-    go (Ok x) done = done_then g.Q.Desk.start (steps_of c.args.moment c.args.lines.now) (g.Q.Desk.seen c.args.desk.now) (g.Q.Desk.seen c.carry_lines.new.desk) (g.Q.Desk.seen c.work_out.new.desk) c.in-Ok.ensures.rests c.work_out.ensures.grew done
+        → OnOk r (g.Q.Desk.start.alone ≡ true → NoneOut g.Q.Desk.start (g.Q.Desk.seen c.args.desk.now) → AreDone g.Q.Desk.start c.args.moment c.args.lines.now (g.Q.Desk.seen c.args.desk.now) (g.Q.Desk.seen c.work_out.new.desk) ⊎ HasStopped (g.Q.Desk.seen c.work_out.new.desk))
+    go (Ok x) done = done_then g.Q.Desk.start c.args.moment c.args.lines.now (g.Q.Desk.seen c.args.desk.now) (g.Q.Desk.seen c.carry_lines.new.desk) (g.Q.Desk.seen c.work_out.new.desk) c.in-Ok.ensures.rests c.work_out.ensures.grew done
     go (Err e) done = tt

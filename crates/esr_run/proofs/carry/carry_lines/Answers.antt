@@ -1,14 +1,10 @@
 use Rattle.std.proofs.Common.{inl, inr, refl}
-use Rattle.esr_complete.specs.Lines.{steps_of_item, steps_of}
-use Rattle.esr_run.proofs.Making.{front_none, front_made, front_all, front_step, good_next, none_left, made_stopped, rests_next, turns_stopped, as_refused, rests_refused, as_spent, rests_spent}
+use Rattle.esr_complete.specs.Lines.{steps_of_item}
+use Rattle.esr_run.proofs.Making.{front_none, front_made, front_all, front_step, good_next, none_left, made_stopped, turns_stopped, refused_line, ended_refused, as_refused, rests_refused, as_spent, rests_spent}
 use Rattle.esr_run.proofs.carry.carry_lines.Goals as goal
 
 pub loop-left-init : goal.loop-left-init
-loop-left-init g c = record {
-  front = front_none g.Q.Desk.start c.args.moment c.args.lines.now (g.Q.Desk.seen c.args.desk.now);
-  rests = λ alone none. inl none;
-  good = c.requires.carried;
-}
+loop-left-init g c = record { front = front_none g.Q.Desk.start c.args.moment c.args.lines.now (g.Q.Desk.seen c.args.desk.now); good = c.requires.carried }
 
 pub loop-left-preserved-in-Ok : goal.loop-left-preserved-in-Ok
 loop-left-preserved-in-Ok g c =
@@ -17,10 +13,9 @@ loop-left-preserved-in-Ok g c =
     let mid = g.Q.Desk.seen c.loop-left.desk in
     let new = g.Q.Desk.seen c.carry_line.new.desk in
     let inv = c.loop-left.invariant in
-    let wanted = steps_of_item c.args.moment c.line-item.result.item in
     record {
-      front = front_step s c.args.moment c.line-item.result c.loop-left.left.now c.args.lines.now old mid new c.in-len1-up.len_at_least c.line-item.is inv.front c.in-Ok.ensures.made;
-      rests = rests_next s wanted old mid new inv.rests c.in-Ok.ensures.made (λ alone none. inl (c.in-Ok.ensures.rests alone none));
+      front = front_step s c.args.moment c.line-item.result c.loop-left.left.now c.args.lines.now old mid new c.in-len1-up.len_at_least c.line-item.is inv.front c.in-Ok.ensures.made
+          (λ alone none. inl (c.in-Ok.ensures.rests alone none, λ wait. c.in-Ok.ensures.ended wait alone));
       good = good_next c.loop-left.left.now inv.good;
     }
 
@@ -31,11 +26,13 @@ loop-left-preserved g c =
     let mid = g.Q.Desk.seen c.loop-left.desk in
     let new = g.Q.Desk.seen c.carry_line.new.desk in
     let inv = c.loop-left.invariant in
-    let wanted = steps_of_item c.args.moment c.line-item.result.item in
-    let made = as_refused s wanted mid new c.in-Err-Refused.field-0 c.in-Err-Refused.field-0-0 c.in-Err-Refused.field-0-is c.in-Err-Refused.ensures.made in
+    let item = c.line-item.result.item in
+    let made = as_refused s (steps_of_item c.args.moment item) mid new c.in-Err-Refused.field-0 c.in-Err-Refused.field-0-0 c.in-Err-Refused.field-0-is c.in-Err-Refused.ensures.made in
     record {
-      front = front_step s c.args.moment c.line-item.result c.loop-left.left.now c.args.lines.now old mid new c.in-len1-up.len_at_least c.line-item.is inv.front made;
-      rests = rests_next s wanted old mid new inv.rests made (λ alone none. rests_refused s new c.in-Err-Refused.field-0 c.in-Err-Refused.field-0-0 c.in-Err-Refused.field-0-is (c.in-Err-Refused.ensures.rests alone none));
+      front = front_step s c.args.moment c.line-item.result c.loop-left.left.now c.args.lines.now old mid new c.in-len1-up.len_at_least c.line-item.is inv.front made
+          (λ alone none. refused_line s item new
+          (rests_refused s new c.in-Err-Refused.field-0 c.in-Err-Refused.field-0-0 c.in-Err-Refused.field-0-is (c.in-Err-Refused.ensures.rests alone none))
+          (λ wait. ended_refused new c.in-Err-Refused.field-0 c.in-Err-Refused.field-0-0 c.in-Err-Refused.field-0-is (c.in-Err-Refused.ensures.ended wait alone)));
       good = good_next c.loop-left.left.now inv.good;
     }
 
@@ -55,7 +52,7 @@ returns-in-Err-TurnsSpent-clause-rests g c alone none =
     let mid = g.Q.Desk.seen c.loop-left.desk in
     let new = g.Q.Desk.seen c.carry_line.new.desk in
     let wanted = steps_of_item c.args.moment c.line-item.result.item in
-    turns_stopped s wanted (steps_of c.args.moment c.args.lines.now) (g.Q.Desk.seen c.args.desk.now) mid new c.loop-left.invariant.rests
+    turns_stopped s c.args.moment wanted c.loop-left.left.now c.args.lines.now (g.Q.Desk.seen c.args.desk.now) mid new c.loop-left.invariant.front
     (as_spent s wanted mid new c.in-Err-TurnsSpent.field-0 c.in-Err-TurnsSpent.field-0-is c.in-Err-TurnsSpent.ensures.made)
     (λ yes out. rests_spent s new c.in-Err-TurnsSpent.field-0 c.in-Err-TurnsSpent.field-0-is (c.in-Err-TurnsSpent.ensures.rests yes out)) alone none
 
@@ -65,4 +62,4 @@ returns-clause-made g c = front_made g.Q.Desk.start c.args.moment c.loop-left.le
 pub returns-clause-rests : goal.returns-clause-rests
 returns-clause-rests g c alone none =
     front_all g.Q.Desk.start c.args.moment c.loop-left.left.now c.args.lines.now (g.Q.Desk.seen c.args.desk.now) (g.Q.Desk.seen c.loop-left.desk) (none_left c.loop-left.left.now c.in_default.len_below)
-    c.loop-left.invariant.front c.loop-left.invariant.rests alone none
+    c.loop-left.invariant.front alone none
