@@ -1,0 +1,123 @@
+//! Runs over a folder that are killed between any two calls of their container.
+use crate::killed::Killed;
+use esr_depot::{Counted, Depot};
+use esr_dirdepot::DirDepot;
+use esr_run::{Ended, run};
+use esr_script::Words;
+use esr_seq::{Bytes, Seq, Text};
+use esr_source::{
+    Address, MemFile, MemLines, MemOut, MemShard, MemSource, MemSources, MemTarget, MemTargets,
+    NoGate,
+};
+use std::alloc::{AllocError, Global};
+use std::fs;
+use std::sync::Wait;
+use std::test::Fail;
+
+/// The folder.
+const DIR: &str = "esr_folder_killed";
+
+/// Two snapshots of one shard, which are open at once.
+const SCRIPT: &str = "snapshot s1 logs/1/src\nsnapshot s2 logs/1/src\nwait\n";
+
+/// More calls than a run of the script makes.
+const CALLS: u64 = 1000;
+
+/// A shard with one file.
+fn sources_of(alloc: Global) -> Result<MemSources, AllocError> {
+    let mut files = Seq::new(alloc);
+    files.push(MemFile::new(alloc, "_0.cfs", "abc".as_bytes())?)?;
+    let address = Address::new(alloc, "src", "logs", 0)?;
+    let mut sources = Seq::new(alloc);
+    sources.push(MemSource { address, files })?;
+    Ok(MemSources::new(sources, Seq::new(alloc)))
+}
+
+fn words_of(alloc: Global, word: &str) -> Result<Words, AllocError> {
+    let mut words = Seq::new(alloc);
+    words.push(Text::from_str(alloc, word)?)?;
+    Ok(words)
+}
+
+/// A run of a script over that container.
+fn run_on<D: Depot>(
+    rt: &impl Wait,
+    alloc: Global,
+    depot: D,
+    script: &str,
+    out: &mut MemOut,
+) -> Result<Ended<D, MemShard, MemTarget>, AllocError> {
+    let words = words_of(alloc, "run")?;
+    let mut lines = MemLines::new(
+        Bytes::from_slice(alloc, script.as_bytes())?,
+        Seq::new(alloc),
+    );
+    let sources = sources_of(alloc)?;
+    let targets = MemTargets::new(Seq::new(alloc));
+    Ok(run(
+        rt, alloc, &words, &mut lines, depot, &sources, &targets, &NoGate, 0, out,
+    ))
+}
+
+/// The name and the uuid of a snapshot that a line of a report tells as made.
+fn made_of(line: &str) -> Option<(&str, &str)> {
+    let (_, told) = line.split_once(" snapshot ")?;
+    told.split_once(" ok ")
+}
+
+/// What a `list` is to print after a run with that report.
+fn listing_of(alloc: Global, report: &str) -> Result<String, AllocError> {
+    let mut text = String::new(alloc);
+    let mut count = 0u64;
+    for line in report.lines() {
+        if let Some((name, uuid)) = made_of(line) {
+            text.push_str(format!(in alloc; "- {name} {uuid} success\n")?.as_str())?;
+            count = count.saturating_add(1);
+        }
+    }
+    format!(in alloc; "1 list {count}\n{text}")
+}
+
+/// A run of the script in the folder that is killed after so many calls: what is to be listed after it, and how often a call
+/// wasn't made.
+fn killed(rt: &HostRuntime, waits: &impl Wait, calls: u64) -> Result<(String, u64), Fail> {
+    let alloc = rt.alloc();
+    let mut out = MemOut::new(alloc, 1000, Seq::new(alloc))?;
+    let depot = Killed {
+        depot: DirDepot::new(rt, alloc, DIR)?,
+        left: calls,
+        clock: 0,
+        faults: 0,
+    };
+    let left = run_on(waits, alloc, depot, SCRIPT, &mut out)?;
+    let report = str::from_utf8(out.as_slice()).unwrap_or("");
+    Ok((listing_of(alloc, report)?, left.depot.fault_count()))
+}
+
+/// Whether a new run in the folder lists that.
+fn lists(rt: &HostRuntime, waits: &impl Wait, listing: &str) -> Result<bool, AllocError> {
+    let alloc = rt.alloc();
+    let mut out = MemOut::new(alloc, 1000, Seq::new(alloc))?;
+    let depot = DirDepot::new(rt, alloc, DIR)?;
+    let left = run_on(waits, alloc, depot, "list\n", &mut out)?;
+    Ok(left.status == 0 && out.as_slice() == listing.as_bytes())
+}
+
+#[test]
+fn a_run_that_is_killed_keeps_what_it_told(rt: HostRuntime) -> Result<(), Fail> {
+    let alloc = rt.alloc();
+    let mut most = 0;
+    for calls in 0..CALLS {
+        let _ = fs::remove_dir_all(&rt, DIR);
+        let (listing, faults) = killed(&rt, &rt, calls)?;
+        assert!(rt; lists(&rt, &rt, listing.as_str())?, "{calls}: {listing}");
+        if faults == 0 {
+            assert_eq!(rt; listing.lines().count(), 3);
+            break;
+        }
+        most = calls;
+    }
+    // Each of the two snapshots takes more than ten calls.
+    assert!(rt; 20 < most && most < 999, "{most}");
+    Ok(())
+}
