@@ -1,6 +1,7 @@
 #!/usr/bin/env bash
 # Measures snapshots of a tree of SHARDS shards, MB megabytes in all, in a folder below ROOM: a first one, and a second without
-# any change; beside the kit's own sha2, sha256sum and cp -r over the same bytes, in one run.
+# any change; beside the kit's own sha2, sha256sum and cp -r over the same bytes, in one run. Where strace is there, the system
+# calls that sync are counted too, in one more first and second snapshot.
 # The program must be built (`./esrepo help` builds nothing; `./esrepo list` does).
 set -euo pipefail
 here=$(cd "$(dirname "$0")" && pwd)
@@ -53,3 +54,16 @@ row 'cp -r' 'cp -r src copy && sync copy'
 row 'first snapshot' "exec $program snapshot s1 logs/$shards/src > /dev/null"
 row 'second snapshot, no change' "exec $program snapshot s2 logs/$shards/src > /dev/null"
 row 'list' "exec $program list > /dev/null"
+row 'start-up: words that are bad' "exec $program list more > /dev/null"
+
+syncs() { # name of the snapshot: how often the program syncs, by system call
+    strace -f -qq -c -o trace -e trace=fsync,fdatasync,syncfs,sync,sync_file_range,msync "$program" --repo traced snapshot "$1" "logs/$shards/src" > /dev/null
+    awk '$NF ~ /sync/ { calls = calls " " $4 " " $NF } END { print (calls == "" ? " none" : calls) }' trace
+}
+
+if command -v strace > /dev/null; then
+    echo
+    echo "system calls that sync, first snapshot:$(syncs s1)"
+    echo "system calls that sync, second snapshot:$(syncs s2)"
+    echo "files of the repository then: $(find traced -type f | wc -l)"
+fi
