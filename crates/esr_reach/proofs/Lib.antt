@@ -1,0 +1,7 @@
+pub mod Loops
+pub mod Pushing
+pub mod Comparing
+pub mod Apart
+pub mod Shards
+pub mod Ordered
+pub mod Sets

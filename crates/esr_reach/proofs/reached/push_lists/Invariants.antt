@@ -1,0 +1,10 @@
+use Rattle.std.proofs.Common.{take, map, flat_map}
+use Rattle.std.specs.Ordering.{nat_cmp}
+use Rattle.std.specs.BTreeSet.{contains}
+use Rattle.esr_formats.specs.Shards.{snap_list_of}
+use Rattle.esr_reach.specs.Names.{Pushed}
+use Rattle.esr_reach.specs.Listing.{list_names}
+use Rattle.esr_reach.proofs.reached.push_lists.Given as goal
+
+abbrev pub invariant-loop-list : goal.invariant-loop-list
+invariant-loop-list l = Pushed l.fn.names l.names (flat_map (list_names (contains nat_cmp l.listed) l.shard.index.number l.shard.number) (map snap_list_of (take l.list-index l.lists)))

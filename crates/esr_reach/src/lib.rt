@@ -1,0 +1,12 @@
+//! The names that a root reaches, and those that a delete dooms.
+#![tactic(auto)]
+
+mod doomed;
+mod held;
+mod reached;
+#[cfg(test)]
+mod tests;
+
+pub use doomed::doomed_by_delete;
+pub use held::ShardIndices;
+pub use reached::{Names, reach};
