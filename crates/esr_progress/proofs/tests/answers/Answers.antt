@@ -1,0 +1,129 @@
+use Rattle.std.proofs.Common.{◌≡◌, ℕ, suc, ◌+◌, ◌<◌, [], false, None, Some, option_map, refl, sym, ap, subst, ◌∙◌, arith, nat_cmp}
+use Rattle.std.specs.FinMap as fin
+use Rattle.esr_model.specs.Values.{RootData}
+use Rattle.esr_model.specs.Kept.{first_id}
+use Rattle.esr_core.specs.World.{World, Op}
+use Rattle.esr_core.specs.Entry.{Asked, Snapshot}
+use Rattle.esr_core.specs.After.{asked_op, new_names}
+use Rattle.esr_core.specs.Tracked.{Named}
+use Rattle.esr_core.proofs.Naming.{named_asked}
+use Rattle.esr_formats.specs.Roots.{root_of}
+use Rattle.esr_progress.specs.declared.command.Accepted.{Accepted}
+use Rattle.esr_progress.specs.Asked.{asked_of, IsAskable}
+use Rattle.esr_progress.specs.Plan.{Plan, IsAskedIn, seat_of}
+use Rattle.esr_progress.specs.Accepting.{MayAccept, IsAccepted, name_asked}
+use Rattle.esr_progress.proofs.Lists.{none_some}
+use Rattle.esr_progress.proofs.tests.answers.Goals as goal
+
+nothing_open : (o : ℕ) (op : Op) → fin.get (fin.empty {K = ℕ} {X = Op} {R = nat_cmp}) o ≡ Some op → ⊥
+nothing_open o op got = none_some op (sym (fin.get-empty nat_cmp o) ∙ got)
+
+nothing_named : (next : ℕ) → Named (record { snapshots = []; indices = [] }) fin.empty next
+nothing_named next = record {
+  unlisted = λ o op s got there. absurd there;
+  apart = λ o p a b got. absurd (nothing_open o a got);
+  unused = λ o op x got there. absurd there;
+  indices = λ o p a b r q got. absurd (nothing_open o a got);
+  once = λ o op r q got. absurd (nothing_open o op got);
+  rooted = λ o op r x got. absurd (nothing_open o op got);
+  root_indices = λ x y there. absurd there;
+  shards = λ o op got. absurd (nothing_open o op got);
+  distinct = λ o op s z got. absurd (nothing_open o op got);
+  results = λ o op s r got. absurd (nothing_open o op got);
+  below = λ o op got. absurd (nothing_open o op got);
+  root_below = record {
+    generations = λ i k g e. absurd (none_some g e);
+    snapshots = λ s there. absurd there;
+    ids = λ x there. absurd there;
+    uuids = λ x u there. absurd there;
+    one_name = λ x y there. absurd there;
+  };
+}
+
+abbrev no_root : RootData
+no_root = record { snapshots = []; indices = [] }
+
+-- a world of term 1 with this plan, in which no ticket was given
+abbrev world_with : Plan → ℕ → World
+world_with p next =
+    record {
+      blobs = fin.empty;
+      safe = 0;
+      pending = 0;
+      term = 1;
+      root = no_root;
+      ops = p.ops;
+      deletes = p.deletes;
+      completed = p.completed;
+      tickets = fin.empty;
+      next_op = p.next_op;
+      next_ticket = p.next_ticket;
+      next_id = next;
+      doomed = [];
+      deposed = false;
+    }
+
+asked_in : (p : Plan) (next : ℕ) → ((k : ℕ) → fin.get p.seats k ≡ None) → IsAskedIn p no_root 1 next (world_with p next)
+asked_in p next none = record {
+  plan = record { ops = refl; deletes = refl; completed = refl; seats = λ k. none k ∙ sym (ap (option_map seat_of) (fin.get-empty nat_cmp k)); next_op = refl; next_ticket = refl };
+  root_is = refl;
+  term_is = refl;
+  next_is = refl;
+}
+
+named_more : (p new : Plan) (next : ℕ) (accepted : Accepted) (command : Asked) → IsAskable command → Named no_root p.ops next → MayAccept (world_with p next) (name_asked command) → IsAccepted (world_with p next) command new accepted
+    → Named no_root new.ops (next + accepted.drawn)
+named_more p new next accepted (Snapshot name indices moment) askable named may is =
+    let w : World = world_with p next in
+    let there : Named no_root (fin.insert p.ops p.next_op (asked_op w name indices moment)) (next + suc (new_names w indices)) = named_asked w named name indices moment askable.0 may.unused in
+    subst (λ ops. Named no_root ops (next + accepted.drawn)) (sym is.plan.ops)
+    (subst (λ (drawn : ℕ). Named no_root (fin.insert p.ops p.next_op (asked_op w name indices moment)) (next + drawn)) (sym is.drawn) there)
+
+seats_more : (p new : Plan) (next : ℕ) (accepted : Accepted) (command : Asked) → IsAccepted (world_with p next) command new accepted → (k : ℕ) → fin.get new.seats k ≡ None
+seats_more p new next accepted (Snapshot name indices moment) is k = is.plan.seats k ∙ ap (option_map seat_of) (fin.get-empty nat_cmp k)
+
+op_more : (p new : Plan) (next : ℕ) (accepted : Accepted) (command : Asked) → IsAccepted (world_with p next) command new accepted → new.next_op ≡ suc p.next_op
+op_more p new next accepted (Snapshot name indices moment) is = is.plan.next_op
+
+pub loop-number-init : goal.loop-number-init
+loop-number-init c =
+    let at_start = c.new-list.ensures in
+    record {
+      named = subst (λ (p : Plan). Named no_root p.ops c.args.first.number) (sym at_start) (nothing_named c.args.first.number);
+      seats = λ k. subst (λ (p : Plan). fin.get p.seats k ≡ None) (sym at_start) (fin.get-empty nat_cmp k);
+      op = ap (λ (p : Plan). p.next_op) at_start;
+      in_term = c.requires;
+    }
+
+pub accept-requires-clause-named : goal.accept-requires-clause-named
+accept-requires-clause-named c = subst (λ (r : RootData). Named r c.loop-number.list.ops c.loop-number.next.number) (sym (ap root_of c.new-root.ensures)) c.loop-number.invariant.named
+
+pub accept-requires-clause-in_term : goal.accept-requires-clause-in_term
+accept-requires-clause-in_term c = c.loop-number.invariant.in_term
+
+pub accept-requires-clause-room : goal.accept-requires-clause-room
+accept-requires-clause-room c = let op : c.loop-number.list.next_op ≡ c.loop-number.number-counter + 1 = c.loop-number.invariant.op in omega (arith, op)
+
+pub overflow_add-next : goal.overflow_add-next
+overflow_add-next c =
+    let list = c.loop-number.list in
+    let next = c.loop-number.next.number in
+    let h = c.in-Ok.ensures (world_with list next) (subst (λ (r : RootData). IsAskedIn list r 1 next (world_with list next)) (sym (ap root_of c.new-root.ensures)) (asked_in list next c.loop-number.invariant.seats)) in
+    let fits : next + c.in-Ok.accepted.drawn < first_id 2 = h.1.fits in
+    omega (arith, fits, c.from.ensures)
+
+pub loop-number-preserved : goal.loop-number-preserved
+loop-number-preserved c =
+    let list = c.loop-number.list in
+    let next = c.loop-number.next.number in
+    let command = asked_of c.in_ok-command.command in
+    let h = c.in-Ok.ensures (world_with list next) (subst (λ (r : RootData). IsAskedIn list r 1 next (world_with list next)) (sym (ap root_of c.new-root.ensures)) (asked_in list next c.loop-number.invariant.seats)) in
+    let fits : next + c.in-Ok.accepted.drawn < first_id 2 = h.1.fits in
+    let op : c.in-Ok.new.next_op ≡ suc list.next_op = op_more list c.in-Ok.new next c.in-Ok.accepted command h.1 in
+    let was : list.next_op ≡ c.loop-number.number-counter + 1 = c.loop-number.invariant.op in
+    record {
+      named = subst (λ (drawn : ℕ). Named no_root c.in-Ok.new.ops (next + drawn)) (sym c.from.ensures) (named_more list c.in-Ok.new next c.in-Ok.accepted command c.in_ok-command.ensures c.loop-number.invariant.named h.0 h.1);
+      seats = seats_more list c.in-Ok.new next c.in-Ok.accepted command h.1;
+      op = omega (arith, op, was);
+      in_term = omega (arith, fits, c.from.ensures);
+    }
