@@ -11,7 +11,7 @@ use Rattle.esr_script.specs.declared.item.Item.TheVariants as items
 use Rattle.esr_script.specs.declared.item.ScriptLine.{ScriptLine}
 use Rattle.esr_report.specs.Replies.{Reply, Made, Waited, Listed, Refused, fails_swap, has_fallen, wait_reply, end_reply, replies}
 use Rattle.esr_report.specs.Status.{is_deposed, damaged_name, first_damaged, is_spent, are_ok, AllOk, SomeRefused, SwapFailed, ending_by, ending}
-use Rattle.esr_quiet.specs.Refusals.{IsByRule}
+use Rattle.esr_quiet.specs.Refusals.{RefusesSnapshot}
 use Rattle.esr_complete.specs.Answers.{IsAnswer, AreAnswered, EndsWell}
 use Rattle.esr_complete.proofs.Facts.{Fact}
 
@@ -20,7 +20,7 @@ abbrev IsFine : Reply → Type 0
 IsFine (Made uuid) = Unit {0}
 IsFine Waited = Unit {0}
 IsFine (Listed snapshots) = Unit {0}
-IsFine (Refused refusal) = IsByRule refusal
+IsFine (Refused refusal) = RefusesSnapshot refusal
 IsFine reply = ⊥
 
 fine_answer : (item : Item) (reply : Reply) → IsAnswer item reply → IsFine reply

@@ -2,14 +2,14 @@
 use Rattle.std.proofs.Common.{◌≡◌, ℕ, false, List, Option, Some, None, refl, sym, subst, inl, inr}
 use Rattle.esr_model.specs.Values.{Bytes, Has}
 use Rattle.esr_core.specs.Entry as entry
-use Rattle.esr_core.specs.Entry.{Asked, Step, AskStep, LookStep, NameInUse, TooMany, Accepted, Looked, Entry, Moment}
+use Rattle.esr_core.specs.Entry.{AskedIndex, Asked, Snapshot, Restore, Step, AskStep, LookStep, Refusal, NameInUse, TooMany, NoSnapshot, BeingDeleted, Accepted, Looked, Entry, Moment}
 use Rattle.esr_core.specs.After.{or_else}
 use Rattle.esr_script.specs.declared.item.AskedIndex.{AskedIndex as LineIndex}
 use Rattle.esr_script.specs.declared.item.Item.{Item}
 use Rattle.esr_script.specs.declared.item.Item.TheVariants as items
 use Rattle.esr_report.specs.Replies.{Reply, fails_swap, has_fallen, deposed_by, end_of_op, ask_reply, look_reply}
 use Rattle.esr_desk.specs.Start.{Start, world_of}
-use Rattle.esr_quiet.specs.Refusals.{AreByRule}
+use Rattle.esr_quiet.specs.Refusals.{IsByRule, AreByRule}
 use Rattle.esr_quiet.specs.Smooth.{IsSmooth, NoneFailed}
 use Rattle.esr_complete.specs.Lines.{entries_of}
 use Rattle.esr_complete.specs.Answers.{IsIdle, IsAnswer}
@@ -25,22 +25,30 @@ IsAnswerOf item (Some reply) = IsAnswer item reply
 
 pub record Fact (all : List Entry) (e : Entry) : Type 0 where
   pub unfallen : fails_swap e.step e.reply ≡ false
-  pub asked : (command : Asked) → e.step ≡ AskStep command → (name : Bytes) (indices : List LineIndex) → IsAnswerOf (items.Snapshot name indices) (ask_reply all e.reply)
+  pub asked : (of : Bytes) (refs : List AskedIndex) (moment : ℕ) → e.step ≡ AskStep (Snapshot of refs moment) → (name : Bytes) (indices : List LineIndex) → IsAnswerOf (items.Snapshot name indices) (ask_reply all e.reply)
   pub looked : e.step ≡ LookStep → IsAnswerOf items.List (look_reply e.reply)
 
+unfallen_rule : (command : Asked) (refusal : Refusal) → IsByRule command refusal → fails_swap (AskStep command) (entry.Refused refusal) ≡ false
+unfallen_rule (Snapshot name indices moment) (NameInUse uuid) rule = refl
+unfallen_rule (Snapshot name indices moment) (TooMany limit) rule = refl
+unfallen_rule (Snapshot name indices moment) refusal rule = absurd rule
+unfallen_rule (Restore name place) (NoSnapshot of) rule = refl
+unfallen_rule (Restore name place) (BeingDeleted op) rule = refl
+unfallen_rule (Restore name place) (TooMany limit) rule = refl
+unfallen_rule (Restore name place) refusal rule = absurd rule
+
 unfallen_by : (step : Step) (reply : entry.Reply) → IsCalm reply step → fails_swap step reply ≡ false
-unfallen_by step (entry.Refused (NameInUse uuid)) calm = refl
-unfallen_by step (entry.Refused (TooMany limit)) calm = refl
+unfallen_by (AskStep command) (entry.Refused refusal) calm = unfallen_rule command refusal calm
 unfallen_by step (entry.Refused refusal) calm = absurd calm
 unfallen_by step reply calm = refl
 
-asked_by : (all : List Entry) (command : Asked) (reply : entry.Reply) (name : Bytes) (indices : List LineIndex) → IsCalm reply (AskStep command) → IsSaid (AskStep command) reply
+asked_by : (all : List Entry) (of : Bytes) (refs : List AskedIndex) (moment : ℕ) (reply : entry.Reply) (name : Bytes) (indices : List LineIndex) → IsCalm reply (AskStep (Snapshot of refs moment)) → IsSaid (AskStep (Snapshot of refs moment)) reply
     → ((o : ℕ) → accepts reply ≡ Some o → IsMade (end_of_op all o all)) → IsAnswerOf (items.Snapshot name indices) (ask_reply all reply)
-asked_by all command (Accepted op) name indices calm said made = subst (λ (a : Option Reply). IsAnswerOf (items.Snapshot name indices) (or_else a (deposed_by (has_fallen all)))) (sym (made op refl).is) tt
-asked_by all command (entry.Refused (NameInUse uuid)) name indices calm said made = tt
-asked_by all command (entry.Refused (TooMany limit)) name indices calm said made = tt
-asked_by all command (entry.Refused refusal) name indices calm said made = absurd calm
-asked_by all command reply name indices calm said made = absurd said
+asked_by all of refs moment (Accepted op) name indices calm said made = subst (λ (a : Option Reply). IsAnswerOf (items.Snapshot name indices) (or_else a (deposed_by (has_fallen all)))) (sym (made op refl).is) tt
+asked_by all of refs moment (entry.Refused (NameInUse uuid)) name indices calm said made = tt
+asked_by all of refs moment (entry.Refused (TooMany limit)) name indices calm said made = tt
+asked_by all of refs moment (entry.Refused refusal) name indices calm said made = absurd calm
+asked_by all of refs moment reply name indices calm said made = absurd said
 
 looked_by : (reply : entry.Reply) → IsSaid LookStep reply → IsAnswerOf items.List (look_reply reply)
 looked_by (Looked snapshots safe) said = tt
@@ -50,7 +58,7 @@ fact_by : (all : List Entry) (e : Entry) → IsCalm e.reply e.step → IsSaid e.
 fact_by all e calm said made =
     record {
       unfallen = unfallen_by e.step e.reply calm;
-      asked = λ command is name indices. asked_by all command e.reply name indices (subst (IsCalm e.reply) is calm) (subst (λ (step : Step). IsSaid step e.reply) is said) made;
+      asked = λ of refs moment is name indices. asked_by all of refs moment e.reply name indices (subst (IsCalm e.reply) is calm) (subst (λ (step : Step). IsSaid step e.reply) is said) made;
       looked = λ is. looked_by e.reply (subst (λ (step : Step). IsSaid step e.reply) is said);
     }
 

@@ -6,17 +6,19 @@ use Rattle.esr_model.specs.Values.{Has, SnapInfo, ShardResult}
 use Rattle.esr_model.specs.Shelf.{Shelved}
 use Rattle.esr_core.specs.World.{World, Op, Deletion, Finalize, Drop, Ticket}
 use Rattle.esr_core.specs.Ready.{Goes}
-use Rattle.esr_core.specs.Entry.{Given, Step, AskStep, TakeStep, SettleStep, LookStep, Reply, Accepted, Gave, WasSettled, Looked, Refused, Entry}
+use Rattle.esr_core.specs.Entry.{Snapshot, Restore, Given, Step, AskStep, TakeStep, SettleStep, LookStep, Reply, Accepted, Gave, WasSettled, Looked, Refused, Entry}
 use Rattle.esr_report.specs.Replies.{op_by, op_of_ticket, uuid_of_unit, uuid_by, uuid_of_ticket}
+use Rattle.esr_core.proofs.Besides.{Aside}
 use Rattle.esr_core.proofs.Reading.{Has-left, Has-append}
 use Rattle.esr_core.proofs.Queues.{Ops, Deletes, Tickets, was_in, same_in, other_in, split_at}
 use Rattle.esr_complete.proofs.Tickets.{op_stays, uuid_stays, op_given, uuid_given}
 
--- what may be answered to a command or a look
+-- what may be answered to a snapshot or a look
 abbrev pub IsSaid : Step → Reply → Type 0
-IsSaid (AskStep command) (Accepted op) = Unit {0}
-IsSaid (AskStep command) (Refused refusal) = Unit {0}
-IsSaid (AskStep command) reply = ⊥
+IsSaid (AskStep (Snapshot name indices moment)) (Accepted op) = Unit {0}
+IsSaid (AskStep (Snapshot name indices moment)) (Refused refusal) = Unit {0}
+IsSaid (AskStep (Snapshot name indices moment)) reply = ⊥
+IsSaid (AskStep (Restore name place)) reply = Unit {0}
 IsSaid LookStep (Looked snapshots safe) = Unit {0}
 IsSaid LookStep reply = ⊥
 IsSaid step reply = Unit {0}
@@ -180,3 +182,34 @@ given_on deposed ops now deletes tickets next es op unit t h going kept op_is no
       said = said_on es x h.said tt;
       ended = ended_on ops now es x h.ended (λ o was. inl (kept o was)) (λ o e. absurd (no_accept next op unit o e));
     }
+
+-- a shard of a restore is given: its ticket is none of these
+pub handed_on : (deposed : Bool) (ops : Ops) (deletes : Deletes) (tickets : Tickets) (next : ℕ) (es : List Entry) (op : ℕ) (unit : Given) → Follows deposed ops deletes tickets next es → Follows deposed ops deletes tickets (suc next) (es ++ gave next op unit ∷ [])
+handed_on deposed ops deletes tickets next es op unit h =
+    let x : Entry = gave next op unit in
+    record {
+      live = h.live;
+      no_deletes = h.no_deletes;
+      going = h.going;
+      no_drops = h.no_drops;
+      op_of = λ k u e. op_stays es (x ∷ []) k u.op (h.op_of k u e);
+      uuid_of = λ k u info results made e is. uuid_stays es (x ∷ []) k info.uuid (h.uuid_of k u info results made e is);
+      fresh = λ k le. let g = h.fresh k (omega (arith, le)) in let n = by_other next op unit k le in (op_given es x k g.0 ∙ n.0, uuid_given es x k g.1 ∙ n.1);
+      said = said_on es x h.said tt;
+      ended = ended_on ops ops es x h.ended (λ o was. inl was) (λ o e. absurd (no_accept next op unit o e));
+    }
+
+-- restores and their tickets aside
+pub follows_aside : (w new : World) (es : List Entry) → Aside w new → FollowsIn w es → FollowsIn new es
+follows_aside w new es a h =
+    subst (λ (v : World). FollowsIn v es) (sym a.new_is) (record {
+      live = h.live;
+      no_deletes = h.no_deletes;
+      going = h.going;
+      no_drops = h.no_drops;
+      op_of = h.op_of;
+      uuid_of = h.uuid_of;
+      fresh = λ k le. let up : w.next_ticket ≤ a.next_ticket = a.tickets in h.fresh k (omega (arith, up, le));
+      said = h.said;
+      ended = h.ended;
+    })

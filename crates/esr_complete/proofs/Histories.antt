@@ -8,7 +8,7 @@ use Rattle.esr_model.specs.Image.{Blobs, Image}
 use Rattle.esr_core.specs.World.{World, Ticket, opened, Opened, OpenedEmpty, OpenedRecord, no_record, no_root}
 use Rattle.esr_core.specs.Ready.{IsOpen, AnyReady}
 use Rattle.esr_core.specs.Ids.{Law}
-use Rattle.esr_core.specs.Entry.{Why, Step, TakeStep, FailedStep, Refusal, Reply, NothingReady, HasEnded, Refused, Entry, Moment}
+use Rattle.esr_core.specs.Entry.{Asked, Why, Step, AskStep, TakeStep, FailedStep, Refusal, Reply, NothingReady, HasEnded, Refused, Entry, Moment}
 use Rattle.esr_core.specs.After.{after}
 use Rattle.esr_core.specs.Allowed as allowed
 use Rattle.esr_core.specs.Allowed.{Allows, Allowed}
@@ -49,13 +49,13 @@ follows_start f image w (OpenedRecord cluster text root is reads root_is) no_del
 abbrev pub AreCalm : List Moment → Type 0
 AreCalm log = (m : Moment) → Has log m → IsCalm m.entry.reply m.entry.step
 
-calm_by : (reply : Reply) (step : Step) → ((why : Why) → step ≡ FailedStep why → reply ≡ HasEnded → ⊥) → ((refusal : Refusal) → reply ≡ Refused refusal → IsByRule refusal) → IsCalm reply step
-calm_by (Refused refusal) step none by_rule = by_rule refusal refl
+calm_by : (reply : Reply) (step : Step) → ((why : Why) → step ≡ FailedStep why → reply ≡ HasEnded → ⊥) → ((refusal : Refusal) → reply ≡ Refused refusal → (of : (command : Asked) × (step ≡ AskStep command)) × IsByRule of.0 refusal) → IsCalm reply step
+calm_by (Refused refusal) step none by_rule = let x = by_rule refusal refl in subst (IsCalm (Refused refusal)) (sym x.0.1) x.1
 calm_by HasEnded (FailedStep why) none by_rule = absurd (none why refl refl)
 calm_by reply step none by_rule = tt
 
 pub all_calm : (log : List Moment) → NoneFailed log → AreByRule log → AreCalm log
-all_calm log none by_rule m has = calm_by m.entry.reply m.entry.step (λ why is. none m why has is) (λ refusal is. (by_rule m refusal has is).1)
+all_calm log none by_rule m has = calm_by m.entry.reply m.entry.step (λ why is. none m why has is) (λ refusal is. by_rule m refusal has is)
 
 pub follows_history : (f : Formats) (size : ℕ) (log : List Moment) (w : World) (es : List Entry) → FollowsIn w es → IsLegal f size w log → AreCalm log → FollowsIn (world_from f w log) (es ++ entries_of log)
 follows_history f size [] w es h legal calm = subst (FollowsIn w) (sym (append-nil es)) h
@@ -72,11 +72,11 @@ pub record Laws : Type 0 where
   pub ready : (f : Formats) (w : World) (shelf : List Shelved) (o : ℕ) → Law f w shelf → IsOpen w o → ((k : ℕ) (t : Ticket) → fin.get w.tickets k ≡ Some t → t.out ≡ true → ⊥) → AnyReady w
 
 -- what the answer of a take that gives nothing says
-abbrev SaysNone : World → Reply → Type 0
-SaysNone w NothingReady = AnyReady w → ⊥
-SaysNone w reply = Unit {0}
+abbrev SaysNone : World → Step → Reply → Type 0
+SaysNone w TakeStep NothingReady = AnyReady w → ⊥
+SaysNone w step reply = Unit {0}
 
-says_none : (f : Formats) (size : ℕ) (w : World) (who : ℕ) (step : Step) (reply : Reply) (image : Option Image) → Allows f size w who step reply image → SaysNone w reply
+says_none : (f : Formats) (size : ℕ) (w : World) (who : ℕ) (step : Step) (reply : Reply) (image : Option Image) → Allows f size w who step reply image → SaysNone w step reply
 says_none f size w who step reply image (allowed.GivingNothing im none same) = none
 says_none f size w who step reply image other = tt
 

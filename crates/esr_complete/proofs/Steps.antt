@@ -5,19 +5,20 @@ use Rattle.esr_model.specs.Names.{BlobName, Latest}
 use Rattle.esr_model.specs.Values.{Bytes, SnapInfo, ShardResult, Formats}
 use Rattle.esr_model.specs.Shelf.{Shelved}
 use Rattle.esr_model.specs.Image.{Image}
-use Rattle.esr_core.specs.World.{World, Op, ShardWork, Done, Shard, Finalize, Drop, Ticket, marked, info_of, shelved_of}
+use Rattle.esr_core.specs.World.{World, Op, ShardWork, Done, Shard, Finalize, Drop, Ticket, RestoreShard, Restoring, marked, info_of, shelved_of}
 use Rattle.esr_core.specs.Ready.{Goes, Stopped, ReadyDrop}
 use Rattle.esr_core.specs.Steps.{shard_ticket, final_ticket, given}
-use Rattle.esr_core.specs.Entry.{AskedIndex, Snapshot, Given, GivenShard, GivenFinalize, GivenDrop, Step, AskStep, TakeStep, DrawStep, BeginStep, CommitStep, LatestStep, FetchStep, ListStep, RaiseStep, SettleStep, DoneStep, FinishStep, ElectStep, LookStep, NameInUse, TooMany, Reply, Accepted, NothingReady, Gave, DrawnFrom, WasBegun, WasDone, WasThere, WasReplaced, WasFetched, WasAbsent, WasListed, RaisedTo, WasSettled, HasEnded, ElectedTerm, Looked, Refused, Entry, Moment}
-use Rattle.esr_core.specs.After.{asked, asked_op, taken_by, taken_shard, with_given, change, committing, fetching, told_blob, settled_of, done_of, done_by, after}
+use Rattle.esr_core.specs.Entry.{AskedIndex, Snapshot, Restore, Given, GivenShard, GivenFinalize, GivenDrop, GivenRestore, Read, ReadBlob, RestoredShard, CheckedAll, DrawTest, BeginTest, CommitTest, RemoveTests, VerifiedAll, ReadFails, Step, AskStep, TakeStep, DrawStep, BeginStep, CommitStep, LatestStep, FetchStep, ListStep, RaiseStep, SettleStep, DoneStep, FinishStep, ElectStep, LookStep, ReadStep, NameInUse, TooMany, NoSnapshot, BeingDeleted, Reply, Accepted, NothingReady, Gave, DrawnFrom, WasBegun, WasDone, WasThere, WasReplaced, WasFetched, WasAbsent, WasListed, RaisedTo, WasSettled, HasEnded, ElectedTerm, Looked, Refused, WasRemoved, AcceptedRestore, Entry, Moment}
+use Rattle.esr_core.specs.After.{asked, asked_op, taken_by, taken_shard, taken_restore, taken_restore_shard, read_by, with_given, change, committing, fetching, told_blob, settled_of, done_of, done_by, after}
 use Rattle.esr_core.specs.Allowed as allowed
-use Rattle.esr_core.specs.Allowed.{Accepts, Gives, GivesShard, GivesFinalize, Settles, Dones, Allows, Allowed}
+use Rattle.esr_core.specs.Allowed.{Accepts, Gives, GivesShard, GivesFinalize, GivesRestore, Settles, Dones, RestoreAllows, OpeningRestore, NotListed, NamedByDelete, FullOfRestores, ReadAllows, ReadFound, ReadMissing, ReadFault, RestoringShard, ReaderFailing, CheckingAll, CheckFailing, VerifyAllows, DrawingTest, TestSpent, BeginningTest, BeginTestFails, CommittingTest, TestTaken, CommitTestFails, RemovingTests, RemoveTestsFails, VerifyingAll, VerifyFailing, Allows, Allowed}
+use Rattle.esr_core.proofs.Besides.{IsNoTest, aside_by}
 use Rattle.esr_core.proofs.Reading.{some_same, Has-right}
 use Rattle.esr_core.proofs.Queues.{left_in, stays_in, split_at}
 use Rattle.esr_core.proofs.Moments.{moment, settled_plain}
 use Rattle.esr_report.specs.Replies.{op_by, uuid_by}
 use Rattle.esr_complete.proofs.Tickets.{IsCalm, op_stays, uuid_stays}
-use Rattle.esr_complete.proofs.Following.{IsSaid, accepts, IsOpenIn, IsSettledIn, FollowsIn, stands_at, stands_on, going_on, kin_same, kin_on, goes_on, gave, given_on}
+use Rattle.esr_complete.proofs.Following.{IsSaid, accepts, IsOpenIn, IsSettledIn, FollowsIn, stands_at, stands_on, going_on, kin_same, kin_on, goes_on, gave, given_on, handed_on, follows_aside}
 
 abbrev told : ℕ → Step → Reply → Entry
 told who step reply = record { who = who; step = step; reply = reply }
@@ -104,10 +105,18 @@ module _ (f : Formats) (size : ℕ) (w : World) (es : List Entry) (h : FollowsIn
   no_drop : (o : ℕ) → ReadyDrop w o → ⊥
   no_drop o ready = elim ready.stopped [ inl z ↦ not_both z.0 (h.going o z.0 z.1) z.2 | inr z ↦ h.no_deletes o z.0 z.1 ]
 
+  gives_restore : (o index number uuid : ℕ) → GivesRestore w o index number uuid → FollowsIn (taken_restore w o index number (fin.get w.restores o)) (es ++ gave w.next_ticket o (GivenRestore index number uuid) ∷ [])
+  gives_restore o index number uuid g =
+      let all : List Entry = es ++ gave w.next_ticket o (GivenRestore index number uuid) ∷ [] in
+      subst (λ (x : Option Restoring). FollowsIn (taken_restore w o index number x) all) (sym g.ready.there)
+      (subst (λ (x : Option RestoreShard). FollowsIn (taken_restore_shard w o g.r x) all) (sym g.found)
+      (handed_on w.deposed w.ops w.deletes w.tickets w.next_ticket es o (GivenRestore index number uuid) h))
+
   gives : (o : ℕ) (unit : Given) → Gives f w o unit → FollowsIn (taken_by f w o unit (fin.get w.ops o)) (es ++ gave w.next_ticket o unit ∷ [])
   gives o (GivenShard index number base) g = gives_shard o index number base g
   gives o (GivenFinalize info results) g = gives_final o info results g
   gives o GivenDrop g = absurd (no_drop o g)
+  gives o (GivenRestore index number uuid) g = gives_restore o index number uuid g
 
   gives_as : (k o : ℕ) (unit : Given) → k ≡ w.next_ticket → Gives f w o unit → FollowsIn (taken_by f w o unit (fin.get w.ops o)) (es ++ gave k o unit ∷ [])
   gives_as k o unit is g = subst (λ (j : ℕ). FollowsIn (taken_by f w o unit (fin.get w.ops o)) (es ++ gave j o unit ∷ [])) (sym is) (gives o unit g)
@@ -161,6 +170,35 @@ module _ (f : Formats) (size : ℕ) (w : World) (es : List Entry) (h : FollowsIn
         | inr apart ↦ inl (was.0, stays_in w.ops s.t.op o apart ∙ was.1)
       ]
 
+  -- ---- restores, and what is read
+
+  asks_restore : (name place : Bytes) (reply : Reply) (image : Option Image) → RestoreAllows f w name reply image → FollowsIn (after f w (moment 0 (AskStep (Restore name place)) reply image)) (es ++ told 0 (AskStep (Restore name place)) reply ∷ [])
+  asks_restore name place reply image (OpeningRestore o uuid indices im acc) = stays (told 0 (AskStep (Restore name place)) (AcceptedRestore o uuid indices)) tt tt
+  asks_restore name place reply image (NotListed im none) = stays (told 0 (AskStep (Restore name place)) (Refused (NoSnapshot name))) tt tt
+  asks_restore name place reply image (NamedByDelete uuid d im listed named) = stays (told 0 (AskStep (Restore name place)) (Refused (BeingDeleted d))) tt tt
+  asks_restore name place reply image (FullOfRestores uuid im listed spared full) = stays (told 0 (AskStep (Restore name place)) (Refused (TooMany 1000))) tt tt
+
+  reads_on : (k : ℕ) (read : Read) (reply : Reply) (image : Option Image) → IsNoTest read → IsPlain reply → FollowsIn (read_by f w k read reply image) (es ++ told k (ReadStep read) reply ∷ [])
+  reads_on k read reply image no_test plain = follows_aside w (read_by f w k read reply image) (es ++ told k (ReadStep read) reply ∷ []) (aside_by f w k read reply image no_test) (stays (told k (ReadStep read) reply) plain tt)
+
+  reads : (k : ℕ) (read : Read) (reply : Reply) (image : Option Image) → ReadAllows f w k read reply image → IsCalm reply (ReadStep read) → FollowsIn (after f w (moment k (ReadStep read) reply image)) (es ++ told k (ReadStep read) reply ∷ [])
+  reads k read reply image (ReadFound j name im stored by found) calm = reads_on j (ReadBlob name) WasFetched im tt tt
+  reads k read reply image (ReadMissing j name im stored by none) calm = reads_on j (ReadBlob name) WasAbsent im tt tt
+  reads k read reply image (ReadFault j name im stored by) calm = absurd calm
+  reads k read reply image (RestoringShard j files bytes im q out done) calm = reads_on j (RestoredShard files bytes) HasEnded im tt tt
+  reads k read reply image (ReaderFailing j why im q out) calm = reads_on j (ReadFails why) HasEnded im tt tt
+  reads k read reply image (CheckingAll snapshots blobs im checks) calm = reads_on 0 (CheckedAll snapshots blobs) HasEnded im tt tt
+  reads k read reply image (CheckFailing why im looked) calm = reads_on 0 (ReadFails why) HasEnded im tt tt
+
+  verifies : (read : Read) (reply : Reply) (image : Option Image) → VerifyAllows f w read reply image → IsCalm reply (ReadStep read) → FollowsIn (after f w (moment 0 (ReadStep read) reply image)) (es ++ told 0 (ReadStep read) reply ∷ [])
+  verifies read reply image (DrawingTest im idle fits same) calm = stays (told 0 (ReadStep DrawTest) (DrawnFrom w.next_id)) tt tt
+  verifies read reply image (BeginningTest name im own same) calm = stays (told 0 (ReadStep (BeginTest name)) WasBegun) tt tt
+  verifies read reply image (CommittingTest name bytes im own new adds) calm = stays (told 0 (ReadStep (CommitTest name)) WasDone) tt tt
+  verifies read reply image (RemovingTests names im may left) calm = stays (told 0 (ReadStep (RemoveTests names)) WasRemoved) tt tt
+  verifies read reply image (VerifyingAll im done same) calm = stays (told 0 (ReadStep VerifiedAll) HasEnded) tt tt
+  verifies read reply image (VerifyFailing why id im drawn same) calm = stays (told 0 (ReadStep (ReadFails why)) HasEnded) tt tt
+  verifies read reply image other calm = absurd calm
+
   -- ---- each answer
 
   follows_by : (who : ℕ) (step : Step) (reply : Reply) (image : Option Image) → Allows f size w who step reply image → IsCalm reply step → FollowsIn (after f w (moment who step reply image)) (es ++ told who step reply ∷ [])
@@ -185,6 +223,10 @@ module _ (f : Formats) (size : ℕ) (w : World) (es : List Entry) (h : FollowsIn
   follows_by who step reply image (allowed.Looking im same) calm = stays (told 0 LookStep (Looked w.root.snapshots w.safe)) tt tt
   follows_by who step reply image (allowed.Used name indices time uuid im clear is same) calm = stays (told 0 (AskStep (Snapshot name indices time)) (Refused (NameInUse uuid))) tt tt
   follows_by who step reply image (allowed.Full name indices time im clear unused full same) calm = stays (told 0 (AskStep (Snapshot name indices time)) (Refused (TooMany 1000))) tt tt
+  follows_by who step reply image (allowed.AskingRestore name place rep im a same) calm = asks_restore name place rep im a
+  follows_by who step reply image (allowed.Reading k read rep im a same) calm = reads k read rep im a calm
+  follows_by who step reply image (allowed.Verifying read rep im a) calm = verifies read rep im a calm
+  follows_by who step reply image (allowed.Cleaning command d x im recorded there clean same) calm = absurd (h.no_deletes d x there)
   follows_by who step reply image other calm = absurd calm
 
 pub follows_step : (f : Formats) (size : ℕ) (w : World) (es : List Entry) → FollowsIn w es → (m : Moment) → Allowed f size w m → IsCalm m.entry.reply m.entry.step → FollowsIn (after f w m) (es ++ m.entry ∷ [])

@@ -2,7 +2,7 @@
 use Rattle.std.proofs.Common.{◌≡◌, ◌⊎◌, ℕ, Bool, true, false, List, [], ◌∷◌, ◌++◌, Option, Some, None, option_map, if◌then◌else◌, ◌==◌, refl, sym, ap, ◌∙◌, subst, inl, inr}
 use Rattle.std.proofs.lemmas.Bool.Decides.{eqb_tells}
 use Rattle.esr_model.specs.Values.{Has}
-use Rattle.esr_core.specs.Entry.{Step, SettleStep, FailedStep, Reply, WasSettled, HasEnded, Refused, Entry}
+use Rattle.esr_core.specs.Entry.{Step, AskStep, SettleStep, FailedStep, Reply, WasSettled, HasEnded, Refused, Entry}
 use Rattle.esr_core.specs.After.{or_else}
 use Rattle.esr_quiet.specs.Refusals.{IsByRule}
 use Rattle.esr_report.specs.Replies as report
@@ -45,9 +45,10 @@ uuid_given es x k e = uuid_append es (x ∷ []) k ∙ ap (λ (a : Option ℕ). o
 
 -- ---- the end of an op
 
--- no unit failed by this entry, and no refusal but by a rule
+-- no unit failed by this entry, and no refusal but that of a command by a rule
 abbrev pub IsCalm : Reply → Step → Type 0
-IsCalm (Refused refusal) step = IsByRule refusal
+IsCalm (Refused refusal) (AskStep command) = IsByRule command refusal
+IsCalm (Refused refusal) step = ⊥
 IsCalm HasEnded (FailedStep why) = ⊥
 IsCalm reply step = Unit {0}
 

@@ -1,5 +1,5 @@
 -- The replies along the lines.
-use Rattle.std.proofs.Common.{◌≡◌, ℕ, Bool, true, false, true≢false, ◌&&◌, ◌||◌, not, if◌then◌else◌, ◌==◌, List, [], ◌∷◌, ◌++◌, Option, Some, None, option_map, refl, sym, ap, ◌∙◌, subst, inl, inr}
+use Rattle.std.proofs.Common.{◌≡◌, ℕ, Bool, true, false, true≢false, ◌&&◌, ◌||◌, not, if◌then◌else◌, ◌==◌, List, [], ◌∷◌, ◌++◌, Option, Some, None, map, option_map, refl, sym, ap, ◌∙◌, subst, inl, inr}
 use Rattle.esr_model.specs.Values.{Has}
 use Rattle.esr_core.specs.Entry.{Step, AskStep, TakeStep, LookStep, Entry, Moment}
 use Rattle.esr_script.specs.declared.item.Item.{Item}
@@ -7,7 +7,7 @@ use Rattle.esr_script.specs.declared.item.Item.TheVariants as items
 use Rattle.esr_script.specs.declared.item.ScriptLine.{ScriptLine}
 use Rattle.esr_report.specs.Replies.{Reply, fails_swap, answer_at, is_line_step, is_of_line, from_line, falls_before, falls_first, line_reply, wait_reply, is_wait, and_more, replies_from, replies}
 use Rattle.esr_quiet.specs.Asked.{is_take, is_asked, asked_steps}
-use Rattle.esr_complete.specs.Lines.{command_of_line, steps_of_item, steps_of, IsKnown, AreKnown, entries_of}
+use Rattle.esr_complete.specs.Lines.{index_of_line, command_of_line, steps_of_item, steps_of, IsKnown, AreKnown, entries_of}
 use Rattle.esr_complete.specs.Answers.{IsAnswer, AreAnswered}
 use Rattle.esr_complete.proofs.Facts.{IsAnswerOf, Fact}
 
@@ -127,7 +127,7 @@ walk_item all rest moment (items.Snapshot name indices) lines facts known e on =
     let step : Step = AskStep (command_of_line name indices moment) in
     let n = next_line all rest step (steps_of moment lines) facts refl e in
     by_entry all rest (items.Snapshot name indices) lines step (steps_of moment lines) facts n
-    (subst (λ (x : Step). IsAnswerOf (items.Snapshot name indices) (answer_at all x n.e.reply)) (sym n.step_is) (n.fact.asked (command_of_line name indices moment) n.step_is name indices))
+    (subst (λ (x : Step). IsAnswerOf (items.Snapshot name indices) (answer_at all x n.e.reply)) (sym n.step_is) (n.fact.asked name (map index_of_line indices) moment n.step_is name indices))
     (on n.es n.facts n.more_is)
 walk_item all rest moment items.Wait lines facts known e on =
     subst (λ (b : Bool). IsFirst items.Wait lines (wait_reply (false || b) ∷ replies_from all lines false rest)) (sym (unfallen_before all rest facts)) (tt, on rest facts e)

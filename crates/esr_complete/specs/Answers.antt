@@ -9,7 +9,7 @@ use Rattle.esr_report.specs.Status.{ending, AllOk, SomeRefused}
 use Rattle.esr_desk.specs.Start.{Start}
 use Rattle.esr_desk.specs.Grew.{NoneOut}
 use Rattle.esr_desk.specs.Last.{IsLast}
-use Rattle.esr_quiet.specs.Refusals.{IsByRule}
+use Rattle.esr_quiet.specs.Refusals.{RefusesSnapshot}
 
 -- no unit was ready, and none is out
 pub record IsIdle (s : Start) (log : List Moment) : Type 0 where
@@ -19,7 +19,7 @@ pub record IsIdle (s : Start) (log : List Moment) : Type 0 where
 -- the answer of a line: a snapshot was made or refused by a rule
 abbrev pub IsAnswer : Item → Reply → Type 0
 IsAnswer (items.Snapshot name indices) (Made uuid) = Unit {0}
-IsAnswer (items.Snapshot name indices) (Refused refusal) = IsByRule refusal
+IsAnswer (items.Snapshot name indices) (Refused refusal) = RefusesSnapshot refusal
 IsAnswer items.Wait Waited = Unit {0}
 IsAnswer items.List (Listed snapshots) = Unit {0}
 IsAnswer item reply = ⊥

@@ -10,7 +10,7 @@ use Rattle.esr_model.specs.Kept.{Kept}
 use Rattle.esr_core.proofs.Reading.{reads_one, some_same, none_some}
 
 -- pair by pair, what stands beside a list is one list
-pairs_one : {A B : Type 0} (R S : A → B → Type 0) → ((x : A) (y z : B) → R x y → S x z → y ≡ z) → (xs : List A) (ys zs : List B) → AllPairs R xs ys → AllPairs S xs zs → ys ≡ zs
+pub pairs_one : {A B : Type 0} (R S : A → B → Type 0) → ((x : A) (y z : B) → R x y → S x z → y ≡ z) → (xs : List A) (ys zs : List B) → AllPairs R xs ys → AllPairs S xs zs → ys ≡ zs
 pairs_one R S one [] [] [] h k = refl
 pairs_one R S one [] [] (z ∷ zs) h k = absurd k
 pairs_one R S one [] (y ∷ ys) zs h k = absurd h
@@ -19,7 +19,7 @@ pairs_one R S one (x ∷ xs) (y ∷ ys) [] h k = absurd k
 pairs_one R S one (x ∷ xs) (y ∷ ys) (z ∷ zs) h k = λ i. one x y z h.0 k.0 i ∷ pairs_one R S one xs ys zs h.1 k.1 i
 
 module _ (f : Formats) (has : BlobName → Bytes → Type 0) (func : IsOne has) where
-  file_one : (index shard : ℕ) (e : FileEntry) (a b : Bytes) → FileStands f has index shard e a → FileStands f has index shard e b → a ≡ b
+  pub file_one : (index shard : ℕ) (e : FileEntry) (a b : Bytes) → FileStands f has index shard e a → FileStands f has index shard e b → a ≡ b
   file_one index shard e a b p q = sym p.joined ∙ ap concat (pairs_one has has func (part_names index shard e) p.parts q.parts p.there q.there) ∙ q.joined
 
   shard_one : (root : RootData) (uuid : ℕ) (place : IndexRef × ℕ) (a b : ShelfShard) → ShardStands f has root uuid place a → ShardStands f has root uuid place b → a ≡ b

@@ -152,7 +152,8 @@ module _ (f : Formats) (size : ℕ) (name : Bytes) (moment : ℕ) (can : CanWrit
     | inl z ↦ let e : p ≡ 1 = only_op p z.0 z.1 in omega (arith, below, e)
     | inr z ↦ nothing p z.0 z.1
   ]
-  none_before p below (inr (inr (inr h))) = elim h.1 [ inl z ↦ nothing p h.0 z.there | inr z ↦ nothing p h.0 z.there ]
+  none_before p below (inr (inr (inr (inl h)))) = elim h.1 [ inl z ↦ nothing p h.0 z.there | inr z ↦ nothing p h.0 z.there ]
+  none_before p below (inr (inr (inr (inr h)))) = nothing p h.0 h.2.there
 
   -- what the ticket has noted
   both_noted : (t : Ticket) → Has t.noted (Snap uuid) → Has t.noted (Meta uuid) → (n : BlobName) (b : Bytes) → Has (metadata f (info_of op [])) (n, b) → Has t.noted n

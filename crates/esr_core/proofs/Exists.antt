@@ -12,7 +12,9 @@ use Rattle.esr_core.specs.Swaps.{TicketLaw, SwapLaw, IsUnsettled, Counts}
 use Rattle.esr_core.specs.Texts.{IsMetaOf, Texted}
 use Rattle.esr_core.specs.Sound.{Sound}
 use Rattle.esr_core.specs.Ids.{Law}
-use Rattle.esr_core.specs.Turns.{Aborts, fails, plain_ticket, Turn, Stays, Commits, CommitFails, Finds, Raises, Latests, Fetches, SettlesFinal, SettlesDelete, Elects, TakesShard, TakesFinal, TakesDrop, TakesDelete, TakesCleanup, AsksCleanup, CleanDrops, DrawsShard, DrawsPlan, Dones, Ending, Fails, FailsDelete, Drops, AsksCreate, AsksDelete, Merges, Removing, Deposes}
+use Rattle.esr_core.specs.Turns.{Aborts, fails, plain_ticket, Turn, Stays, Commits, CommitFails, Finds, Raises, Latests, Fetches, SettlesFinal, SettlesDelete, Elects, TakesShard, TakesFinal, TakesDrop, TakesDelete, TakesCleanup, AsksCleanup, CleanDrops, DrawsShard, DrawsPlan, Dones, Ending, Fails, FailsDelete, Drops, AsksCreate, AsksDelete, Merges, Removing, Deposes, Besides, Tests, TestTurn, DrawsTest, AddsTest, RemovesTests}
+use Rattle.esr_core.proofs.Testing.{tests_meta}
+use Rattle.esr_core.proofs.Besides.{aside_of, kept_aside}
 use Rattle.esr_core.proofs.Evolving.{all_done_on, failed_leaves}
 use Rattle.esr_core.proofs.Adds.{at_was}
 use Rattle.esr_core.proofs.Tickets.{each_ticket, swapping_was}
@@ -357,6 +359,11 @@ module _ (f : Formats) (w : World) (shelf : List Shelved) (l : Law f w shelf) (x
 abbrev In : Formats → World → Type 0
 In f y = Texted f y.blobs y.ops y.tickets
 
+tested : (f : Formats) (w : World) (shelf : List Shelved) → Law f w shelf → In f w → (new : World) → TestTurn f w new → In f new
+tested f w shelf l x new (DrawsTest m d) = subst (In f) (sym d.new_is) x
+tested f w shelf l x new (AddsTest m name bytes a) = subst (In f) (sym a.new_is) (texted_blobs f w.blobs w.ops w.tickets x (fin.insert w.blobs (f.names.text name) bytes) (tests_meta f w shelf l name bytes m a))
+tested f w shelf l x new (RemovesTests m names r) = subst (In f) (sym r.new_is) (texted_blobs f w.blobs w.ops w.tickets x r.now (λ n b at. inl (r.removes.left (f.names.text n) b at.0, at.1)))
+
 turned : (f : Formats) (w new : World) (shelf : List Shelved) → Law f w shelf → In f w → Turn f w new → In f new
 turned f w new shelf l x (Stays m e) = subst (In f) (sym e) x
 turned f w new shelf l x (Commits m k name c) = subst (In f) (sym c.new_is)
@@ -414,6 +421,8 @@ turned f w new shelf l x (AsksDelete m uuids d) = subst (In f) (sym d.new_is) (a
 turned f w new shelf l x (Merges m uuids n d) = subst (In f) (sym d.new_is) (aborted f w shelf l x d.ops n d.aborts)
 turned f w new shelf l x (Removing m k names d) = removed f w shelf l x k names m d
 turned f w new shelf l x (Deposes m up d e) = subst (In f) (sym e) (turned f w up shelf l x d)
+turned f w new shelf l x (Tests m t) = tested f w shelf l x m t
+turned f w new shelf l x (Besides m up d r) = kept_aside (In f) up m (aside_of f up m r) (turned f w up shelf l x d)
 
 pub turn_texted : (f : Formats) (w new : World) (shelf : List Shelved) → Law f w shelf → Turn f w new → Texted f new.blobs new.ops new.tickets
 turn_texted f w new shelf l turn = turned f w new shelf l l.texts turn

@@ -1,5 +1,5 @@
 -- Over a legal history the law holds, for the shelf with the commands that count.
-use Rattle.std.proofs.Common.{◌≡◌, ℕ, suc, ◌≤◌, List, [], ◌∷◌, ◌++◌, true, true≢false, Option, Some, None, refl, sym, ap, ◌∙◌, subst, inl, inr, arith}
+use Rattle.std.proofs.Common.{◌≡◌, ◌⊎◌, ℕ, suc, ◌≤◌, List, [], ◌∷◌, ◌++◌, true, false, true≢false, Option, Some, None, refl, sym, ap, ◌∙◌, subst, inl, inr, arith}
 use Rattle.esr_model.specs.Values.{ReadsBack, ShardResult, Formats}
 use Rattle.esr_model.specs.Shelf.{Shelved, Command, shelf_after}
 use Rattle.esr_model.specs.Image.{Image}
@@ -7,11 +7,13 @@ use Rattle.esr_model.specs.Kept.{Kept}
 use Rattle.esr_core.specs.World.{World, Ticket, Swap, record_of, image_of}
 use Rattle.esr_core.specs.Steps.{MaySettle}
 use Rattle.esr_core.specs.Ids.{Law}
-use Rattle.esr_core.specs.Entry.{DoneStep, HasEnded, Refused, StaleTerm, Moment}
+use Rattle.esr_core.specs.Entry.{DoneStep, HasEnded, Refused, StaleTerm, Moment, DeposedAt}
 use Rattle.esr_core.specs.After.{answered, done_of, done_by, blobs_in, after}
-use Rattle.esr_core.specs.Allowed.{Allowed, IsDeposed, SameBlobs, Dones as DonesBy}
+use Rattle.esr_core.specs.Allowed.{Allows, Allowed, IsDeposed, SameBlobs, Dones as DonesBy}
 use Rattle.esr_core.specs.History.{world_from, IsLegal, AllKnown, AreTold, AreHonest, IsHonest, commands_at, committed, Lasts}
-use Rattle.esr_core.specs.Turns.{Turn, Stays, Commits, CommitFails, Finds, Raises, Latests, Fetches, SettlesFinal, SettlesDelete, Elects, TakesShard, TakesFinal, TakesDrop, TakesDelete, TakesCleanup, AsksCleanup, CleanDrops, DrawsShard, DrawsPlan, Dones, Ending, Fails, FailsDelete, Drops, AsksCreate, AsksDelete, Merges, Removing, Deposes, commands_of}
+use Rattle.esr_core.specs.Turns.{Turn, Stays, Commits, CommitFails, Finds, Raises, Latests, Fetches, SettlesFinal, SettlesDelete, Elects, TakesShard, TakesFinal, TakesDrop, TakesDelete, TakesCleanup, AsksCleanup, CleanDrops, DrawsShard, DrawsPlan, Dones, Ending, Fails, FailsDelete, Drops, AsksCreate, AsksDelete, Merges, Removing, Deposes, commands_of, Besides, Tests, TestTurn, DrawsTest, AddsTest, RemovesTests}
+use Rattle.esr_core.proofs.Besides.{aside_of}
+use Rattle.esr_core.proofs.Heard.{unheard_stays}
 use Rattle.esr_core.proofs.Reading.{some_same, none_some}
 use Rattle.esr_core.proofs.Turning.{turn_law}
 use Rattle.esr_core.proofs.Moments.{Turned, plain, turn_by}
@@ -26,6 +28,11 @@ settled_above f w shelf l k n t s may present = ((l.lawful.sound.rooted.tickets 
 
 same_safe : (w new up : World) → new ≡ up → up.safe ≡ w.safe → w.safe ≤ new.safe
 same_safe w new up e s = let a : new.safe ≡ up.safe = ap (λ (x : World). x.safe) e in omega (arith, a, s)
+
+tests_safe : (f : Formats) (w new : World) → TestTurn f w new → w.safe ≤ new.safe
+tests_safe f w new (DrawsTest m d) = same_safe w m _ d.new_is refl
+tests_safe f w new (AddsTest m name bytes a) = same_safe w m _ a.new_is refl
+tests_safe f w new (RemovesTests m names r) = same_safe w m _ r.new_is refl
 
 pub turn_safe : (f : Formats) (w new : World) (shelf : List Shelved) → Law f w shelf → Turn f w new → w.safe ≤ new.safe
 turn_safe f w new shelf l (Stays m e) = same_safe w m w e refl
@@ -56,11 +63,15 @@ turn_safe f w new shelf l (AsksCreate m op h) = same_safe w m _ h.new_is refl
 turn_safe f w new shelf l (AsksDelete m uuids h) = same_safe w m _ h.new_is refl
 turn_safe f w new shelf l (Merges m uuids n h) = same_safe w m _ h.new_is refl
 turn_safe f w new shelf l (Removing m k names h) = same_safe w m _ h.new_is refl
+turn_safe f w new shelf l (Tests m t) = tests_safe f w m t
+turn_safe f w new shelf l (Besides m up h r) = let a : w.safe ≤ up.safe = turn_safe f w up shelf l h in let b : m.safe ≡ up.safe = ap (λ (x : World). x.safe) (aside_of f up m r).new_is in omega (arith, a, b)
 turn_safe f w new shelf l (Deposes m up h e) = let a : w.safe ≤ up.safe = turn_safe f w up shelf l h in let b : m.safe ≡ up.safe = ap (λ (x : World). x.safe) e in omega (arith, a, b)
 
 -- after a record swap that failed the world stays
 pub deposed_stays : (f : Formats) (w : World) (m : Moment) → IsDeposed w m → after f w m ≡ w
-deposed_stays f w m d = (λ j. record (answered f w m.entry.who m.entry.step (d.refused j) m.image) { blobs = blobs_in m.image w.blobs }) ∙ (λ j. record w { blobs = same m.image d.same j })
+deposed_stays f w m d =
+    unheard_stays f w m (DeposedAt d.place) d.refused refl
+    ((λ j. record (answered f w m.entry.who m.entry.step (d.refused j) m.image) { blobs = blobs_in m.image w.blobs }) ∙ (λ j. record w { blobs = same m.image d.same j }))
   where
     same : (image : Option Image) → SameBlobs w image → blobs_in image w.blobs ≡ w.blobs
     same None h = refl
@@ -74,11 +85,23 @@ pub record Stepped (f : Formats) (w : World) (shelf : List Shelved) (m : Moment)
   pub early : (safe : ℕ) → safe ≤ w.safe → commands_at f safe w m.entry.who m.entry.step m.entry.reply ≡ []
   pub counted : (safe : ℕ) → new.safe ≤ safe → (new.deposed ≡ true → safe ≡ new.safe) → commands_at f safe w m.entry.who m.entry.step m.entry.reply ≡ commands
   pub alone : w.deposed ≡ true → (new.deposed ≡ true) × (new.safe ≡ w.safe)
+  -- it is a turn with these commands, or changes nothing
+  pub made : ((w.deposed ≡ false) × ((t : Turn f w new) × (commands ≡ commands_of f w new t))) ⊎ ((new ≡ w) × (commands ≡ []))
+
+-- each step in a world that isn't deposed is a turn
+step_turn : (f : Formats) (size : ℕ) (w : World) (shelf : List Shelved) → AllKnown f → Law f w shelf → IsHonest f w.blobs → (m : Moment) (i : Image) → m.image ≡ Some i → Allows f size w m.entry.who m.entry.step m.entry.reply m.image → Turned f w m.entry.who m.entry.step m.entry.reply (after f w m)
+step_turn f size w shelf known l honest m i told alive = turn_by f size w shelf l i doing (accepted f w shelf l) m.entry.who m.entry.step m.entry.reply m.image told alive
+  where
+    doing : (k : ℕ) (r : ShardResult) → DonesBy f size w k r (Some i) → i.blobs ≡ w.blobs → Turned f w k (DoneStep r) HasEnded (after f w (record { entry = record { who = k; step = DoneStep r; reply = HasEnded }; image = Some i }))
+    doing k r d same =
+        plain f w k (DoneStep r) HasEnded _
+        (Dones _ k r (done_found f size w shelf l honest k d.t d.out r d.is d.op d.op_there d.s d.s_there d.state d.place_is d.name_is d.done (d.done.told (known d.t.place d.t.name r.shard)) _
+        ((λ j. record (done_of w k r (d.out.there j)) { blobs = i.blobs }) ∙ (λ j. record (done_by w k r d.t (d.op_there j)) { blobs = same j })))) refl refl
 
 pub step_law : (f : Formats) (size : ℕ) (w : World) (shelf : List Shelved) → AllKnown f → Law f w shelf → IsHonest f w.blobs → (m : Moment) (i : Image) → m.image ≡ Some i → Allowed f size w m → Stepped f w shelf m (after f w m)
 step_law f size w shelf known l honest m i told a = elim a.answered [
   | inl alive ↦
-      let t : Turned f w m.entry.who m.entry.step m.entry.reply (after f w m) = turn_by f size w shelf l i doing (accepted f w shelf l) m.entry.who m.entry.step m.entry.reply m.image told alive.1 in
+      let t : Turned f w m.entry.who m.entry.step m.entry.reply (after f w m) = step_turn f size w shelf known l honest m i told alive.1 in
       record {
         commands = commands_of f w (after f w m) t.turn;
         law = turn_law f w (after f w m) shelf l alive.0 t.turn;
@@ -86,6 +109,7 @@ step_law f size w shelf known l honest m i told a = elim a.answered [
         early = t.early;
         counted = t.commands;
         alone = λ e. absurd (true≢false (sym e ∙ alive.0));
+        made = inl (alive.0, (t.turn, refl));
       }
   | inr dead ↦
       let same : after f w m ≡ w = deposed_stays f w m dead in
@@ -96,14 +120,9 @@ step_law f size w shelf known l honest m i told a = elim a.answered [
         early = λ safe below. ap (commands_at f safe w m.entry.who m.entry.step) dead.refused;
         counted = λ safe above only. ap (commands_at f safe w m.entry.who m.entry.step) dead.refused;
         alone = λ e. (ap (λ (x : World). x.deposed) same ∙ e, ap (λ (x : World). x.safe) same);
+        made = inr (same, refl);
       }
 ]
-  where
-    doing : (k : ℕ) (r : ShardResult) → DonesBy f size w k r (Some i) → i.blobs ≡ w.blobs → Turned f w k (DoneStep r) HasEnded (after f w (record { entry = record { who = k; step = DoneStep r; reply = HasEnded }; image = Some i }))
-    doing k r d same =
-        plain f w k (DoneStep r) HasEnded _
-        (Dones _ k r (done_found f size w shelf l honest k d.t d.out r d.is d.op d.op_there d.s d.s_there d.state d.place_is d.name_is d.done (d.done.told (known d.t.place d.t.name r.shard)) _
-        ((λ j. record (done_of w k r (d.out.there j)) { blobs = i.blobs }) ∙ (λ j. record (done_by w k r d.t (d.op_there j)) { blobs = same j })))) refl refl
 
 -- what a list of moments leaves
 pub lasts : (f : Formats) (size : ℕ) (log : List Moment) (w : World) (shelf : List Shelved) → AllKnown f → Law f w shelf → IsLegal f size w log → AreTold log → AreHonest f w log → Lasts f w (world_from f w log)
@@ -215,7 +234,9 @@ each_image f size log rest w shelf m i known l image legal told honest =
 
 -- a step of an older term changes nothing
 pub stale_stays : (f : Formats) (w : World) (m : Moment) (own now : ℕ) → m.entry.reply ≡ Refused (StaleTerm own now) → SameBlobs w m.image → after f w m ≡ w
-stale_stays f w m own now e same = (λ j. record (answered f w m.entry.who m.entry.step (e j) m.image) { blobs = blobs_in m.image w.blobs }) ∙ (λ j. record w { blobs = stay m.image same j })
+stale_stays f w m own now e same =
+    unheard_stays f w m (StaleTerm own now) e refl
+    ((λ j. record (answered f w m.entry.who m.entry.step (e j) m.image) { blobs = blobs_in m.image w.blobs }) ∙ (λ j. record w { blobs = stay m.image same j }))
   where
     stay : (image : Option Image) → SameBlobs w image → blobs_in image w.blobs ≡ w.blobs
     stay None h = refl

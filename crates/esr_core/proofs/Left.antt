@@ -2,14 +2,15 @@
 use Rattle.std.proofs.Common.{◌≡◌, ◌⊎◌, ℕ, suc, ◌≤◌, List, [], ◌∷◌, ◌++◌, Bool, true, false, true≢false, Option, Some, None, refl, sym, ap, ◌∙◌, subst, inl, inr, arith}
 use Rattle.std.specs.Prelude.{if◌then◌else◌, ◌&&◌}
 use Rattle.std.specs.FinMap as fin
-use Rattle.esr_model.specs.Values.{ClusterRecord, ReadsBack, Formats}
+use Rattle.esr_model.specs.Names.{BlobName}
+use Rattle.esr_model.specs.Values.{ClusterRecord, ReadsBack, Formats, Bytes}
 use Rattle.esr_model.specs.Shelf.{Shelved, Command, shelf_after}
 use Rattle.esr_model.specs.Image.{Image}
 use Rattle.esr_model.specs.Kept.{Kept}
 use Rattle.esr_core.specs.World.{World, Ticket, record_of, image_of}
 use Rattle.esr_core.specs.Ids.{Law}
 use Rattle.esr_core.specs.Entry.{Snapshot, Step, AskStep, BeginStep, LatestStep, RaiseStep, SettleStep, DroppedStep, ElectStep, DeposedAt, DepotFault, Reply, WasSettled, Refused, Moment}
-use Rattle.esr_core.specs.After.{asked, raised, with_given, settled_of, dropped_of, done_step, has_text, is_latest, tried, faulted, answered, after}
+use Rattle.esr_core.specs.After.{asked, raised, with_given, settled_of, dropped_of, done_step, has_text, is_latest, tried, faulted, answered, after, told_blob, test_left}
 use Rattle.esr_core.specs.Entry as entry
 use Rattle.esr_core.specs.Allowed as allowed
 use Rattle.esr_core.specs.Allowed.{Settles, Allows, Allowed, IsDeposed}
@@ -50,6 +51,11 @@ either_below : (w up : World) (b : Bool) → w.safe ≤ up.safe → (if b then u
 either_below w up true h = omega arith
 either_below w up false h = h
 
+left_safe : (w : World) (name : BlobName) (was now : Option Bytes) → (test_left w name was now).safe ≡ w.safe
+left_safe w name None (Some bytes) = refl
+left_safe w name None None = refl
+left_safe w name (Some was) now = refl
+
 fault_safe : (f : Formats) (w : World) (k : ℕ) (step : Step) (image : Option Image) → is_settle step ≡ false → (faulted f w k step image).safe ≡ w.safe
 fault_safe f w k (AskStep (Snapshot name indices time)) image e =
     let up : World = asked w (Snapshot name indices time) in either_safe w up (has_text image (f.cluster.text (record_of up))) refl
@@ -62,6 +68,7 @@ fault_safe f w k ElectStep image e =
     let up : World = done_step f w k ElectStep entry.HasEnded image in either_safe w up (has_text image (f.cluster.text (record_of up))) refl
 fault_safe f w k LatestStep image e = given_safe w k (λ t. record t { tried_latest = true }) (fin.get w.tickets k)
 fault_safe f w k (BeginStep name) image e = either_safe w (tried w k) (is_latest name) (given_safe w k (λ t. record t { tried_latest = true }) (fin.get w.tickets k))
+fault_safe f w k (entry.ReadStep (entry.CommitTest name)) image e = left_safe w name (fin.get w.blobs (f.names.text name)) (told_blob f image name)
 fault_safe f w k step image e = refl
 
 -- ---- the answer of a step, and the failure that a crash might have left in its place

@@ -18,6 +18,9 @@ pub mod Grows
 pub mod SettleWhole
 pub mod DoneShard
 pub mod Take
+pub mod Testing
+pub mod Besides
+pub mod Heard
 pub mod Law
 pub mod Queues
 pub mod Evolving
@@ -61,3 +64,13 @@ pub mod TrackingEnds
 pub mod TrackingSteps
 pub mod Recording
 pub mod Ranking
+pub mod Restoring
+pub mod ReadTracking
+pub mod Going
+pub mod ReadSteps
+pub mod ReadFrames
+pub mod ReadLaws
+pub mod ReadHistories
+pub mod Shelving
+pub mod OnShelf
+pub mod ReadEnding

@@ -1,25 +1,26 @@
 -- Each moment of a legal history is a turn of the law.
-use Rattle.std.proofs.Common.{◌≡◌, ◌≢◌, ◌⊎◌, ℕ, suc, ◌+◌, ◌<◌, ◌≤◌, List, [], Bool, true, false, Option, Some, None, refl, sym, ap, ◌∙◌, subst, inl, inr, arith}
+use Rattle.std.proofs.Common.{◌≡◌, ◌≢◌, ◌⊎◌, ℕ, suc, ◌+◌, ◌<◌, ◌≤◌, List, [], Bool, true, false, Option, Some, None, refl, sym, ap, ◌∙◌, subst, inl, inr, arith, zero, ◌∷◌}
 use Rattle.std.specs.Prelude.{if◌then◌else◌, ◌&&◌, ◌==◌, nat_lt}
 use Rattle.std.proofs.lemmas.Bool.Decides.{eqb_tells}
 use Rattle.std.proofs.lemmas.Bool.{lt-ltb, le-ltb}
 use Rattle.std.specs.Cmp.Lexicographic.{nat_list_cmp_total}
 use Rattle.std.specs.FinMap as fin
 use Rattle.esr_model.specs.Names.{BlobName, Root, Latest, Snap, Meta, IndexMeta, ShardSnap, ShardIndex, File, Part, TestMaster, TestNode}
-use Rattle.esr_model.specs.Values.{Bytes, ShardResult, Formats}
+use Rattle.esr_model.specs.Values.{Bytes, ShardResult, Formats, SnapInfo, Has}
 use Rattle.esr_model.specs.Shelf.{Shelved}
 use Rattle.esr_model.specs.Kept.{first_id}
-use Rattle.esr_model.specs.Image.{Blobs, Image, At, Present}
-use Rattle.esr_core.specs.World.{World, Op, Work, Shard, Finalize, Deleting, Drop, Ticket}
+use Rattle.esr_model.specs.Image.{Blobs, Image, At, Present, Reads}
+use Rattle.esr_core.specs.World.{World, Op, Work, Shard, Finalize, Deleting, Drop, Ticket, ReadState, Restored, NotRestored, Restoring, Reader}
 use Rattle.esr_core.specs.Ready.{IsShard, IsMaster}
-use Rattle.esr_core.specs.Steps.{IsOut, PutsLatest, Raise, with_ticket, noting, settled}
+use Rattle.esr_core.specs.Restores.{IsReading, ListsPiece, waits, restore_opened, shard_ended}
+use Rattle.esr_core.specs.Steps.{IsOut, PutsLatest, Raise, with_ticket, noting, settled, Removes}
 use Rattle.esr_core.specs.Ids.{Law}
-use Rattle.esr_core.specs.Entry.{Asked, Snapshot, Given, GivenShard, GivenFinalize, GivenDrop, Why, Step, AskStep, TakeStep, DrawStep, BeginStep, CommitStep, LatestStep, FetchStep, ListStep, RaiseStep, SettleStep, DoneStep, FailedStep, FinishStep, DroppedStep, ElectStep, LookStep, Refusal, DepotFault, Reply, WasSettled, HasEnded, Refused, Entry, Moment}
-use Rattle.esr_core.specs.After.{asked, asked_op, taken_by, taken_shard, with_given, change, committing, fetching, told_blob, settled_of, settled_by, failed_of, failed_by, is_stale, dropped_of, is_latest, tried, blobs_in, after}
+use Rattle.esr_core.specs.Entry.{Asked, Snapshot, Given, GivenShard, GivenFinalize, GivenDrop, Why, Step, AskStep, TakeStep, DrawStep, BeginStep, CommitStep, LatestStep, FetchStep, ListStep, RaiseStep, SettleStep, DoneStep, FailedStep, FinishStep, DroppedStep, ElectStep, LookStep, Refusal, DepotFault, Reply, WasSettled, HasEnded, Refused, Entry, Moment, Restore, Read, ReadBlob, RestoredShard, CheckedAll, ReadFails, ReadStep, AcceptedRestore, GivenRestore, DrawTest, BeginTest, CommitTest, RemoveTests, VerifiedAll}
+use Rattle.esr_core.specs.After.{asked, asked_op, taken_by, taken_shard, with_given, change, committing, fetching, told_blob, settled_of, settled_by, failed_of, failed_by, is_stale, dropped_of, is_latest, tried, blobs_in, after, stepped, caller_after, read_told, read_over, shard_over, taken_restore, taken_restore_shard, test_left}
 use Rattle.esr_core.specs.Allowed as allowed
-use Rattle.esr_core.specs.Allowed.{latest_text, Told, SameBlobs, Adds, Accepts, Gives, GivesShard, GivesFinalize, Draws, Commits, Refinds, Puts, Raises, Settles, Fails, Finishes, Drops, Dones, Allows}
+use Rattle.esr_core.specs.Allowed.{latest_text, Told, SameBlobs, Adds, Accepts, Gives, GivesShard, GivesFinalize, Draws, Commits, Refinds, Puts, Raises, Settles, Fails, Finishes, Drops, Dones, Allows, MayRead, Fetcher, ByReader, ByCheck, RestoreAllows, OpeningRestore, NotListed, NamedByDelete, FullOfRestores, ReadAllows, ReadFound, ReadMissing, ReadFault, RestoringShard, ReaderFailing, CheckingAll, CheckFailing, ByVerify, IsOwnTest, MayRemoveTests, VerifyAllows, DrawingTest, TestSpent, BeginningTest, BeginTestFails, CommittingTest, TestTaken, CommitTestFails, RemovingTests, RemoveTestsFails, VerifyingAll, VerifyFailing}
 use Rattle.esr_core.specs.History.{counts, is_settle, command_of, command_by, commands_at}
-use Rattle.esr_core.specs.Turns.{AskCreate, AsksCreate, plain_ticket, SettleFinal, Failed, Dropped, Turn, Stays, Latests, Fetches, Raises as RaisesTurn, Finds, SettlesFinal, Elects, TakesShard, TakesFinal, TakesDrop, DrawsShard, Ending, Fails as FailsTurn, Drops as DropsTurn, Deposes, commands_of}
+use Rattle.esr_core.specs.Turns.{AskCreate, AsksCreate, plain_ticket, SettleFinal, Failed, Dropped, Turn, Stays, Latests, Fetches, Raises as RaisesTurn, Finds, SettlesFinal, Elects, TakesShard, TakesFinal, TakesDrop, DrawsShard, Ending, Fails as FailsTurn, Drops as DropsTurn, Deposes, commands_of, Besides, OpensRestore, HandsShard, ReadsMore, EndsShard, Calls, Tests, DrawsTest, AddsTest, RemovesTests}
 use Rattle.esr_core.specs.Turns as turns
 use Rattle.esr_core.specs.Entry as entry
 use Rattle.esr_core.proofs.Maps.{get_same, texts_same}
@@ -114,6 +115,12 @@ module _ (f : Formats) (w : World) where
         root_back = g.root_back;
         new_is = λ j. record (taken_by f w o (GivenFinalize info results) (g.ready.op_there j)) { blobs = blobs_same w image same j };
       })) refl refl
+  gives_turn k o (GivenRestore index number uuid) image g same =
+      plain f w 0 TakeStep (entry.Gave k o (GivenRestore index number uuid)) _
+      (Besides _ w (Stays w refl) (HandsShard _ o g.r g.s (record {
+        ready = g.ready;
+        new_is = (λ j. record (taken_restore w o index number (g.ready.there j)) { blobs = blobs_in image w.blobs }) ∙ (λ j. record (taken_restore_shard w o g.r (g.found j)) { blobs = blobs_same w image same j });
+      }))) refl refl
   gives_turn k o GivenDrop image g same =
       plain f w 0 TakeStep (entry.Gave k o GivenDrop) _ (TakesDrop _ o (record { ready = g; new_is = dropping (fin.get w.ops o) })) refl refl
     where
@@ -309,83 +316,225 @@ of_told i None P e h = absurd (cc)
 of_told i (Some x) P e h = subst (λ (y : Image). P y.blobs) (some_same _ _ e) h
 
 module _ (f : Formats) (size : ℕ) (w : World) (shelf : List Shelved) (l : Law f w shelf) (i : Image)
-    (doing : (k : ℕ) (r : ShardResult) → Dones f size w k r (Some i) → i.blobs ≡ w.blobs → Turned f w k (DoneStep r) HasEnded (after f w (moment k (DoneStep r) HasEnded (Some i))))
+    (doing : (k : ℕ) (r : ShardResult) → Dones f size w k r (Some i) → i.blobs ≡ w.blobs → Turned f w k (DoneStep r) HasEnded (stepped f w (moment k (DoneStep r) HasEnded (Some i))))
     (asking : (name : Bytes) (indices : List entry.AskedIndex) (time o : ℕ) → Accepts f w name indices time o → AskCreate f w (asked_op w name indices time) (asked w (Snapshot name indices time))) where
-  ask_turn : (name : Bytes) (indices : List entry.AskedIndex) (time o : ℕ) (image : Option Image) → Accepts f w name indices time o → SameBlobs w image → Turned f w 0 (AskStep (Snapshot name indices time)) (entry.Accepted o) (after f w (moment 0 (AskStep (Snapshot name indices time)) (entry.Accepted o) image))
+  ask_turn : (name : Bytes) (indices : List entry.AskedIndex) (time o : ℕ) (image : Option Image) → Accepts f w name indices time o → SameBlobs w image → Turned f w 0 (AskStep (Snapshot name indices time)) (entry.Accepted o) (stepped f w (moment 0 (AskStep (Snapshot name indices time)) (entry.Accepted o) image))
   ask_turn name indices time o image acc same =
       plain f w 0 _ _ _ (AsksCreate _ (asked_op w name indices time) (subst (AskCreate f w (asked_op w name indices time)) (λ j. record (asked w (Snapshot name indices time)) { blobs = sym (blobs_same w image same) j }) (asking name indices time o acc))) refl refl
 
-  ask_fails : (name : Bytes) (indices : List entry.AskedIndex) (time : ℕ) (image : Option Image) → Accepts f w name indices time w.next_op → SameBlobs w image → Turned f w 0 (AskStep (Snapshot name indices time)) (Refused DepotFault) (after f w (moment 0 (AskStep (Snapshot name indices time)) (Refused DepotFault) image))
+  ask_fails : (name : Bytes) (indices : List entry.AskedIndex) (time : ℕ) (image : Option Image) → Accepts f w name indices time w.next_op → SameBlobs w image → Turned f w 0 (AskStep (Snapshot name indices time)) (Refused DepotFault) (stepped f w (moment 0 (AskStep (Snapshot name indices time)) (Refused DepotFault) image))
   ask_fails name indices time image acc same =
       falls_plain f w 0 (AskStep (Snapshot name indices time)) (asked w (Snapshot name indices time)) (asked w (Snapshot name indices time)) (AsksCreate _ (asked_op w name indices time) (asking name indices time w.next_op acc)) _ image same refl refl refl refl
 
-  -- each answer is a turn
-  pub turn_by : (who : ℕ) (step : Step) (reply : Reply) (image : Option Image) → image ≡ Some i → Allows f size w who step reply image → Turned f w who step reply (after f w (moment who step reply image))
-  turn_by who step reply image told (allowed.Accepting name indices time o im acc same) = ask_turn name indices time o im acc same
-  turn_by who step reply image told (allowed.GivingNothing im none same) = stays f w 0 TakeStep entry.NothingReady im same refl
-  turn_by who step reply image told (allowed.Giving k o unit im is lowest g same) = gives_turn f w k o unit im g same
-  turn_by who step reply image told (allowed.Drawing k n first im d same) =
+  -- ---- restores and reading
+
+  -- a restore that is asked
+  asks_restore : (name place : Bytes) (reply : Reply) (image : Option Image) → image ≡ Some i → RestoreAllows f w name reply image → SameBlobs w image → Turned f w 0 (AskStep (Restore name place)) reply (stepped f w (moment 0 (AskStep (Restore name place)) reply image))
+  asks_restore name place reply image told (OpeningRestore o uuid indices im acc) same =
+      let info = of_told i im (λ blobs. (info : SnapInfo) × Reads (At f w.blobs) (Snap uuid) f.info info × (info.indices ≡ indices)) told acc.indices_of.told in
+      plain f w 0 (AskStep (Restore name place)) (AcceptedRestore o uuid indices) _
+      (Besides _ w (Stays w refl) (OpensRestore _ uuid place indices (record {
+        listed = (acc.listed.0, acc.listed.1, acc.listed.3);
+        spared = acc.spared;
+        info = info.0;
+        info_reads = info.1;
+        indices_is = info.2;
+        apart = acc.indices_of.apart;
+        new_is = λ j. record (restore_opened w uuid place indices) { blobs = blobs_same w im same j };
+      }))) refl refl
+  asks_restore name place reply image told (NotListed im none) same = stays f w 0 (AskStep (Restore name place)) _ im same refl
+  asks_restore name place reply image told (NamedByDelete uuid d im listed named) same = stays f w 0 (AskStep (Restore name place)) _ im same refl
+  asks_restore name place reply image told (FullOfRestores uuid im listed spared full) same = stays f w 0 (AskStep (Restore name place)) _ im same refl
+
+  -- a blob that a restore's ticket fetched
+  reads_by : (k : ℕ) (name : BlobName) (image : Option Image) → image ≡ Some i → (q : Reader) → IsReading w k q → MayRead f q name image → (bytes : Bytes) → At f w.blobs name bytes → told_blob f image name ≡ Some bytes → SameBlobs w image
+      → Turned f w k (ReadStep (ReadBlob name)) entry.WasFetched (stepped f w (moment k (ReadStep (ReadBlob name)) entry.WasFetched image))
+  reads_by zero name image told q out may bytes at is same = stays f w 0 (ReadStep (ReadBlob name)) entry.WasFetched image same refl
+  reads_by (suc k) name image told q out may bytes at is same =
+      plain f w (suc k) (ReadStep (ReadBlob name)) entry.WasFetched _
+      (Besides _ w (Stays w refl) (ReadsMore _ (suc k) name bytes (record {
+        q = q;
+        reading = out;
+        there = at;
+        may = elim may [ inl e ↦ inl e | inr piece ↦ inr (of_told i image (λ blobs. ListsPiece f q name) told piece.1) ];
+        new_is = λ j. record (read_told w (suc k) name (is j) (out.there j)) { blobs = blobs_same w image same j };
+      }))) refl refl
+
+  found_by : (k : ℕ) (name : BlobName) (image : Option Image) → image ≡ Some i → Fetcher f w name image k → (bytes : Bytes) → At f w.blobs name bytes → told_blob f image name ≡ Some bytes → SameBlobs w image
+      → Turned f w k (ReadStep (ReadBlob name)) entry.WasFetched (stepped f w (moment k (ReadStep (ReadBlob name)) entry.WasFetched image))
+  found_by who name image told (ByReader k q out may) bytes at is same = reads_by k name image told q out may bytes at is same
+  found_by who name image told (ByCheck may) bytes at is same = stays f w 0 (ReadStep (ReadBlob name)) entry.WasFetched image same refl
+  found_by who name image told (ByVerify may) bytes at is same = stays f w 0 (ReadStep (ReadBlob name)) entry.WasFetched image same refl
+
+  missing_by : (k : ℕ) (name : BlobName) (image : Option Image) → SameBlobs w image → Turned f w k (ReadStep (ReadBlob name)) entry.WasAbsent (stepped f w (moment k (ReadStep (ReadBlob name)) entry.WasAbsent image))
+  missing_by zero name image same = stays f w 0 (ReadStep (ReadBlob name)) entry.WasAbsent image same refl
+  missing_by (suc k) name image same = stays f w (suc k) (ReadStep (ReadBlob name)) entry.WasAbsent image same refl
+
+  -- a ticket of a restore that ended: where its restore is open, the shard has gone on
+  over_by : (k : ℕ) (step : Step) (state : ReadState) (image : Option Image) (q : Reader) → IsReading w k q → waits state ≡ false → SameBlobs w image → is_settle step ≡ false → (r : Option Restoring) → fin.get w.restores q.op ≡ r
+      → Turned f w k step HasEnded (record (shard_over w k state q r) { blobs = blobs_in image w.blobs })
+  over_by k step state image q out over same no_settle None there = plain f w k step HasEnded _ (Stays _ (λ j. record w { blobs = blobs_same w image same j })) no_settle refl
+  over_by k step state image q out over same no_settle (Some r) there =
+      plain f w k step HasEnded _
+      (Besides _ w (Stays w refl) (EndsShard _ k state (record { q = q; reading = out; r = r; there = there; over = over; new_is = λ j. record (shard_ended w k q r state) { blobs = blobs_same w image same j } }))) no_settle refl
+
+  restored_by : (k files bytes : ℕ) (image : Option Image) (q : Reader) → IsReading w k q → SameBlobs w image → Turned f w k (ReadStep (RestoredShard files bytes)) HasEnded (stepped f w (moment k (ReadStep (RestoredShard files bytes)) HasEnded image))
+  restored_by zero files bytes image q out same = stays f w 0 (ReadStep (RestoredShard files bytes)) HasEnded image same refl
+  restored_by (suc k) files bytes image q out same =
+      subst (λ x. Turned f w (suc k) (ReadStep (RestoredShard files bytes)) HasEnded (record (read_over w (suc k) (Restored files bytes) x) { blobs = blobs_in image w.blobs })) (sym out.there)
+      (over_by (suc k) (ReadStep (RestoredShard files bytes)) (Restored files bytes) image q out refl same refl (fin.get w.restores q.op) refl)
+
+  unrestored_by : (k : ℕ) (why : Why) (image : Option Image) (q : Reader) → IsReading w k q → SameBlobs w image → Turned f w k (ReadStep (ReadFails why)) HasEnded (stepped f w (moment k (ReadStep (ReadFails why)) HasEnded image))
+  unrestored_by zero why image q out same = stays f w 0 (ReadStep (ReadFails why)) HasEnded image same refl
+  unrestored_by (suc k) why image q out same =
+      subst (λ x. Turned f w (suc k) (ReadStep (ReadFails why)) HasEnded (record (read_over w (suc k) (NotRestored why) x) { blobs = blobs_in image w.blobs })) (sym out.there)
+      (over_by (suc k) (ReadStep (ReadFails why)) (NotRestored why) image q out refl same refl (fin.get w.restores q.op) refl)
+
+  -- what an image tells that has these blobs
+  told_here : (name : BlobName) (image : Option Image) → image ≡ Some i → SameBlobs w image → told_blob f image name ≡ fin.get w.blobs (f.names.text name)
+  told_here name None told same = absurd (cc)
+  told_here name (Some x) told same = ap (λ (b : Blobs). fin.get b (f.names.text name)) same
+
+  reads : (k : ℕ) (read : Read) (reply : Reply) (image : Option Image) → image ≡ Some i → ReadAllows f w k read reply image → SameBlobs w image → Turned f w k (ReadStep read) reply (stepped f w (moment k (ReadStep read) reply image))
+  reads k read reply image told (ReadFound j name im stored by found) same =
+      let here = of_told i im (λ blobs. (bytes : Bytes) × (fin.get w.blobs (f.names.text name) ≡ Some bytes)) told found in
+      found_by j name im told by here.0 (here.1, stored) (told_here name im told same ∙ here.1) same
+  reads k read reply image told (ReadMissing j name im stored by none) same = missing_by j name im same
+  reads k read reply image told (ReadFault j name im stored by) same = fault_stays f w j (ReadStep (ReadBlob name)) im same refl
+  reads k read reply image told (RestoringShard j files bytes im q out done) same = restored_by j files bytes im q out same
+  reads k read reply image told (ReaderFailing j why im q out) same = unrestored_by j why im q out same
+  reads k read reply image told (CheckingAll snapshots blobs im checks) same = stays f w 0 (ReadStep (CheckedAll snapshots blobs)) HasEnded im same refl
+  reads k read reply image told (CheckFailing why im looked) same = stays f w 0 (ReadStep (ReadFails why)) HasEnded im same refl
+
+  -- ---- a verification
+
+  left_same : (name : BlobName) (o : Option Bytes) → test_left w name o o ≡ w
+  left_same name None = refl
+  left_same name (Some b) = refl
+
+  commits_test : (name : BlobName) (bytes : Bytes) → IsOwnTest f w name → Adds f w name bytes i.blobs → Turned f w 0 (ReadStep (CommitTest name)) entry.WasDone (stepped f w (moment 0 (ReadStep (CommitTest name)) entry.WasDone (Some i)))
+  commits_test name bytes own adds =
+      plain f w 0 (ReadStep (CommitTest name)) entry.WasDone _
+      (Tests _ (AddsTest _ name bytes (record { named = own.stored; id = own.id; test = own.test; drawn = own.below; absent = adds.0; new_is = λ j. record w { doomed = name ∷ w.doomed; blobs = adds.1 j } }))) refl refl
+
+  fails_test : (name : BlobName) (bytes : Bytes) → IsOwnTest f w name → (i.blobs ≡ w.blobs) ⊎ Adds f w name bytes i.blobs → Turned f w 0 (ReadStep (CommitTest name)) (Refused DepotFault) (stepped f w (moment 0 (ReadStep (CommitTest name)) (Refused DepotFault) (Some i)))
+  fails_test name bytes own (inl e) =
+      let was : Option Bytes = fin.get w.blobs (f.names.text name) in
+      plain f w 0 (ReadStep (CommitTest name)) (Refused DepotFault) _
+      (Stays _ ((λ j. record (test_left w name was (fin.get (e j) (f.names.text name))) { blobs = e j }) ∙ (λ j. record (left_same name was j) { blobs = w.blobs }))) refl refl
+  fails_test name bytes own (inr adds) =
+      let now : fin.get i.blobs (f.names.text name) ≡ Some bytes = ap (λ (b : Blobs). fin.get b (f.names.text name)) adds.1 ∙ get_same nat_list_cmp_total texts_same w.blobs (f.names.text name) bytes in
+      plain f w 0 (ReadStep (CommitTest name)) (Refused DepotFault) _
+      (Tests _ (AddsTest _ name bytes (record {
+        named = own.stored;
+        id = own.id;
+        test = own.test;
+        drawn = own.below;
+        absent = adds.0;
+        new_is = λ j. record (test_left w name (adds.0 j) (now j)) { blobs = adds.1 j };
+      }))) refl refl
+
+  removes_tests : (names : List BlobName) (reply : Reply) → MayRemoveTests w names → Removes f w.blobs i.blobs names → Turned f w 0 (ReadStep (RemoveTests names)) reply (record w { blobs = i.blobs })
+  removes_tests names reply may removes =
+      plain f w 0 (ReadStep (RemoveTests names)) reply _ (Tests _ (RemovesTests _ names (record { doomed = may.doomed; now = i.blobs; removes = removes; new_is = refl }))) refl refl
+
+  verifies : (read : Read) (reply : Reply) (image : Option Image) → image ≡ Some i → VerifyAllows f w read reply image → Turned f w 0 (ReadStep read) reply (stepped f w (moment 0 (ReadStep read) reply image))
+  verifies read reply image told (DrawingTest im idle fits same) =
+      plain f w 0 (ReadStep DrawTest) (entry.DrawnFrom w.next_id) _ (Tests _ (DrawsTest _ (record { fits = fits; new_is = λ j. record w { next_id = suc w.next_id; blobs = blobs_same w im same j } }))) refl refl
+  verifies read reply image told (TestSpent im idle spent same) = stays f w 0 (ReadStep DrawTest) _ im same refl
+  verifies read reply image told (BeginningTest name im own same) = stays f w 0 (ReadStep (BeginTest name)) entry.WasBegun im same refl
+  verifies read reply image told (BeginTestFails name im own same) = fault_stays f w 0 (ReadStep (BeginTest name)) im same refl
+  verifies read reply image told (CommittingTest name bytes im own new adds) =
+      subst (λ x. Turned f w 0 (ReadStep (CommitTest name)) entry.WasDone (stepped f w (moment 0 (ReadStep (CommitTest name)) entry.WasDone x))) (sym told) (commits_test name bytes own (of_told i im (Adds f w name bytes) told adds))
+  verifies read reply image told (TestTaken name im own found) =
+      stays f w 0 (ReadStep (CommitTest name)) _ im (subst (SameBlobs w) (sym told) (of_told i im (λ blobs. Present f w.blobs name × (blobs ≡ w.blobs)) told found).1) refl
+  verifies read reply image told (CommitTestFails name bytes im own leaves) =
+      subst (λ x. Turned f w 0 (ReadStep (CommitTest name)) (Refused DepotFault) (stepped f w (moment 0 (ReadStep (CommitTest name)) (Refused DepotFault) x))) (sym told)
+      (fails_test name bytes own (of_told i im (λ blobs. (blobs ≡ w.blobs) ⊎ Adds f w name bytes blobs) told leaves))
+  verifies read reply image told (RemovingTests names im may left) =
+      subst (λ x. Turned f w 0 (ReadStep (RemoveTests names)) entry.WasRemoved (stepped f w (moment 0 (ReadStep (RemoveTests names)) entry.WasRemoved x))) (sym told)
+      (removes_tests names entry.WasRemoved may (of_told i im (λ blobs. Removes f w.blobs blobs names × ((name : BlobName) → Has names name → fin.get blobs (f.names.text name) ≡ None)) told left).0)
+  verifies read reply image told (RemoveTestsFails names im may left) =
+      subst (λ x. Turned f w 0 (ReadStep (RemoveTests names)) (Refused DepotFault) (stepped f w (moment 0 (ReadStep (RemoveTests names)) (Refused DepotFault) x))) (sym told)
+      (removes_tests names (Refused DepotFault) may (of_told i im (λ blobs. Removes f w.blobs blobs names) told left))
+  verifies read reply image told (VerifyingAll im done same) = stays f w 0 (ReadStep VerifiedAll) HasEnded im same refl
+  verifies read reply image told (VerifyFailing why id im drawn same) = stays f w 0 (ReadStep (ReadFails why)) HasEnded im same refl
+
+  -- each answer is a turn, what who 0 has done aside
+  turn_of : (who : ℕ) (step : Step) (reply : Reply) (image : Option Image) → image ≡ Some i → Allows f size w who step reply image → Turned f w who step reply (stepped f w (moment who step reply image))
+  turn_of who step reply image told (allowed.Accepting name indices time o im acc same) = ask_turn name indices time o im acc same
+  turn_of who step reply image told (allowed.GivingNothing im none same) = stays f w 0 TakeStep entry.NothingReady im same refl
+  turn_of who step reply image told (allowed.Giving k o unit im is lowest g same) = gives_turn f w k o unit im g same
+  turn_of who step reply image told (allowed.Drawing k n first im d same) =
       plain f w k (DrawStep n) (entry.DrawnFrom first) _
       (DrawsShard _ k n (record { t = d.may.t; out = d.may.out; shard = d.may.shard; once = d.may.once; fits = d.fits; new_is = λ j. record (record (with_given w k (λ (t : Ticket). record t { first = w.next_id; drawn = n }) (d.may.out.there j)) { next_id = w.next_id + n }) { blobs = blobs_same w im same j } })) refl refl
-  turn_by who step reply image told (allowed.Beginning k name im c same) = stays f w k (BeginStep name) entry.WasBegun im same refl
-  turn_by who step reply image told (allowed.BeginningLatest k im c same) = stays f w k (BeginStep Latest) entry.WasBegun im same refl
-  turn_by who step reply image told (allowed.Committing k name im c adds) =
-      subst (λ x. Turned f w k (CommitStep name) entry.WasDone (after f w (moment k (CommitStep name) entry.WasDone x))) (sym told) (commit_turn f w k name i c (of_told i im (Adds f w name c.bytes) told adds))
-  turn_by who step reply image told (allowed.Finding k name im c found) =
+  turn_of who step reply image told (allowed.Beginning k name im c same) = stays f w k (BeginStep name) entry.WasBegun im same refl
+  turn_of who step reply image told (allowed.BeginningLatest k im c same) = stays f w k (BeginStep Latest) entry.WasBegun im same refl
+  turn_of who step reply image told (allowed.Committing k name im c adds) =
+      subst (λ x. Turned f w k (CommitStep name) entry.WasDone (stepped f w (moment k (CommitStep name) entry.WasDone x))) (sym told) (commit_turn f w k name i c (of_told i im (Adds f w name c.bytes) told adds))
+  turn_of who step reply image told (allowed.Finding k name im c found) =
       let here = of_told i im (λ blobs. Present f w.blobs name × (blobs ≡ w.blobs)) told found in
       find_turn f w k name im c here.0.0 here.0.1 (subst (SameBlobs w) (sym told) here.1)
-  turn_by who step reply image told (allowed.Replacing k im c named puts) =
+  turn_of who step reply image told (allowed.Replacing k im c named puts) =
       let here = of_told i im (λ blobs. blobs ≡ fin.insert w.blobs (f.names.text Latest) (latest_text c.n)) told puts in
       latest_turn f w k LatestStep entry.WasReplaced im c refl (blobs_in im w.blobs) (inr (latest_text c.n, blobs_told w i im told ∙ here, named))
-  turn_by who step reply image told (allowed.Fetching k name im g found) =
+  turn_of who step reply image told (allowed.Fetching k name im g found) =
       let here = of_told i im (λ blobs. (bytes : Bytes) × (fin.get w.blobs (f.names.text name) ≡ Some bytes) × (blobs ≡ w.blobs)) told found in
-      subst (λ x. Turned f w k (FetchStep name) entry.WasFetched (after f w (moment k (FetchStep name) entry.WasFetched x))) (sym told) (fetch_turn f w k name i g.t g.out here.0 (here.1, g.stored) here.2)
-  turn_by who step reply image told (allowed.Missing k name im g found) =
+      subst (λ x. Turned f w k (FetchStep name) entry.WasFetched (stepped f w (moment k (FetchStep name) entry.WasFetched x))) (sym told) (fetch_turn f w k name i g.t g.out here.0 (here.1, g.stored) here.2)
+  turn_of who step reply image told (allowed.Missing k name im g found) =
       let here = of_told i im (λ blobs. (fin.get w.blobs (f.names.text name) ≡ None) × (blobs ≡ w.blobs)) told found in
       stays f w k (FetchStep name) entry.WasAbsent im (subst (SameBlobs w) (sym told) here.1) refl
-  turn_by who step reply image told (allowed.Listing k im t out same) = stays f w k ListStep entry.WasListed im same refl
-  turn_by who step reply image told (allowed.Raising k n im r same) = plain f w k RaiseStep (entry.RaisedTo n) _ (RaisesTurn _ k (raise_turn f w k n im r same)) refl refl
-  turn_by who step reply image told (allowed.Settling k im s same) = settle_turn f w shelf l k im s same
-  turn_by who step reply image told (allowed.Doing k r im d same) =
-      subst (λ x. Turned f w k (DoneStep r) HasEnded (after f w (moment k (DoneStep r) HasEnded x))) (sym told)
+  turn_of who step reply image told (allowed.Listing k im t out same) = stays f w k ListStep entry.WasListed im same refl
+  turn_of who step reply image told (allowed.Raising k n im r same) = plain f w k RaiseStep (entry.RaisedTo n) _ (RaisesTurn _ k (raise_turn f w k n im r same)) refl refl
+  turn_of who step reply image told (allowed.Settling k im s same) = settle_turn f w shelf l k im s same
+  turn_of who step reply image told (allowed.Doing k r im d same) =
+      subst (λ x. Turned f w k (DoneStep r) HasEnded (stepped f w (moment k (DoneStep r) HasEnded x))) (sym told)
       (doing k r (subst (Dones f size w k r) told d) (subst (SameBlobs w) told same))
-  turn_by who step reply image told (allowed.Failing k why im c same) = fails_turn f w k why im c same
-  turn_by who step reply image told (allowed.Finishing k im c same) = ends_turn f w k im c same
-  turn_by who step reply image told (allowed.Dropping k im c same) =
+  turn_of who step reply image told (allowed.Failing k why im c same) = fails_turn f w k why im c same
+  turn_of who step reply image told (allowed.Finishing k im c same) = ends_turn f w k im c same
+  turn_of who step reply image told (allowed.Dropping k im c same) =
       plain f w k DroppedStep HasEnded _ (drop_turn f w k c _ (λ j. record (dropped_of w k (c.may.out.there j)) { blobs = blobs_same w im same j })) refl refl
-  turn_by who step reply image told (allowed.Electing im room same) = plain f w 0 ElectStep _ _ (Elects _ (record { new_is = λ j. record w { term = suc w.term; next_id = first_id (suc w.term); blobs = blobs_same w im same j } })) refl refl
-  turn_by who step reply image told (allowed.Looking im same) = stays f w 0 LookStep _ im same refl
-  turn_by who step reply image told (allowed.Cleaning c d x im there clean same) = stays f w 0 (AskStep c) _ im same refl
-  turn_by who step reply image told (allowed.Used name indices time uuid im clear is same) = stays f w 0 (AskStep (Snapshot name indices time)) _ im same refl
-  turn_by who step reply image told (allowed.Full name indices time im clear unused full same) = stays f w 0 (AskStep (Snapshot name indices time)) _ im same refl
-  turn_by who step reply image told (allowed.AskSpent name indices time im clear unused room spent same) = stays f w 0 (AskStep (Snapshot name indices time)) _ im same refl
-  turn_by who step reply image told (allowed.DrawSpent k n im may spent same) = stays f w k (DrawStep n) _ im same refl
-  turn_by who step reply image told (allowed.RaiseStale k im may apart same) = stays f w k RaiseStep _ im same refl
-  turn_by who step reply image told (allowed.SettleStale k n t s im may apart same) = stays f w k SettleStep _ im same refl
-  turn_by who step reply image told (allowed.DropStale k im may apart same) = stays f w k DroppedStep _ im same refl
-  turn_by who step reply image told (allowed.RaiseSpent k im may present spent same) = stays f w k RaiseStep _ im same refl
-  turn_by who step reply image told (allowed.ElectSpent im spent same) = stays f w 0 ElectStep _ im same refl
-  turn_by who step reply image told (allowed.Taken k name im c aside found) =
+  turn_of who step reply image told (allowed.Electing im room same) = plain f w 0 ElectStep _ _ (Elects _ (record { new_is = λ j. record w { term = suc w.term; next_id = first_id (suc w.term); blobs = blobs_same w im same j } })) refl refl
+  turn_of who step reply image told (allowed.Looking im same) = stays f w 0 LookStep _ im same refl
+  turn_of who step reply image told (allowed.AskingRestore name place rep im h same) = asks_restore name place rep im told h same
+  turn_of who step reply image told (allowed.Reading k read rep im h same) = reads k read rep im told h same
+  turn_of who step reply image told (allowed.Verifying read rep im h) = verifies read rep im told h
+  turn_of who step reply image told (allowed.Cleaning c d x im recorded there clean same) = stays f w 0 (AskStep c) _ im same refl
+  turn_of who step reply image told (allowed.Used name indices time uuid im clear is same) = stays f w 0 (AskStep (Snapshot name indices time)) _ im same refl
+  turn_of who step reply image told (allowed.Full name indices time im clear unused full same) = stays f w 0 (AskStep (Snapshot name indices time)) _ im same refl
+  turn_of who step reply image told (allowed.AskSpent name indices time im clear unused room spent same) = stays f w 0 (AskStep (Snapshot name indices time)) _ im same refl
+  turn_of who step reply image told (allowed.DrawSpent k n im may spent same) = stays f w k (DrawStep n) _ im same refl
+  turn_of who step reply image told (allowed.RaiseStale k im may apart same) = stays f w k RaiseStep _ im same refl
+  turn_of who step reply image told (allowed.SettleStale k n t s im may apart same) = stays f w k SettleStep _ im same refl
+  turn_of who step reply image told (allowed.DropStale k im may apart same) = stays f w k DroppedStep _ im same refl
+  turn_of who step reply image told (allowed.RaiseSpent k im may present spent same) = stays f w k RaiseStep _ im same refl
+  turn_of who step reply image told (allowed.ElectSpent im spent same) = stays f w 0 ElectStep _ im same refl
+  turn_of who step reply image told (allowed.Taken k name im c aside found) =
       stays f w k (CommitStep name) _ im (subst (SameBlobs w) (sym told) (of_told i im (λ blobs. Present f w.blobs name × (blobs ≡ w.blobs)) told found).1) refl
-  turn_by who step reply image told (allowed.BeginFails k name im c same) = begin_fails f w k name im (not_latest name c.named.1) same
-  turn_by who step reply image told (allowed.BeginLatestFails k im c same) = latest_turn f w k (BeginStep Latest) (Refused DepotFault) im c refl (blobs_in im w.blobs) (inl (blobs_same w im same))
-  turn_by who step reply image told (allowed.CommitFails k name im c leaves) =
-      subst (λ x. Turned f w k (CommitStep name) (Refused DepotFault) (after f w (moment k (CommitStep name) (Refused DepotFault) x))) (sym told)
+  turn_of who step reply image told (allowed.BeginFails k name im c same) = begin_fails f w k name im (not_latest name c.named.1) same
+  turn_of who step reply image told (allowed.BeginLatestFails k im c same) = latest_turn f w k (BeginStep Latest) (Refused DepotFault) im c refl (blobs_in im w.blobs) (inl (blobs_same w im same))
+  turn_of who step reply image told (allowed.CommitFails k name im c leaves) =
+      subst (λ x. Turned f w k (CommitStep name) (Refused DepotFault) (stepped f w (moment k (CommitStep name) (Refused DepotFault) x))) (sym told)
       (commit_fails f w k name i c (of_told i im (λ blobs. (blobs ≡ w.blobs) ⊎ Adds f w name c.bytes blobs) told leaves))
-  turn_by who step reply image told (allowed.ReplaceFails k im c named puts) =
+  turn_of who step reply image told (allowed.ReplaceFails k im c named puts) =
       latest_turn f w k LatestStep (Refused DepotFault) im c refl (blobs_in im w.blobs) (elim (of_told i im (λ blobs. (blobs ≡ w.blobs) ⊎ (blobs ≡ fin.insert w.blobs (f.names.text Latest) (latest_text c.n))) told puts) [
         | inl e ↦ inl (blobs_told w i im told ∙ e)
         | inr e ↦ inr (latest_text c.n, blobs_told w i im told ∙ e, named)
       ])
-  turn_by who step reply image told (allowed.FetchFails k name im g same) = fault_stays f w k (FetchStep name) im same refl
-  turn_by who step reply image told (allowed.ListFails k im t out same) = fault_stays f w k ListStep im same refl
-  turn_by who step reply image told (allowed.AskFails name indices time im acc same) = ask_fails name indices time im acc same
-  turn_by who step reply image told (allowed.RaiseFails k im r same) =
+  turn_of who step reply image told (allowed.FetchFails k name im g same) = fault_stays f w k (FetchStep name) im same refl
+  turn_of who step reply image told (allowed.ListFails k im t out same) = fault_stays f w k ListStep im same refl
+  turn_of who step reply image told (allowed.AskFails name indices time im acc same) = ask_fails name indices time im acc same
+  turn_of who step reply image told (allowed.RaiseFails k im r same) =
       falls_plain f w k RaiseStep _ (record w { pending = suc w.pending; tickets = fin.insert w.tickets k (record r.may.t { raised = Some w.pending }) })
       (RaisesTurn _ k (record { t = r.may.t; out = r.may.out; swapped = r.may.s; is = r.may.is; unsettled = r.may.unsettled; present = r.present; once = r.may.once; new_is = refl })) _ im same
       (λ j. record (with_given w k (λ (t : Ticket). record t { raised = Some w.pending }) (r.may.out.there j)) { pending = suc w.pending }) refl refl refl
-  turn_by who step reply image told (allowed.SettleFails k im s same) = settle_fails f w shelf l k s _ im same
-  turn_by who step reply image told (allowed.DropFails k im c same) =
+  turn_of who step reply image told (allowed.SettleFails k im s same) = settle_fails f w shelf l k s _ im same
+  turn_of who step reply image told (allowed.DropFails k im c same) =
       falls_plain f w k DroppedStep _ (record w { ops = fin.remove w.ops c.may.t.op; deletes = fin.remove w.deletes c.may.t.op; tickets = fin.insert w.tickets k (record c.may.t { out = false }) })
       (drop_turn f w k c _ refl) _ im same (λ j. dropped_of w k (c.may.out.there j)) refl refl refl
-  turn_by who step reply image told (allowed.ElectFails im room same) = falls_plain f w 0 ElectStep _ _ (Elects _ (record { new_is = refl })) _ im same refl refl refl refl
+  turn_of who step reply image told (allowed.ElectFails im room same) = falls_plain f w 0 ElectStep _ _ (Elects _ (record { new_is = refl })) _ im same refl refl refl refl
+
+  pub turn_by : (who : ℕ) (step : Step) (reply : Reply) (image : Option Image) → image ≡ Some i → Allows f size w who step reply image → Turned f w who step reply (after f w (moment who step reply image))
+  turn_by who step reply image told a =
+      let t = turn_of who step reply image told a in
+      record { turn = Besides _ (stepped f w (moment who step reply image)) t.turn (Calls _ (caller_after f (stepped f w (moment who step reply image)).caller who step reply image) refl); commands = t.commands; early = t.early }

@@ -7,8 +7,9 @@ use Rattle.esr_model.specs.Values.{Has, Formats}
 use Rattle.esr_model.specs.Shelf.{Shelved}
 use Rattle.esr_model.specs.Kept.{first_id}
 use Rattle.esr_core.specs.World.{World, Deletion}
-use Rattle.esr_core.specs.Turns.{IsKnown, Turn, Stays, Commits, CommitFails, Finds, Raises, Latests, Fetches, SettlesFinal, SettlesDelete, Elects, TakesShard, TakesFinal, TakesDrop, TakesDelete, TakesCleanup, AsksCleanup, CleanDrops, DrawsShard, DrawsPlan, Dones, Ending, Fails, FailsDelete, Drops, AsksCreate, AsksDelete, Merges, Removing, Deposes}
+use Rattle.esr_core.specs.Turns.{IsKnown, Turn, Stays, Commits, CommitFails, Finds, Raises, Latests, Fetches, SettlesFinal, SettlesDelete, Elects, TakesShard, TakesFinal, TakesDrop, TakesDelete, TakesCleanup, AsksCleanup, CleanDrops, DrawsShard, DrawsPlan, Dones, Ending, Fails, FailsDelete, Drops, AsksCreate, AsksDelete, Merges, Removing, Deposes, Besides, Tests, TestTurn, DrawsTest, AddsTest, RemovesTests}
 use Rattle.esr_core.specs.Ids.{DeletionIds, InTerm, Law}
+use Rattle.esr_core.proofs.Besides.{aside_of, term_aside, kept_aside}
 use Rattle.esr_core.proofs.Reading.{Has-either}
 use Rattle.esr_core.proofs.Queues.{was_in, left_in}
 
@@ -31,6 +32,9 @@ drawn_term w new n t e fits h =
       below = subst (λ x. new.next_id < first_id (suc x)) (sym t) (subst (λ x. x < first_id (suc w.term)) (sym e) fits);
     }
 
+one_more : (n : ℕ) → suc n ≡ n + 1
+one_more n = omega arith
+
 abbrev term_of : World → ℕ
 term_of w = w.term
 
@@ -39,6 +43,11 @@ next_of w = w.next_id
 
 abbrev deletes_of : World → Deletions
 deletes_of w = w.deletes
+
+tests_term : (f : Formats) (w : World) → InTerm w → (new : World) → TestTurn f w new → InTerm new
+tests_term f w l new (DrawsTest m d) = drawn_term w m 1 (ap term_of d.new_is) (ap next_of d.new_is ∙ one_more w.next_id) (let b : suc w.next_id < first_id (suc w.term) = d.fits in omega (arith, b)) l
+tests_term f w l new (AddsTest m name bytes a) = same_term w m (ap term_of a.new_is) (ap next_of a.new_is) l
+tests_term f w l new (RemovesTests m names r) = same_term w m (ap term_of r.new_is) (ap next_of r.new_is) l
 
 pub turn_in_term : (f : Formats) (w new : World) → InTerm w → Turn f w new → InTerm new
 turn_in_term f w new l (Stays m e) = same_term w m (ap term_of e) (ap next_of e) l
@@ -70,6 +79,8 @@ turn_in_term f w new l (AsksDelete m uuids h) = same_term w m (ap term_of h.new_
 turn_in_term f w new l (Merges m uuids n h) = same_term w m (ap term_of h.new_is) (ap next_of h.new_is) l
 turn_in_term f w new l (Removing m k names h) = same_term w m (ap term_of h.new_is) (ap next_of h.new_is) l
 turn_in_term f w new l (Deposes m up h e) = same_term up m (ap term_of e) (ap next_of e) (turn_in_term f w up l h)
+turn_in_term f w new l (Tests m t) = tests_term f w l m t
+turn_in_term f w new l (Besides m up h r) = term_aside up m (aside_of f up m r) (turn_in_term f w up l h)
 
 -- deletes that were, or that name known uuids alone
 below_from : (c d : ℕ) (old now : Deletions) → c ≤ d → ((n : ℕ) (x : Deletion) → fin.get now n ≡ Some x → (u : ℕ) → Has x.uuids u → ((p : ℕ) × (y : Deletion) × (fin.get old p ≡ Some y) × Has y.uuids u) ⊎ (u < c)) → DeletionIds c old → DeletionIds d now
@@ -101,6 +112,11 @@ module _ (f : Formats) (w : World) (shelf : List Shelved) (l : Law f w shelf) wh
   chosen : (b : Bool) (a c : Deletions) → ((if b then a else c) ≡ a) ⊎ ((if b then a else c) ≡ c)
   chosen true a c = inl refl
   chosen false a c = inr refl
+
+tests_deletions : (f : Formats) (w : World) (shelf : List Shelved) → Law f w shelf → (new : World) → TestTurn f w new → DeletionIds new.next_id new.deletes
+tests_deletions f w shelf l new (DrawsTest m d) = more_below w m 1 (ap next_of d.new_is ∙ one_more w.next_id) (ap deletes_of d.new_is) l.deletions
+tests_deletions f w shelf l new (AddsTest m name bytes a) = same_below w m (ap next_of a.new_is) (ap deletes_of a.new_is) l.deletions
+tests_deletions f w shelf l new (RemovesTests m names r) = same_below w m (ap next_of r.new_is) (ap deletes_of r.new_is) l.deletions
 
 pub turn_deletions : (f : Formats) (w new : World) (shelf : List Shelved) → Law f w shelf → Turn f w new → DeletionIds new.next_id new.deletes
 turn_deletions f w new shelf l (Stays m e) = same_below w m (ap next_of e) (ap deletes_of e) l.deletions
@@ -137,3 +153,5 @@ turn_deletions f w new shelf l (Merges m uuids n h) = put_below w m n (record h.
     (λ u has. elim (Has-either h.x.uuids h.more u has) [ inl was ↦ l.deletions n h.x h.there u was | inr new_one ↦ known_below f w shelf l u (h.known u new_one) ]) l.deletions
 turn_deletions f w new shelf l (Removing m k names h) = same_below w m (ap next_of h.new_is) (ap deletes_of h.new_is) l.deletions
 turn_deletions f w new shelf l (Deposes m up h e) = same_below up m (ap next_of e) (ap deletes_of e) (turn_deletions f w up shelf l h)
+turn_deletions f w new shelf l (Tests m t) = tests_deletions f w shelf l m t
+turn_deletions f w new shelf l (Besides m up h r) = kept_aside (λ (x : World). DeletionIds x.next_id x.deletes) up m (aside_of f up m r) (turn_deletions f w up shelf l h)

@@ -10,15 +10,16 @@ use Rattle.esr_model.specs.Image.{Image, Blobs}
 use Rattle.esr_core.specs.World.{World, Op, Work, Shard, Finalize, Deleting, Drop, Ticket, Swap, swap_of, opened}
 use Rattle.esr_core.specs.Ready.{IsMaster}
 use Rattle.esr_core.specs.Steps.{with_ticket}
-use Rattle.esr_core.specs.Entry.{Given, GivenShard, GivenFinalize, GivenDrop, Step, Reply, Moment}
-use Rattle.esr_core.specs.After.{taken_by, taken_shard, with_given, change, committing, fetching, told_blob, done_of, done_by, failed_of, failed_by, is_stale, settled_of, dropped_of, tried, answered, blobs_in, after}
+use Rattle.esr_core.specs.Entry.{Given, GivenShard, GivenFinalize, GivenDrop, Step, Reply, Moment, GivenRestore, Restore, AskStep, ReadStep, Read, ReadBlob, RestoredShard, ReadFails, WasFetched, WasAbsent, HasEnded}
+use Rattle.esr_core.specs.After.{taken_by, taken_shard, with_given, change, committing, fetching, told_blob, done_of, done_by, failed_of, failed_by, is_stale, settled_of, dropped_of, tried, answered, blobs_in, after, test_left}
 use Rattle.esr_core.specs.Allowed as allowed
-use Rattle.esr_core.specs.Allowed.{Gives, Settles, Fails, Drops, Dones, Allows, Allowed, MayRaise}
+use Rattle.esr_core.specs.Allowed.{Gives, Settles, Fails, Drops, Dones, Allows, Allowed, MayRaise, RestoreAllows, OpeningRestore, NotListed, NamedByDelete, FullOfRestores, ReadAllows, ReadFound, ReadMissing, ReadFault, RestoringShard, ReaderFailing, CheckingAll, CheckFailing, VerifyAllows, DrawingTest, TestSpent, BeginningTest, BeginTestFails, CommittingTest, TestTaken, CommitTestFails, RemovingTests, RemoveTestsFails, VerifyingAll, VerifyFailing}
 use Rattle.esr_core.specs.History.{world_from, IsLegal}
 use Rattle.esr_core.specs.Tracked.{Tracked}
 use Rattle.esr_core.specs.Ranked.{Ranks, Ranked}
 use Rattle.esr_core.proofs.Opening.{nothing}
 use Rattle.esr_core.proofs.Queues.{was_in}
+use Rattle.esr_core.proofs.Besides.{aside_taken, aside_by, kept_aside}
 use Rattle.esr_core.proofs.Moments.{moment, not_latest, settled_plain}
 use Rattle.esr_core.proofs.TrackingSteps.{tracked_step}
 
@@ -154,6 +155,7 @@ module _ (f : Formats) (size : ℕ) (w : World) (q : Tracked w) (l : Ranked w) w
       (ranks_raise w.safe w.pending w.term w.tickets l k m.t m.out.there (swap_master f m.t.work m.t.root m.s m.is))
 
   gives : (o : ℕ) (unit : Given) → Gives f w o unit → Ranked (taken_by f w o unit (fin.get w.ops o))
+  gives o (GivenRestore index number uuid) g = kept_aside Ranked w _ (aside_taken w o index number (fin.get w.restores o)) l
   gives o (GivenShard index number base) g =
       subst (λ x. Ranked (taken_by f w o (GivenShard index number base) x)) (sym g.ready.op_there) (subst (λ x. Ranked (taken_shard w o g.op base x)) (sym g.found) (ranks_new w.safe w.pending w.term w.tickets l w.next_ticket _ refl))
   gives o (GivenFinalize info results) g = subst (λ x. Ranked (taken_by f w o (GivenFinalize info results) x)) (sym g.ready.op_there) (ranks_new w.safe w.pending w.term w.tickets l w.next_ticket _ refl)
@@ -192,6 +194,41 @@ module _ (f : Formats) (size : ℕ) (w : World) (q : Tracked w) (l : Ranked w) w
   elects : Ranks w.safe w.pending (suc w.term) w.tickets
   elects = ranks_elect w.safe w.pending w.term w.tickets l (suc w.term) (λ k t there same. let b : t.term ≤ w.term = (q.tickets k t there).1 in absurd (omega (arith, b, same)))
 
+  -- ---- restores and reading
+
+  asks_restore : (name place : Bytes) (reply : Reply) (image : Option Image) → RestoreAllows f w name reply image → Ranked (answered f w 0 (AskStep (Restore name place)) reply image)
+  asks_restore name place reply image (OpeningRestore o uuid indices im acc) = l
+  asks_restore name place reply image (NotListed im none) = l
+  asks_restore name place reply image (NamedByDelete uuid d im listed named) = l
+  asks_restore name place reply image (FullOfRestores uuid im listed spared full) = l
+
+  reads : (k : ℕ) (read : Read) (reply : Reply) (image : Option Image) → ReadAllows f w k read reply image → Ranked (answered f w k (ReadStep read) reply image)
+  reads k read reply image (ReadFound j name im stored by found) = kept_aside Ranked w _ (aside_by f w j (ReadBlob name) WasFetched im tt) l
+  reads k read reply image (ReadMissing j name im stored by none) = kept_aside Ranked w _ (aside_by f w j (ReadBlob name) WasAbsent im tt) l
+  reads k read reply image (ReadFault j name im stored by) = l
+  reads k read reply image (RestoringShard j files bytes im q out done) = kept_aside Ranked w _ (aside_by f w j (RestoredShard files bytes) HasEnded im tt) l
+  reads k read reply image (ReaderFailing j why im q out) = kept_aside Ranked w _ (aside_by f w j (ReadFails why) HasEnded im tt) l
+  reads k read reply image (CheckingAll snapshots blobs im checks) = l
+  reads k read reply image (CheckFailing why im looked) = l
+
+  test_left_ranked : (name : BlobName) (was now : Option Bytes) → Ranked (test_left w name was now)
+  test_left_ranked name None (Some bytes) = l
+  test_left_ranked name None None = l
+  test_left_ranked name (Some was) now = l
+
+  verifies : (read : Read) (reply : Reply) (image : Option Image) → VerifyAllows f w read reply image → Ranked (answered f w 0 (ReadStep read) reply image)
+  verifies read reply image (DrawingTest im idle fits same) = l
+  verifies read reply image (TestSpent im idle spent same) = l
+  verifies read reply image (BeginningTest name im own same) = l
+  verifies read reply image (BeginTestFails name im own same) = l
+  verifies read reply image (CommittingTest name bytes im own new adds) = l
+  verifies read reply image (TestTaken name im own found) = l
+  verifies read reply image (CommitTestFails name bytes im own leaves) = test_left_ranked name (fin.get w.blobs (f.names.text name)) (told_blob f im name)
+  verifies read reply image (RemovingTests names im may left) = l
+  verifies read reply image (RemoveTestsFails names im may left) = l
+  verifies read reply image (VerifyingAll im done same) = l
+  verifies read reply image (VerifyFailing why id im drawn same) = l
+
   -- ---- each answer
 
   ranked_by : (who : ℕ) (step : Step) (reply : Reply) (image : Option Image) → Allows f size w who step reply image → Ranked (after f w (moment who step reply image))
@@ -215,7 +252,10 @@ module _ (f : Formats) (size : ℕ) (w : World) (q : Tracked w) (l : Ranked w) w
   ranked_by who step reply image (allowed.Dropping k im c same) = drops_step k c
   ranked_by who step reply image (allowed.Electing im room same) = elects
   ranked_by who step reply image (allowed.Looking im same) = l
-  ranked_by who step reply image (allowed.Cleaning c d x im there clean same) = l
+  ranked_by who step reply image (allowed.AskingRestore name place rep im h same) = asks_restore name place rep im h
+  ranked_by who step reply image (allowed.Reading k read rep im h same) = reads k read rep im h
+  ranked_by who step reply image (allowed.Verifying read rep im h) = verifies read rep im h
+  ranked_by who step reply image (allowed.Cleaning c d x im recorded there clean same) = l
   ranked_by who step reply image (allowed.Used name indices time uuid im clear is same) = l
   ranked_by who step reply image (allowed.Full name indices time im clear unused full same) = l
   ranked_by who step reply image (allowed.AskSpent name indices time im clear unused room spent same) = l

@@ -1,18 +1,20 @@
 -- A step that doesn't swap the record leaves it: what it changes of an op is not told there.
-use Rattle.std.proofs.Common.{◌≡◌, ℕ, ◌+◌, Bool, true, false, cond, List, [], ◌∷◌, ◌++◌, Option, Some, None, map, refl, sym, ap, ◌∙◌, inl, inr, nat_cmp}
+use Rattle.std.proofs.Common.{◌≡◌, ℕ, ◌+◌, Bool, true, false, cond, List, [], ◌∷◌, ◌++◌, Option, Some, None, map, refl, sym, ap, ◌∙◌, inl, inr, nat_cmp, subst, zero, suc}
 use Rattle.std.specs.Prelude.{option_map, if◌then◌else◌}
 use Rattle.std.specs.Ordering.{eq_by_cmp}
 use Rattle.std.specs.Cmp.{nat_cmp_total}
 use Rattle.std.specs.FinMap.Entries.{find}
 use Rattle.std.specs.FinMap.{FinMap, nat_cmp-IsAntisymmetric}
 use Rattle.std.specs.FinMap as fin
-use Rattle.esr_model.specs.Values.{RecordWork, ShardResult, Formats}
+use Rattle.esr_model.specs.Names.{BlobName}
+use Rattle.esr_model.specs.Values.{RecordWork, ShardResult, Formats, Bytes}
 use Rattle.esr_model.specs.Image.{Image}
 use Rattle.esr_core.specs.World.{World, Op, Deletion, ShardWork, Done, Ticket, marked, work_by, work_of, deletion_work, record_ops, ledger_of, record_of}
 use Rattle.esr_core.specs.Steps.{with_ticket, given}
 use Rattle.esr_core.specs.Turns.{fails}
-use Rattle.esr_core.specs.Entry.{Given, GivenShard, GivenFinalize, GivenDrop, Step, AskStep, TakeStep, DrawStep, BeginStep, CommitStep, LatestStep, FetchStep, RaiseStep, SettleStep, DoneStep, FailedStep, FinishStep, DroppedStep, ElectStep, DepotFault, Reply, Gave, WasDone, WasThere, WasFetched, Refused, Moment}
-use Rattle.esr_core.specs.After.{or_else, taken_shard, taken_by, shard_of, with_given, committing, told_blob, fetching, done_by, done_of, is_stale, failed_by, failed_of, done_step, swaps_record, is_latest, faulted, answered, after}
+use Rattle.esr_core.specs.Entry.{Given, GivenShard, GivenFinalize, GivenDrop, Step, AskStep, TakeStep, DrawStep, BeginStep, CommitStep, LatestStep, FetchStep, RaiseStep, SettleStep, DoneStep, FailedStep, FinishStep, DroppedStep, ElectStep, DepotFault, Reply, Gave, WasDone, WasThere, WasFetched, Refused, Moment, Snapshot, Restore, GivenRestore, ReadStep, AcceptedRestore, Read, DrawTest, CommitTest, DrawnFrom}
+use Rattle.esr_core.specs.After.{or_else, taken_shard, taken_by, shard_of, with_given, committing, told_blob, fetching, done_by, done_of, is_stale, failed_by, failed_of, done_step, swaps_record, is_latest, faulted, answered, after, read_by, test_left}
+use Rattle.esr_core.proofs.Besides.{Aside, aside_taken, aside_step}
 use Rattle.esr_core.proofs.Maps.{split, get_same, get_other}
 
 -- ---- the ops of the record, read key by key
@@ -84,6 +86,9 @@ put_back ops o op shards failed there q = elim (split nat_cmp_total nat_cmp-IsAn
 
 -- ---- the steps
 
+keeps_aside : (w new : World) → Aside w new → Keeps w new
+keeps_aside w new a = subst (Keeps w) (sym a.new_is) (record { ledger = refl; deletes = refl; ops = λ q. refl })
+
 keeps_change : (w : World) (k : ℕ) (g : Ticket → Ticket) (o : Option Ticket) → Keeps w (with_given w k g o)
 keeps_change w k g None = keeps_same w
 keeps_change w k g (Some t) = record { ledger = refl; deletes = refl; ops = λ q. refl }
@@ -98,6 +103,7 @@ keeps_taken f w o (GivenShard index number base) None there = keeps_same w
 keeps_taken f w o (GivenFinalize info results) (Some op) there = record { ledger = refl; deletes = refl; ops = λ q. refl }
 keeps_taken f w o (GivenFinalize info results) None there = keeps_same w
 keeps_taken f w o GivenDrop op there = record { ledger = refl; deletes = refl; ops = λ q. refl }
+keeps_taken f w o (GivenRestore index number uuid) op there = keeps_aside w _ (aside_taken w o index number (fin.get w.restores o))
 
 keeps_done_by : (w : World) (k : ℕ) (r : ShardResult) (t : Ticket) (op : Option Op) → fin.get w.ops t.op ≡ op → Keeps w (done_by w k r t op)
 keeps_done_by w k r t None there = keeps_same w
@@ -127,8 +133,22 @@ keeps_drawn : (w : World) (k n : ℕ) (g : Ticket → Ticket) (o : Option Ticket
 keeps_drawn w k n g None = record { ledger = refl; deletes = refl; ops = λ q. refl }
 keeps_drawn w k n g (Some t) = record { ledger = refl; deletes = refl; ops = λ q. refl }
 
+-- of who 0 too
+keeps_read : (f : Formats) (w : World) (k : ℕ) (read : Read) (reply : Reply) (image : Option Image) → Keeps w (read_by f w k read reply image)
+keeps_read f w zero DrawTest (DrawnFrom first) image = record { ledger = refl; deletes = refl; ops = λ q. refl }
+keeps_read f w zero (CommitTest name) WasDone image = record { ledger = refl; deletes = refl; ops = λ q. refl }
+keeps_read f w zero read reply image = keeps_same w
+keeps_read f w (suc k) read reply image = keeps_aside w _ (aside_step f w (suc k) read reply image)
+
+keeps_left : (w : World) (name : BlobName) (was now : Option Bytes) → Keeps w (test_left w name was now)
+keeps_left w name None (Some bytes) = record { ledger = refl; deletes = refl; ops = λ q. refl }
+keeps_left w name None None = keeps_same w
+keeps_left w name (Some was) now = keeps_same w
+
 keeps_step : (f : Formats) (w : World) (k : ℕ) (step : Step) (reply : Reply) (image : Option Image) → swaps_record step ≡ false → Keeps w (done_step f w k step reply image)
-keeps_step f w k (AskStep command) reply image e = absurd (swaps e)
+keeps_step f w k (AskStep (Snapshot name indices moment)) reply image e = absurd (swaps e)
+keeps_step f w k (AskStep (Restore name place)) (AcceptedRestore o uuid indices) image e = record { ledger = refl; deletes = refl; ops = λ q. refl }
+keeps_step f w k (ReadStep read) reply image e = keeps_read f w k read reply image
 keeps_step f w k RaiseStep reply image e = absurd (swaps e)
 keeps_step f w k SettleStep reply image e = absurd (swaps e)
 keeps_step f w k DroppedStep reply image e = absurd (swaps e)
@@ -147,11 +167,12 @@ keeps_step f w k step reply image e = keeps_same w
 keeps_fault : (f : Formats) (w : World) (k : ℕ) (step : Step) (image : Option Image) → swaps_record step ≡ false → Keeps w (faulted f w k step image)
 keeps_fault f w k LatestStep image e = keeps_change w k (λ t. record t { tried_latest = true }) (fin.get w.tickets k)
 keeps_fault f w k (BeginStep name) image e = keeps_either w _ w (is_latest name) (keeps_change w k (λ t. record t { tried_latest = true }) (fin.get w.tickets k)) (keeps_same w)
-keeps_fault f w k (AskStep command) image e = absurd (swaps e)
+keeps_fault f w k (AskStep (Snapshot name indices moment)) image e = absurd (swaps e)
 keeps_fault f w k RaiseStep image e = absurd (swaps e)
 keeps_fault f w k SettleStep image e = absurd (swaps e)
 keeps_fault f w k DroppedStep image e = absurd (swaps e)
 keeps_fault f w k ElectStep image e = absurd (swaps e)
+keeps_fault f w k (ReadStep (CommitTest name)) image e = keeps_left w name (fin.get w.blobs (f.names.text name)) (told_blob f image name)
 keeps_fault f w k step image e = keeps_same w
 
 keeps_answered : (f : Formats) (w : World) (k : ℕ) (step : Step) (reply : Reply) (image : Option Image) → swaps_record step ≡ false → Keeps w (answered f w k step reply image)

@@ -63,6 +63,18 @@ module _ (f : Formats) (w : World) (shelf : List Shelved) (l : Lawful f w shelf)
         | inr h ↦ no_drop j u h.1 out pres is
       ]) (λ j h u e same. idle_after j h)) s.root idle_after (λ o op u e is. listed o op u (left_in w.ops t.op o op e).1 is)
 
+-- what was listed is listed after a finalization
+pub final_keeps : (f : Formats) (w : World) (shelf : List Shelved) → Lawful f w shelf → (k n : ℕ) (t : Ticket) (s : Swap) (new : World) → SettleFinal f w k n t s new → (z : RootSnap) → Has w.root.snapshots z → Has s.root.snapshots z
+final_keeps f w shelf l k n t s new h z m =
+    snapshots w.root (info_of law.op h.results) ((λ i. finalized_root (sym law.root_is i) (sym law.info_is i) h.results) ∙ ap (λ (x : Swap). x.root) (of_swap f t.work t.root s h.may.is h.info h.results h.made h.work))
+    (finalizes f (HeldIn f w) w.root law.op h.results (l.sound.carried.ops t.op law.op law.op_there) (root_one_each f (HeldIn f w) w.safe w.root l.sound.carried.root_is) law.done) m
+  where
+    law : FinalLaw f w.root w.ops t h.info h.results h.made
+    law = l.sound.carried.finals k t h.may.out.there h.may.out.out h.may.unsettled h.present h.info h.results h.made h.work
+
+    snapshots : (root : RootData) (info : SnapInfo) → finalized_root root info h.results ≡ s.root → Finalizes root info h.results (finalized_root root info h.results) → Has root.snapshots z → Has s.root.snapshots z
+    snapshots root info same fins has = subst (λ (r : RootData). Has r.snapshots z) same (subst (λ xs. Has xs z) (sym fins.snapshots) (Has-left root.snapshots _ z has))
+
 pub settle_final_lawful : (f : Formats) (w : World) (shelf : List Shelved) → Lawful f w shelf → (k n : ℕ) (t : Ticket) (s : Swap) (new : World) → SettleFinal f w k n t s new → Lawful f new (shelf_after shelf s.commands)
 settle_final_lawful f w shelf l k n t s new h =
     subst (λ x. Lawful f x (shelf_after shelf s.commands)) (sym h.new_is) (record {
@@ -73,18 +85,9 @@ settle_final_lawful f w shelf l k n t s new h =
     it : Sound f (settled w k t n s.root) (shelf_after shelf s.commands)
     it = settle_law f w shelf l.sound k n t s h.may h.present h.info h.results h.made h.work
 
-    law : FinalLaw f w.root w.ops t h.info h.results h.made
-    law = l.sound.carried.finals k t h.may.out.there h.may.out.out h.may.unsettled h.present h.info h.results h.made h.work
-
-    snapshots : (root : RootData) (info : SnapInfo) → finalized_root root info h.results ≡ s.root → Finalizes root info h.results (finalized_root root info h.results) → (z : RootSnap) → Has root.snapshots z → Has s.root.snapshots z
-    snapshots root info same fins z m = subst (λ (r : RootData). Has r.snapshots z) same (subst (λ xs. Has xs z) (sym fins.snapshots) (Has-left root.snapshots _ z m))
-
     -- what was listed is listed
     listed : (o : ℕ) (op : Op) (u : ℕ) → fin.get w.ops o ≡ Some op → op.source ≡ Some u → Lists s.root u
-    listed o op u e is =
-        let (z, m, uuid) = (l.queue.sources o op u e is).0 in
-        let same : finalized_root w.root (info_of law.op h.results) h.results ≡ s.root = (λ i. finalized_root (sym law.root_is i) (sym law.info_is i) h.results) ∙ ap (λ (x : Swap). x.root) (of_swap f t.work t.root s h.may.is h.info h.results h.made h.work) in
-        (z, snapshots w.root (info_of law.op h.results) same (finalizes f (HeldIn f w) w.root law.op h.results (l.sound.carried.ops t.op law.op law.op_there) (root_one_each f (HeldIn f w) w.safe w.root l.sound.carried.root_is) law.done) z m, uuid)
+    listed o op u e is = let (z, m, uuid) = (l.queue.sources o op u e is).0 in (z, final_keeps f w shelf l k n t s new h z m, uuid)
 
     differ : {info : SnapInfo} {rs : List ShardResult} {made : Shelved} → Finalize info rs made ≡ Drop → ⊥
     differ e = cc
@@ -233,12 +236,13 @@ module _ (f : Formats) (w : World) (shelf : List Shelved) (l : Lawful f w shelf)
   doomed : Sound f (record now { doomed = d.names ++ w.doomed }) after
   doomed = dooming_sound f now (record now { doomed = d.names ++ w.doomed }) after d.names it dooms
 
+  -- what it doesn't name stays listed
+  pub delete_keeps : (u : ℕ) → ((d : ℕ) (x : Deletion) → fin.get w.deletes d ≡ Some x → names_uuid x.uuids u ≡ false) → Lists w.root u → Lists s.root u
+  delete_keeps u spared was = let (z, m, uuid) = was in (z, law.keeps s refl z m (ap (names_uuid law.deletion.uuids) uuid ∙ spared t.op law.deletion law.there), uuid)
+
   -- the source of a clone stays listed
   listed : (o : ℕ) (op : Op) (u : ℕ) → fin.get w.ops o ≡ Some op → op.source ≡ Some u → Lists s.root u
-  listed o op u e is =
-      let was = l.queue.sources o op u e is in
-      let (z, m, uuid) = was.0 in
-      (z, law.keeps s refl z m (ap (names_uuid law.deletion.uuids) uuid ∙ was.1 t.op law.deletion law.there), uuid)
+  listed o op u e is = let was = l.queue.sources o op u e is in delete_keeps u was.1 was.0
 
   -- the queue where the op leaves, and where it stays, a cleanup's
   queue_left : (b : Bool) → d.cleans ≡ b → Queue w.term s.root (fin.remove w.ops t.op) (if b then w.deletes else fin.remove w.deletes t.op) w.completed w.next_op (fin.insert w.tickets k (record t { settled = true }))

@@ -10,6 +10,7 @@ use Rattle.esr_model.specs.Image.{Has, RootStands, global_of}
 use Rattle.esr_model.specs.Finalize.{finalized_root}
 use Rattle.esr_core.specs.World.{World, Op, ShardWork, Shard, Finalize, Ticket, Swap, Done, AllDone, info_of, shelved_of, metadata, ledger_of, HeldIn}
 use Rattle.esr_core.specs.Steps.{TakeFinalize, final_ticket}
+use Rattle.esr_core.specs.Restores.{IsTestOf}
 use Rattle.esr_core.specs.Swaps.{Rooted, IsSwapping, SwapLaw, SwapShape, TicketLaw, OrOwn}
 use Rattle.esr_core.specs.Generations.{Carried}
 use Rattle.esr_core.proofs.Maps.{get_was, get_other}
@@ -52,6 +53,13 @@ metadata_shape f info one root made back =
     record {
       root_back = back;
       no_root = λ n b h. elim h [ inl e ↦ not_snap (ap (λ (p : BlobName × Bytes). p.0) e) | inr h' ↦ elim h' [ inl e ↦ not_meta (ap (λ (p : BlobName × Bytes). p.0) e) | inr m ↦ let (r, there, e) = Has-mapped index_text info.indices (Root n, b) m in not_index (ap (λ (p : BlobName × Bytes). p.0) e) ] ];
+      no_test = λ v name b h t. elim h [
+        | inl e ↦ subst (IsTestOf v) (sym (ap (λ (p : BlobName × Bytes). p.0) e)) t
+        | inr h' ↦ elim h' [
+          | inl e ↦ subst (IsTestOf v) (sym (ap (λ (p : BlobName × Bytes). p.0) e)) t
+          | inr m ↦ let (r, there, e) = Has-mapped index_text info.indices (name, b) m in subst (IsTestOf v) (sym (ap (λ (p : BlobName × Bytes). p.0) e)) t
+        ]
+      ];
       one_text = λ name a b ha hb. one_kind f info one name a b (kinds f info name a ha) (kinds f info name b hb);
     }
   where

@@ -13,10 +13,10 @@ use Rattle.esr_core.specs.World.{World, Op, ShardWork, Out, Done, Work, Shard, F
 use Rattle.esr_core.specs.Ready.{Stopped, IsShard, IsMaster, ReadyDrop}
 use Rattle.esr_core.specs.Steps.{with_ticket, completing, final_ticket}
 use Rattle.esr_core.specs.Turns.{plain_ticket, fails}
-use Rattle.esr_core.specs.Entry.{AskedIndex, Snapshot, Given, GivenShard, GivenFinalize, GivenDrop, Step, Reply, Moment}
-use Rattle.esr_core.specs.After.{asked, asked_op, taken_by, taken_shard, with_given, change, committing, fetching, told_blob, done_of, done_by, failed_of, failed_by, is_stale, settled_of, dropped_of, tried, answered, blobs_in, after}
+use Rattle.esr_core.specs.Entry.{AskedIndex, Snapshot, Given, GivenShard, GivenFinalize, GivenDrop, Step, Reply, Moment, GivenRestore, Restore, AskStep, ReadStep, Read, ReadBlob, RestoredShard, ReadFails, WasFetched, WasAbsent, HasEnded}
+use Rattle.esr_core.specs.After.{asked, asked_op, taken_by, taken_shard, with_given, change, committing, fetching, told_blob, done_of, done_by, failed_of, failed_by, is_stale, settled_of, dropped_of, tried, answered, blobs_in, after, stepped, test_left}
 use Rattle.esr_core.specs.Allowed as allowed
-use Rattle.esr_core.specs.Allowed.{Accepts, Gives, Settles, Fails, Drops, Dones, Allows, Allowed}
+use Rattle.esr_core.specs.Allowed.{Accepts, Gives, Settles, Fails, Drops, Dones, Allows, Allowed, RestoreAllows, OpeningRestore, NotListed, NamedByDelete, FullOfRestores, ReadAllows, ReadFound, ReadMissing, ReadFault, RestoringShard, ReaderFailing, CheckingAll, CheckFailing, VerifyAllows, DrawingTest, TestSpent, BeginningTest, BeginTestFails, CommittingTest, TestTaken, CommitTestFails, RemovingTests, RemoveTestsFails, VerifyingAll, VerifyFailing}
 use Rattle.esr_core.specs.History.{world_from, IsLegal}
 use Rattle.esr_core.specs.Tracked.{IsOneIndex, FinalTracked, Named, Tracked}
 use Rattle.esr_core.proofs.Reading.{some_same}
@@ -27,6 +27,8 @@ use Rattle.esr_core.proofs.Lists.{numbered_from}
 use Rattle.esr_core.proofs.Queues.{was_in}
 use Rattle.esr_core.proofs.Evolving.{out_same, pending_out, out_done, up_out, up_done, failed_is, failed_grows}
 use Rattle.esr_core.proofs.Moments.{moment, not_latest, shard_stale, master_stale, no_shard, settled_plain}
+use Rattle.esr_core.proofs.Besides.{aside_opened, aside_taken, aside_by, tracked_aside_of}
+use Rattle.esr_core.proofs.Heard.{aside_heard}
 use Rattle.esr_core.proofs.Naming.{named_left, named_root}
 use Rattle.esr_core.proofs.Tracking.{Follows, tracked_aside, tracked_ticket, tracked_new, tracked_drawn, tracked_elect}
 use Rattle.esr_core.proofs.TrackingOps.{goes_not_stopped, final_apart, tracked_asked, tracked_left}
@@ -96,6 +98,7 @@ module _ (f : Formats) (size : ℕ) (w : World) (l : Tracked w) where
       (λ h. absurd h)
 
   gives : (o : ℕ) (unit : Given) → Gives f w o unit → Tracked (taken_by f w o unit (fin.get w.ops o))
+  gives o (GivenRestore index number uuid) g = tracked_aside_of w _ (aside_taken w o index number (fin.get w.restores o)) l
   gives o (GivenShard index number base) g =
       subst (λ x. Tracked (taken_by f w o (GivenShard index number base) x)) (sym g.ready.op_there) (subst (λ x. Tracked (taken_shard w o g.op base x)) (sym g.found) (tracked_given w l o g.op g.s base g.ready))
   gives o (GivenFinalize info results) g =
@@ -283,9 +286,47 @@ module _ (f : Formats) (size : ℕ) (w : World) (l : Tracked w) where
           let x = l.drops k d.may.t d.may.out.there d.may.out.out d.present d.may.work in
           ((λ same. goes_not_stopped y.op y.goes (x.stopped y.op (ap (fin.get w.ops) (sym same) ∙ y.op_there))), refl)
 
+  -- ---- restores and reading
+
+  asks_restore : (name place : Bytes) (reply : Reply) (image : Option Image) → RestoreAllows f w name reply image → Tracked (answered f w 0 (AskStep (Restore name place)) reply image)
+  asks_restore name place reply image (OpeningRestore o uuid indices im acc) = tracked_aside_of w _ (aside_opened w _ uuid place indices refl) l
+  asks_restore name place reply image (NotListed im none) = l
+  asks_restore name place reply image (NamedByDelete uuid d im listed named) = l
+  asks_restore name place reply image (FullOfRestores uuid im listed spared full) = l
+
+  reads : (k : ℕ) (read : Read) (reply : Reply) (image : Option Image) → ReadAllows f w k read reply image → Tracked (answered f w k (ReadStep read) reply image)
+  reads k read reply image (ReadFound j name im stored by found) = tracked_aside_of w _ (aside_by f w j (ReadBlob name) WasFetched im tt) l
+  reads k read reply image (ReadMissing j name im stored by none) = tracked_aside_of w _ (aside_by f w j (ReadBlob name) WasAbsent im tt) l
+  reads k read reply image (ReadFault j name im stored by) = l
+  reads k read reply image (RestoringShard j files bytes im q out done) = tracked_aside_of w _ (aside_by f w j (RestoredShard files bytes) HasEnded im tt) l
+  reads k read reply image (ReaderFailing j why im q out) = tracked_aside_of w _ (aside_by f w j (ReadFails why) HasEnded im tt) l
+  reads k read reply image (CheckingAll snapshots blobs im checks) = l
+  reads k read reply image (CheckFailing why im looked) = l
+
+  test_left_tracked : (name : BlobName) (was now : Option Bytes) → Tracked (test_left w name was now)
+  test_left_tracked name None (Some bytes) = tracked_aside w l w.blobs w.safe w.pending w.completed (name ∷ w.doomed) w.deposed
+  test_left_tracked name None None = l
+  test_left_tracked name (Some was) now = l
+
+  one_more : (n : ℕ) → n + 1 ≡ suc n
+  one_more n = omega arith
+
+  verifies : (read : Read) (reply : Reply) (image : Option Image) → VerifyAllows f w read reply image → Tracked (answered f w 0 (ReadStep read) reply image)
+  verifies read reply image (DrawingTest im idle fits same) = subst (λ n. Tracked (record w { next_id = n })) (one_more w.next_id) (tracked_drawn w l 1 (let b : suc w.next_id < first_id (suc w.term) = fits in omega (arith, b)))
+  verifies read reply image (TestSpent im idle spent same) = l
+  verifies read reply image (BeginningTest name im own same) = l
+  verifies read reply image (BeginTestFails name im own same) = l
+  verifies read reply image (CommittingTest name bytes im own new adds) = tracked_aside w l w.blobs w.safe w.pending w.completed (name ∷ w.doomed) w.deposed
+  verifies read reply image (TestTaken name im own found) = l
+  verifies read reply image (CommitTestFails name bytes im own leaves) = test_left_tracked name (fin.get w.blobs (f.names.text name)) (told_blob f im name)
+  verifies read reply image (RemovingTests names im may left) = l
+  verifies read reply image (RemoveTestsFails names im may left) = l
+  verifies read reply image (VerifyingAll im done same) = l
+  verifies read reply image (VerifyFailing why id im drawn same) = l
+
   -- ---- each answer
 
-  tracked_by : (who : ℕ) (step : Step) (reply : Reply) (image : Option Image) → Allows f size w who step reply image → Tracked (after f w (moment who step reply image))
+  tracked_by : (who : ℕ) (step : Step) (reply : Reply) (image : Option Image) → Allows f size w who step reply image → Tracked (stepped f w (moment who step reply image))
   tracked_by who step reply image (allowed.Accepting name indices time o im acc same) = kept _ (asks name indices time o acc) (blobs_in im w.blobs)
   tracked_by who step reply image (allowed.GivingNothing im none same) = kept w l (blobs_in im w.blobs)
   tracked_by who step reply image (allowed.Giving k o unit im is lowest g same) = kept _ (gives o unit g) (blobs_in im w.blobs)
@@ -306,7 +347,10 @@ module _ (f : Formats) (size : ℕ) (w : World) (l : Tracked w) where
   tracked_by who step reply image (allowed.Dropping k im c same) = kept _ (drops_step k c) (blobs_in im w.blobs)
   tracked_by who step reply image (allowed.Electing im room same) = kept _ (tracked_elect w l) (blobs_in im w.blobs)
   tracked_by who step reply image (allowed.Looking im same) = kept w l (blobs_in im w.blobs)
-  tracked_by who step reply image (allowed.Cleaning c d x im there clean same) = kept w l (blobs_in im w.blobs)
+  tracked_by who step reply image (allowed.AskingRestore name place rep im h same) = kept _ (asks_restore name place rep im h) (blobs_in im w.blobs)
+  tracked_by who step reply image (allowed.Reading k read rep im h same) = kept _ (reads k read rep im h) (blobs_in im w.blobs)
+  tracked_by who step reply image (allowed.Verifying read rep im h) = kept _ (verifies read rep im h) (blobs_in im w.blobs)
+  tracked_by who step reply image (allowed.Cleaning c d x im recorded there clean same) = kept w l (blobs_in im w.blobs)
   tracked_by who step reply image (allowed.Used name indices time uuid im clear is same) = kept w l (blobs_in im w.blobs)
   tracked_by who step reply image (allowed.Full name indices time im clear unused full same) = kept w l (blobs_in im w.blobs)
   tracked_by who step reply image (allowed.AskSpent name indices time im clear unused room spent same) = kept w l (blobs_in im w.blobs)
@@ -330,10 +374,10 @@ module _ (f : Formats) (size : ℕ) (w : World) (l : Tracked w) where
   tracked_by who step reply image (allowed.ElectFails im room same) = falls w _ l (tracked_elect w l) _ (blobs_in im w.blobs)
 
 pub tracked_step : (f : Formats) (size : ℕ) (w : World) (m : Moment) → Tracked w → Allowed f size w m → Tracked (after f w m)
-tracked_step f size w m l a = elim a.answered [
+tracked_step f size w m l a = tracked_aside_of (stepped f w m) _ (aside_heard f (stepped f w m) m) (elim a.answered [
   | inl alive ↦ tracked_by f size w l m.entry.who m.entry.step m.entry.reply m.image alive.1
   | inr dead ↦ subst (λ reply. Tracked (record (answered f w m.entry.who m.entry.step reply m.image) { blobs = blobs_in m.image w.blobs })) (sym dead.refused) (kept w l (blobs_in m.image w.blobs))
-]
+])
 
 pub tracked_history : (f : Formats) (size : ℕ) (log : List Moment) (w : World) → Tracked w → IsLegal f size w log → Tracked (world_from f w log)
 tracked_history f size [] w l legal = l

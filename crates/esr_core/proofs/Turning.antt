@@ -10,8 +10,10 @@ use Rattle.esr_core.specs.World.{World, Op, ShardWork, Done, Ticket, AllDone, ma
 use Rattle.esr_core.specs.Ready.{IsMaster, IsShard}
 use Rattle.esr_core.specs.Steps.{CommitDone, CommitFault, Raise, TriesLatest, FetchFound, reading, noting, CommitExists, DoneShard, Ends, Elect, Remove, writing, completing}
 use Rattle.esr_core.specs.Queue.{Queue, QueueIn, Lawful}
-use Rattle.esr_core.specs.Turns.{Turn, Stays, Commits, CommitFails, Finds, Raises, Latests, Fetches, SettlesFinal, SettlesDelete, Elects, TakesShard, TakesFinal, TakesDrop, TakesDelete, TakesCleanup, AsksCleanup, CleanDrops, DrawsShard, DrawsPlan, Dones, Ending, Fails, FailsDelete, Drops, AsksCreate, AsksDelete, Merges, Removing, Deposes, commands_of}
+use Rattle.esr_core.specs.Turns.{Turn, Stays, Commits, CommitFails, Finds, Raises, Latests, Fetches, SettlesFinal, SettlesDelete, Elects, TakesShard, TakesFinal, TakesDrop, TakesDelete, TakesCleanup, AsksCleanup, CleanDrops, DrawsShard, DrawsPlan, Dones, Ending, Fails, FailsDelete, Drops, AsksCreate, AsksDelete, Merges, Removing, Deposes, commands_of, Besides, Tests}
 use Rattle.esr_core.proofs.Law.{raise_law, commit_law, commit_fault_law, latest_sound, fetch_sound, finish_sound, done_sound, elect_law, deposed_same}
+use Rattle.esr_core.proofs.Besides.{aside_of, lawful_aside}
+use Rattle.esr_core.proofs.Testing.{tests_lawful}
 use Rattle.esr_core.proofs.Removes.{remove_sound}
 use Rattle.esr_core.proofs.Queues.{Like, Evolves, was_in, queue_ticket, queue_ops, queued_back, queue_elect}
 use Rattle.esr_core.proofs.Evolving.{marked_grows, marked_outs, evolve_map, one_back, one_forth, one_outs, outs_map, completing_has, completing_more, completing_was, results_of, all_done_on, marked_leaves}
@@ -167,6 +169,8 @@ turn_lawful f w new shelf law d (Merges m uuids n h) = merge_lawful f w shelf la
 turn_lawful f w new shelf law d (Removing m k names h) = remove_lawful f w shelf law.lawful k names m h
 turn_lawful f w new shelf law d (Deposes m up h e) =
     subst (λ v. Lawful f v (shelf_after shelf (commands_of f w up h))) (sym e) (deposed_lawful f up (shelf_after shelf (commands_of f w up h)) (turn_lawful f w up shelf law d h))
+turn_lawful f w new shelf law d (Tests m t) = tests_lawful f w shelf law m t
+turn_lawful f w new shelf law d (Besides m up h r) = lawful_aside f up m (shelf_after shelf (commands_of f w up h)) (aside_of f up m r) (turn_lawful f w up shelf law d h)
 
 pub turn_law : (f : Formats) (w new : World) (shelf : List Shelved) → Law f w shelf → w.deposed ≡ false → (turn : Turn f w new) → Law f new (shelf_after shelf (commands_of f w new turn))
 turn_law f w new shelf law d turn = record { lawful = turn_lawful f w new shelf law d turn; ids = turn_ids f w new shelf law d turn; deletions = turn_deletions f w new shelf law turn; in_term = turn_in_term f w new law.in_term turn; written = turn_written f w new shelf law turn; texts = turn_texted f w new shelf law turn }

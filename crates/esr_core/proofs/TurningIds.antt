@@ -12,10 +12,12 @@ use Rattle.esr_model.specs.Reach.{Reached, ReachSnap, ReachMeta, ReachIndexMeta,
 use Rattle.esr_core.specs.World.{World, Op, ShardWork, Pending, Done, Work, Shard, Finalize, Deleting, Drop, Ticket, Swap, AllDone, swap, HeldIn, info_of, marked}
 use Rattle.esr_core.specs.Ready.{IsShard}
 use Rattle.esr_core.specs.Steps.{IsOut, reading, Largest, given, shard_ticket, final_ticket, noting, writing}
-use Rattle.esr_core.specs.Turns.{Turn, Stays, Commits, CommitFails, Finds, Raises, Latests, Fetches, SettlesFinal, SettlesDelete, Elects, TakesShard, TakesFinal, TakesDrop, TakesDelete, TakesCleanup, AsksCleanup, CleanDrops, DrawsShard, DrawsPlan, Dones, Ending, Fails, FailsDelete, Drops, AsksCreate, AsksDelete, Merges, Removing, Deposes, SettleDelete, DrawPlan, AskCreate, Aborts, fails, plain_ticket}
+use Rattle.esr_core.specs.Turns.{Turn, Stays, Commits, CommitFails, Finds, Raises, Latests, Fetches, SettlesFinal, SettlesDelete, Elects, TakesShard, TakesFinal, TakesDrop, TakesDelete, TakesCleanup, AsksCleanup, CleanDrops, DrawsShard, DrawsPlan, Dones, Ending, Fails, FailsDelete, Drops, AsksCreate, AsksDelete, Merges, Removing, Deposes, SettleDelete, DrawPlan, AskCreate, Aborts, fails, plain_ticket, Besides, Tests}
 use Rattle.esr_core.specs.Generations.{DoneAt, OpLaw}
 use Rattle.esr_core.specs.Ids.{OfUuid, OfId, TicketIds, OpIds, DoomedIds, Ids, IdsIn, Law}
 use Rattle.esr_model.specs.Kept.{first_id, IdsBelow, RootIds}
+use Rattle.esr_core.proofs.Testing.{tests_ids}
+use Rattle.esr_core.proofs.Besides.{aside_of, kept_aside}
 use Rattle.esr_core.proofs.LatestPut.{put_law}
 use Rattle.esr_core.proofs.Pieces.{in_parts}
 use Rattle.esr_core.proofs.Reading.{generation_index, some_same, none_some, reads_one, held_one, safe_root_stands, Has-append, Has-mapped, Has-either}
@@ -369,3 +371,5 @@ turn_ids f w new shelf l d (AsksDelete m uuids h) = subst (IdsIn f) (sym h.new_i
 turn_ids f w new shelf l d (Merges m uuids n h) = subst (IdsIn f) (sym h.new_is) (aborted_ids f w shelf l h.ops n h.aborts)
 turn_ids f w new shelf l d (Removing m k names h) = subst (IdsIn f) (sym h.new_is) (ids_blobs f w.next_id w.blobs w.doomed w.root w.ops w.tickets l.ids h.now (λ name p. inl (p.0, (h.removes.left (f.names.text name) p.0 p.1.0, p.1.1))))
 turn_ids f w new shelf l d (Deposes m up h e) = subst (IdsIn f) (sym e) (turn_ids f w up shelf l d h)
+turn_ids f w new shelf l d (Besides m up h r) = kept_aside (IdsIn f) up m (aside_of f up m r) (turn_ids f w up shelf l d h)
+turn_ids f w new shelf l d (Tests m t) = tests_ids f w shelf l m t

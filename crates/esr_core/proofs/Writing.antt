@@ -7,11 +7,12 @@ use Rattle.esr_model.specs.Shelf.{Shelved}
 use Rattle.esr_model.specs.Image.{IsStored, Blobs, Reads, IndexStands, At}
 use Rattle.esr_core.specs.World.{World, Work, Shard, Finalize, Deleting, Drop, Ticket, Swap, swap_of, HeldIn}
 use Rattle.esr_core.specs.Ready.{IsShard}
-use Rattle.esr_core.specs.Steps.{Drew, ShardCommits, MayCommit, CommitDone, Remove, FetchFound, reading, writing, noting, shard_ticket, final_ticket}
+use Rattle.esr_core.specs.Steps.{Drew, ShardCommits, MayCommit, CommitDone, Remove, FetchFound, reading, writing, noting, shard_ticket, final_ticket, Removes}
 use Rattle.esr_core.specs.Generations.{Base}
 use Rattle.esr_core.specs.Ids.{OfId, Law}
 use Rattle.esr_core.specs.Written.{WroteLaw, Written}
-use Rattle.esr_core.specs.Turns.{DrawShard, plain_ticket, Turn, Stays, Commits, CommitFails, Finds, Raises, Latests, Fetches, SettlesFinal, SettlesDelete, Elects, TakesShard, TakesFinal, TakesDrop, TakesDelete, TakesCleanup, AsksCleanup, CleanDrops, DrawsShard, DrawsPlan, Dones, Ending, Fails, FailsDelete, Drops, AsksCreate, AsksDelete, Merges, Removing, Deposes}
+use Rattle.esr_core.specs.Turns.{DrawShard, plain_ticket, Turn, Stays, Commits, CommitFails, Finds, Raises, Latests, Fetches, SettlesFinal, SettlesDelete, Elects, TakesShard, TakesFinal, TakesDrop, TakesDelete, TakesCleanup, AsksCleanup, CleanDrops, DrawsShard, DrawsPlan, Dones, Ending, Fails, FailsDelete, Drops, AsksCreate, AsksDelete, Merges, Removing, Deposes, Besides, Tests, TestTurn, DrawsTest, AddsTest, RemovesTests}
+use Rattle.esr_core.proofs.Besides.{aside_of, kept_aside}
 use Rattle.esr_core.proofs.Adds.{at_kept, at_new}
 use Rattle.esr_core.proofs.Reading.{none_some, some_same}
 use Rattle.esr_core.proofs.Pieces.{file_below}
@@ -104,7 +105,7 @@ module _ (f : Formats) (w : World) (shelf : List Shelved) (l : Law f w shelf) (h
       omega (arith, b, le)
 
   -- with a blob more
-  grown : (name : BlobName) (bytes : Bytes) → IsStored f name → fin.get w.blobs (f.names.text name) ≡ None → Written f (fin.insert w.blobs (f.names.text name) bytes) w.tickets
+  pub grown : (name : BlobName) (bytes : Bytes) → IsStored f name → fin.get w.blobs (f.names.text name) ≡ None → Written f (fin.insert w.blobs (f.names.text name) bytes) w.tickets
   grown name bytes named absent j u e out shard =
       let old = h j u e out shard in
       record { there = λ m b has. at_kept f w.blobs name bytes named absent [] m b (old.there m b has); own = old.own; base = λ i s g b is at has. at_kept f w.blobs name bytes named absent [] (ShardIndex i s g) b (old.base i s g b is at has); fresh = λ i s g held is at reads. old.fresh i s g held is at (base_was j u e out i s g held is at _ (at_kept f w.blobs name bytes named absent []) reads) }
@@ -184,16 +185,30 @@ module _ (f : Formats) (w : World) (shelf : List Shelved) (l : Law f w shelf) (h
             fresh = λ i s g held is at reads e m id drew. old.fresh i s g held is at reads e m id (record { from = drew.from; below = drew.below });
           }
 
-  removed : (k : ℕ) (names : List BlobName) (new : World) → Remove f w k names new → Written f new.blobs new.tickets
-  removed k names new r = subst (λ (x : World). Written f x.blobs x.tickets) (sym r.new_is) (λ j u e out shard.
+  -- without names that may be removed
+  pub removed_doomed : (names : List BlobName) → ((name : BlobName) → Has names name → Has w.doomed name) → (now : Blobs) → Removes f w.blobs now names → Written f now w.tickets
+  removed_doomed names doomed now removes j u e out shard =
       let old = h j u e out shard in
-      record { there = λ m b has. r.removes.stays m b (old.there m b has) (λ named. not_doomed j u e out m (old.own m b has) (r.doomed m named)); own = old.own; base = λ i s g b is at has. r.removes.stays (ShardIndex i s g) b (old.base i s g b is at has) (λ named. base_held j u e out i s g is at (r.doomed (ShardIndex i s g) named)); fresh = λ i s g held is at reads. old.fresh i s g held is at (record { bytes = reads.bytes; there = (r.removes.left _ _ reads.there.0, reads.there.1); reads = reads.reads }) })
+      record {
+        there = λ m b has. removes.stays m b (old.there m b has) (λ named. not_doomed j u e out m (old.own m b has) (doomed m named));
+        own = old.own;
+        base = λ i s g b is at has. removes.stays (ShardIndex i s g) b (old.base i s g b is at has) (λ named. base_held j u e out i s g is at (doomed (ShardIndex i s g) named));
+        fresh = λ i s g held is at reads. old.fresh i s g held is at (record { bytes = reads.bytes; there = (removes.left _ _ reads.there.0, reads.there.1); reads = reads.reads });
+      }
+
+  removed : (k : ℕ) (names : List BlobName) (new : World) → Remove f w k names new → Written f new.blobs new.tickets
+  removed k names new r = subst (λ (x : World). Written f x.blobs x.tickets) (sym r.new_is) (removed_doomed names r.doomed r.now r.removes)
 
   drawn_shard : (k n : ℕ) (new : World) → DrawShard w k n new → Written f new.blobs new.tickets
   drawn_shard k n new d = subst (λ (x : World). Written f x.blobs x.tickets) (sym d.new_is)
       (put f w.blobs w.tickets h k (record d.t { first = w.next_id; drawn = n }) (λ o s.
       let old = h k d.t d.out.there d.out.out s in
       record { there = old.there; own = λ m b has. early d.t (record d.t { first = w.next_id; drawn = n }) refl refl d.once m (old.own m b has); base = old.base; fresh = λ i s g held is at reads e m id drew. base_below k d.t d.out.there d.out.out i s g held is at reads e m id drew.from }))
+
+tested : (f : Formats) (w : World) (shelf : List Shelved) → Law f w shelf → Written f w.blobs w.tickets → (new : World) → TestTurn f w new → Written f new.blobs new.tickets
+tested f w shelf l h new (DrawsTest m d) = subst (λ (x : World). Written f x.blobs x.tickets) (sym d.new_is) h
+tested f w shelf l h new (AddsTest m name bytes a) = subst (λ (x : World). Written f x.blobs x.tickets) (sym a.new_is) (grown f w shelf l h name bytes a.named a.absent)
+tested f w shelf l h new (RemovesTests m names r) = subst (λ (x : World). Written f x.blobs x.tickets) (sym r.new_is) (removed_doomed f w shelf l h names r.doomed r.now r.removes)
 
 turned : (f : Formats) (w new : World) (shelf : List Shelved) → Law f w shelf → Written f w.blobs w.tickets → Turn f w new → Written f new.blobs new.tickets
 turned f w new shelf l h (Stays m e) = subst (λ (x : World). Written f x.blobs x.tickets) (sym e) h
@@ -229,6 +244,8 @@ turned f w new shelf l h (AsksDelete m uuids d) = subst (λ (x : World). Written
 turned f w new shelf l h (Merges m uuids n d) = subst (λ (x : World). Written f x.blobs x.tickets) (sym d.new_is) h
 turned f w new shelf l h (Removing m k names d) = removed f w shelf l h k names m d
 turned f w new shelf l h (Deposes m up d e) = subst (λ (x : World). Written f x.blobs x.tickets) (sym e) (turned f w up shelf l h d)
+turned f w new shelf l h (Tests m t) = tested f w shelf l h m t
+turned f w new shelf l h (Besides m up d r) = kept_aside (λ (x : World). Written f x.blobs x.tickets) up m (aside_of f up m r) (turned f w up shelf l h d)
 
 pub turn_written : (f : Formats) (w new : World) (shelf : List Shelved) → Law f w shelf → Turn f w new → Written f new.blobs new.tickets
 turn_written f w new shelf l turn = turned f w new shelf l l.written turn

@@ -6,10 +6,11 @@ use Rattle.esr_model.specs.Values.{Bytes, IndexRef, RootIndex, ShardResult, Form
 use Rattle.esr_model.specs.Uploads.{same_bytes}
 use Rattle.esr_model.specs.Kept.{first_id}
 use Rattle.esr_model.specs.Image.{Blobs, Image}
-use Rattle.esr_core.specs.World.{World, Op, ShardWork, Pending, Done, Work, Shard, Finalize, Deleting, Drop, Ticket, Swap, swap, marked, record_of}
+use Rattle.esr_core.specs.World.{World, Op, ShardWork, Pending, Done, ReadState, Restored, NotRestored, RestoreShard, Restoring, Reader, Caller, no_caller, Work, Shard, Finalize, Deleting, Drop, Ticket, Swap, swap, marked, record_of}
+use Rattle.esr_core.specs.Restores.{restore_shard, restore_opened, shard_handed, more_read, shard_ended}
 use Rattle.esr_core.specs.Steps.{with_ticket, noting, writing, reading, given, completing, settled, shard_ticket, final_ticket}
 use Rattle.esr_core.specs.Turns.{plain_ticket, fails}
-use Rattle.esr_core.specs.Entry.{AskedIndex, Asked, Snapshot, Given, GivenShard, GivenFinalize, GivenDrop, Step, AskStep, TakeStep, DrawStep, BeginStep, CommitStep, LatestStep, FetchStep, RaiseStep, SettleStep, DoneStep, FailedStep, FinishStep, DroppedStep, ElectStep, DepotFault, Reply, Gave, WasDone, WasThere, WasFetched, HasEnded, Refused, Moment}
+use Rattle.esr_core.specs.Entry.{AskedIndex, Asked, Snapshot, Restore, is_recorded, Given, GivenShard, GivenFinalize, GivenDrop, GivenRestore, Read, ReadBlob, RestoredShard, CheckedAll, DrawTest, CommitTest, RemoveTests, VerifiedAll, ReadFails, Step, AskStep, TakeStep, DrawStep, BeginStep, CommitStep, LatestStep, FetchStep, RaiseStep, SettleStep, DoneStep, FailedStep, FinishStep, DroppedStep, ElectStep, LookStep, ReadStep, StaleTerm, DeposedAt, DepotFault, Reply, Gave, DrawnFrom, WasRemoved, WasDone, WasThere, WasFetched, WasAbsent, HasEnded, Refused, AcceptedRestore, Moment}
 
 abbrev pub or_else : {A : Type 0} → Option A → Option A → Option A
 or_else None b = b
@@ -79,6 +80,8 @@ abbrev pub asked : World → Asked → World
 asked w (Snapshot name indices moment) =
     let op : Op = asked_op w name indices moment in
     record w { ops = fin.insert w.ops w.next_op op; next_op = suc w.next_op; completed = completing w.completed w.next_op op.shards; next_id = w.next_id + suc (new_names w indices) }
+-- what a restore reads its acceptance tells
+asked w (Restore name place) = w
 
 -- ---- take
 
@@ -92,12 +95,22 @@ taken_shard w o op base None = w
 taken_shard w o op base (Some s) =
     record w { ops = fin.insert w.ops o (record op { shards = map (given w.next_ticket s.ref.id s.number) op.shards }); tickets = fin.insert w.tickets w.next_ticket (shard_ticket w o op s base); next_ticket = suc w.next_ticket }
 
+-- a shard of a restore
+abbrev pub taken_restore_shard : World → ℕ → Restoring → Option RestoreShard → World
+taken_restore_shard w o r None = w
+taken_restore_shard w o r (Some s) = shard_handed w o r s
+
+abbrev pub taken_restore : World → ℕ → ℕ → ℕ → Option Restoring → World
+taken_restore w o index number None = w
+taken_restore w o index number (Some r) = taken_restore_shard w o r (restore_shard r.shards index number)
+
 abbrev pub taken_by : Formats → World → ℕ → Given → Option Op → World
 taken_by f w o (GivenShard index number base) (Some op) = taken_shard w o op base (shard_of op.shards index number)
 taken_by f w o (GivenShard index number base) None = w
 taken_by f w o (GivenFinalize info results) (Some op) = record w { tickets = fin.insert w.tickets w.next_ticket (final_ticket f w o op results); next_ticket = suc w.next_ticket }
 taken_by f w o (GivenFinalize info results) None = w
 taken_by f w o GivenDrop op = record w { tickets = fin.insert w.tickets w.next_ticket (plain_ticket w o Drop); next_ticket = suc w.next_ticket }
+taken_by f w o (GivenRestore index number uuid) op = taken_restore w o index number (fin.get w.restores o)
 
 -- ---- steps of a ticket
 
@@ -164,11 +177,42 @@ abbrev pub dropped_of : World → ℕ → Option Ticket → World
 dropped_of w k None = w
 dropped_of w k (Some t) = record w { ops = fin.remove w.ops t.op; deletes = fin.remove w.deletes t.op; tickets = fin.insert w.tickets k (record t { out = false }) }
 
+-- ---- steps that read: of a restore's ticket, where it is one
+
+abbrev pub read_told : World → ℕ → BlobName → Option Bytes → Option Reader → World
+read_told w k name bytes None = w
+read_told w k name None (Some q) = w
+read_told w k name (Some bytes) (Some q) = more_read w k q name bytes
+
+abbrev pub shard_over : World → ℕ → ReadState → Reader → Option Restoring → World
+shard_over w k state q None = w
+shard_over w k state q (Some r) = shard_ended w k q r state
+
+abbrev pub read_over : World → ℕ → ReadState → Option Reader → World
+read_over w k state None = w
+read_over w k state (Some q) = shard_over w k state q (fin.get w.restores q.op)
+
+abbrev pub read_step : Formats → World → ℕ → Read → Reply → Option Image → World
+read_step f w k (ReadBlob name) WasFetched image = read_told w k name (told_blob f image name) (fin.get w.readers k)
+read_step f w k (ReadBlob name) reply image = w
+read_step f w k (RestoredShard files bytes) reply image = read_over w k (Restored files bytes) (fin.get w.readers k)
+read_step f w k (CheckedAll snapshots blobs) reply image = w
+read_step f w k (ReadFails why) reply image = read_over w k (NotRestored why) (fin.get w.readers k)
+read_step f w k read reply image = w
+
+-- of who 0, which has no ticket: a test blob may be removed once it is there
+abbrev pub read_by : Formats → World → ℕ → Read → Reply → Option Image → World
+read_by f w zero DrawTest (DrawnFrom first) image = record w { next_id = suc w.next_id }
+read_by f w zero (CommitTest name) WasDone image = record w { doomed = name ∷ w.doomed }
+read_by f w zero read reply image = w
+read_by f w (suc k) read reply image = read_step f w (suc k) read reply image
+
 -- ---- all steps
 
 -- the world after a step that was answered Ok, its blobs aside
 abbrev pub done_step : Formats → World → ℕ → Step → Reply → Option Image → World
-done_step f w k (AskStep command) reply image = asked w command
+done_step f w k (AskStep (Snapshot name indices moment)) reply image = asked w (Snapshot name indices moment)
+done_step f w k (AskStep (Restore name place)) (AcceptedRestore o uuid indices) image = restore_opened w uuid place indices
 done_step f w k TakeStep (Gave ticket op unit) image = taken_by f w op unit (fin.get w.ops op)
 done_step f w k (DrawStep n) reply image = record (change w k (λ t. record t { first = w.next_id; drawn = n })) { next_id = w.next_id + n }
 done_step f w k (CommitStep name) WasDone image = change w k (committing name (told_blob f image name))
@@ -182,11 +226,12 @@ done_step f w k (FailedStep why) reply image = failed_of w k (fin.get w.tickets 
 done_step f w k FinishStep reply image = change w k (λ t. record t { out = false })
 done_step f w k DroppedStep reply image = dropped_of w k (fin.get w.tickets k)
 done_step f w k ElectStep reply image = record w { term = suc w.term; next_id = first_id (suc w.term) }
+done_step f w k (ReadStep read) reply image = read_by f w k read reply image
 done_step f w k step reply image = w
 
 -- a step that swaps the record
 abbrev pub swaps_record : Step → Bool
-swaps_record (AskStep command) = true
+swaps_record (AskStep command) = is_recorded command
 swaps_record RaiseStep = true
 swaps_record SettleStep = true
 swaps_record DroppedStep = true
@@ -213,9 +258,16 @@ is_latest name = false
 abbrev pub tried : World → ℕ → World
 tried w k = change w k (λ t. record t { tried_latest = true })
 
+-- a commit of a test blob that failed, and left it
+abbrev pub test_left : World → BlobName → Option Bytes → Option Bytes → World
+test_left w name None (Some bytes) = record w { doomed = name ∷ w.doomed }
+test_left w name None None = w
+test_left w name (Some was) now = w
+
 abbrev pub faulted : Formats → World → ℕ → Step → Option Image → World
 faulted f w k LatestStep image = tried w k
 faulted f w k (BeginStep name) image = if is_latest name then tried w k else w
+faulted f w k (ReadStep (CommitTest name)) image = test_left w name (fin.get w.blobs (f.names.text name)) (told_blob f image name)
 faulted f w k step image = if swaps_record step then fallen f w (done_step f w k step HasEnded image) image else w
 
 abbrev pub answered : Formats → World → ℕ → Step → Reply → Option Image → World
@@ -227,6 +279,50 @@ abbrev pub blobs_in : Option Image → Blobs → Blobs
 blobs_in None blobs = blobs
 blobs_in (Some image) blobs = image.blobs
 
+-- what who 0 has done is forgotten where it asks or looks; a step that was refused in a deposed world, or as stale, changes nothing
+abbrev pub is_heard : Reply → Bool
+is_heard (Refused (DeposedAt place)) = false
+is_heard (Refused (StaleTerm own now)) = false
+is_heard reply = true
+
+abbrev pub caller_told : Caller → BlobName → Option Bytes → Caller
+caller_told c name None = record c { fetched = name ∷ c.fetched; found = name ∷ c.found }
+caller_told c name (Some bytes) = record c { fetched = name ∷ c.fetched; found = name ∷ c.found; read = (name, bytes) ∷ c.read }
+
+abbrev pub caller_ended : Caller → Reply → Caller
+caller_ended c HasEnded = no_caller
+caller_ended c reply = c
+
+abbrev pub caller_read : Formats → Caller → Read → Reply → Option Image → Caller
+caller_read f c (ReadBlob name) WasFetched image = caller_told c name (told_blob f image name)
+caller_read f c (ReadBlob name) WasAbsent image = record c { fetched = name ∷ c.fetched }
+caller_read f c (ReadBlob name) reply image = c
+caller_read f c (RestoredShard files bytes) reply image = c
+caller_read f c (CheckedAll snapshots blobs) reply image = caller_ended c reply
+caller_read f c DrawTest (DrawnFrom first) image = record c { drawn = Some first }
+caller_read f c (CommitTest name) WasDone image = record c { committed = name ∷ c.committed }
+caller_read f c (RemoveTests names) WasRemoved image = record c { removed = names ++ c.removed }
+caller_read f c VerifiedAll reply image = caller_ended c reply
+caller_read f c (ReadFails why) reply image = caller_ended c reply
+caller_read f c read reply image = c
+
+abbrev pub caller_by : Formats → Caller → ℕ → Read → Reply → Option Image → Caller
+caller_by f c zero read reply image = caller_read f c read reply image
+caller_by f c (suc k) read reply image = c
+
+abbrev pub caller_after : Formats → Caller → ℕ → Step → Reply → Option Image → Caller
+caller_after f c who (AskStep command) reply image = if is_heard reply then no_caller else c
+caller_after f c who LookStep reply image = if is_heard reply then record no_caller { looked = true } else c
+caller_after f c who (ReadStep read) reply image = caller_by f c who read reply image
+caller_after f c who step reply image = c
+
+-- the world after a moment, what who 0 has done aside
+abbrev pub stepped : Formats → World → Moment → World
+stepped f w m = record (answered f w m.entry.who m.entry.step m.entry.reply m.image) { blobs = blobs_in m.image w.blobs }
+
+abbrev pub heard : Formats → World → Moment → World
+heard f v m = record v { caller = caller_after f v.caller m.entry.who m.entry.step m.entry.reply m.image }
+
 -- the world after a moment
 abbrev pub after : Formats → World → Moment → World
-after f w m = record (answered f w m.entry.who m.entry.step m.entry.reply m.image) { blobs = blobs_in m.image w.blobs }
+after f w m = heard f (stepped f w m) m

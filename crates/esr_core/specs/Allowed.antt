@@ -1,20 +1,22 @@
 -- What each step asks of the world before it, by its answer.
-use Rattle.std.specs.Prelude.{◌≡◌, ◌≢◌, ◌⊎◌, ℕ, suc, ◌+◌, ◌-◌, ◌^◌, ◌<◌, ◌≤◌, true, false, List, [], ◌∷◌, length, sum_by, min, Option, Some, None}
+use Rattle.std.specs.Prelude.{◌≡◌, ◌≢◌, ◌⊎◌, ℕ, zero, suc, ◌+◌, ◌-◌, ◌^◌, ◌<◌, ◌≤◌, true, false, List, [], ◌∷◌, length, sum_by, min, Option, Some, None}
 use Rattle.std.specs.FinMap as fin
-use Rattle.esr_model.specs.Names.{BlobName, Root, Latest, ShardSnap, ShardIndex}
-use Rattle.esr_model.specs.Values.{Bytes, Has, RootSnap, SnapInfo, ShardFiles, ShardResult, ReadsBack, Formats}
-use Rattle.esr_model.specs.Shelf.{Shelved}
+use Rattle.esr_model.specs.Names.{BlobName, Root, Latest, Snap, ShardSnap, ShardIndex}
+use Rattle.esr_model.specs.Values.{Bytes, Has, IndexRef, RootSnap, RootIndex, SnapInfo, ShardSnapshot, ShardFiles, ShardResult, ReadsBack, Formats}
+use Rattle.esr_model.specs.Shelf.{Shelved, names_uuid}
 use Rattle.esr_model.specs.Kept.{first_id}
 use Rattle.esr_model.specs.Finalize.{finalized_root}
-use Rattle.esr_model.specs.Image.{Blobs, Image, IsStored, Present}
+use Rattle.esr_model.specs.Image.{Blobs, Image, AllPairs, IsStored, At, Present, Reads, FileStands, Generation, Whole}
+use Rattle.esr_model.specs.Reach.{Reached}
 use Rattle.esr_model.specs.Uploads.{entries_from, id_after, shard_blobs, with_snap, no_files}
-use Rattle.esr_core.specs.World.{World, Op, Deletion, ShardWork, Out, Shard, Finalize, Drop, Ticket, Swap, swap, info_of, metadata, record_of}
+use Rattle.esr_core.specs.World.{World, Op, Deletion, ShardWork, Out, Unread, RestoreShard, Restoring, Reader, Shard, Finalize, Drop, Ticket, Swap, swap, info_of, metadata, record_of}
 use Rattle.esr_core.specs.Generations.{OpTexts}
-use Rattle.esr_core.specs.Ready.{IsShard, IsMaster, ReadyShard, ReadyFinalize, ReadyDrop, ReadyDelete, ReadyCleanup, AnyReady}
-use Rattle.esr_core.specs.Steps.{IsOut, Drew, Largest, MayCommit, MaySettle}
+use Rattle.esr_core.specs.Ready.{IsShard, IsMaster, ReadyShard, ReadyFinalize, ReadyDrop, ReadyDelete, ReadyCleanup, ReadyRestore, AnyReady}
+use Rattle.esr_core.specs.Restores.{IsTestOf, AreApart, IsReading, WasRead, IsPiece, ListsPiece, restore_shard}
+use Rattle.esr_core.specs.Steps.{IsOut, Drew, Largest, MayCommit, MaySettle, Removes}
 use Rattle.esr_core.specs.Texts.{IsMetaOf}
 use Rattle.std.specs.Int.{w64, to_be_bytes}
-use Rattle.esr_core.specs.Entry.{AskedIndex, Asked, Snapshot, Given, GivenShard, GivenFinalize, GivenDrop, Why, Step, AskStep, TakeStep, DrawStep, BeginStep, CommitStep, LatestStep, FetchStep, ListStep, RaiseStep, SettleStep, DoneStep, FailedStep, FinishStep, DroppedStep, ElectStep, LookStep, CleanupRunning, NameInUse, TooMany, DeposedAt, StaleTerm, GenerationsSpent, TermsSpent, IdsSpent, NameTaken, DepotFault, Reply, Accepted, NothingReady, Gave, DrawnFrom, WasBegun, WasDone, WasThere, WasReplaced, WasFetched, WasAbsent, WasListed, RaisedTo, WasSettled, HasEnded, ElectedTerm, Looked, Refused, Moment}
+use Rattle.esr_core.specs.Entry.{AskedIndex, Asked, Snapshot, Restore, is_recorded, Given, GivenShard, GivenFinalize, GivenDrop, GivenRestore, Why, Read, ReadBlob, RestoredShard, CheckedAll, DrawTest, BeginTest, CommitTest, RemoveTests, VerifiedAll, ReadFails, Step, AskStep, TakeStep, DrawStep, BeginStep, CommitStep, LatestStep, FetchStep, ListStep, RaiseStep, SettleStep, DoneStep, FailedStep, FinishStep, DroppedStep, ElectStep, LookStep, ReadStep, CleanupRunning, NameInUse, TooMany, DeposedAt, StaleTerm, GenerationsSpent, TermsSpent, IdsSpent, NameTaken, DepotFault, NoSnapshot, BeingDeleted, Reply, Accepted, NothingReady, Gave, DrawnFrom, WasBegun, WasDone, WasThere, WasReplaced, WasFetched, WasAbsent, WasListed, RaisedTo, WasSettled, HasEnded, ElectedTerm, Looked, Refused, WasRemoved, AcceptedRestore, Moment}
 use Rattle.esr_core.specs.After.{asked_op, new_names, shard_of, after}
 
 -- what `index.latest` holds: the generation as 8 bytes, the highest first
@@ -61,6 +63,46 @@ pub record Accepts (f : Formats) (w : World) (name : Bytes) (indices : List Aske
   -- its texts can be written
   pub texts : OpTexts f (asked_op w name indices moment)
 
+-- ---- ask: a restore
+
+abbrev pub IsListed : World → Bytes → ℕ → Type 0
+IsListed w name uuid = (s : RootSnap) × Has w.root.snapshots s × (s.name ≡ name) × (s.uuid ≡ uuid)
+
+-- no open delete names the snapshot
+abbrev pub IsSpared : World → ℕ → Type 0
+IsSpared w uuid = (d : ℕ) (x : Deletion) → fin.get w.deletes d ≡ Some x → names_uuid x.uuids uuid ≡ false
+
+-- this open delete names it, and no lower one
+pub record IsBeingDeleted (w : World) (uuid d : ℕ) : Type 0 where
+  pub x : Deletion
+  pub there : fin.get w.deletes d ≡ Some x
+  pub names : names_uuid x.uuids uuid ≡ true
+  pub lowest : (e : ℕ) (y : Deletion) → e < d → fin.get w.deletes e ≡ Some y → names_uuid y.uuids uuid ≡ false
+
+-- The indices of a listed snapshot: exactly those of the root that have it, each shard with a generation. Where the container
+-- tells, they are those of the info that is there.
+pub record AreIndicesOf (f : Formats) (w : World) (uuid : ℕ) (indices : List IndexRef) (image : Option Image) : Type 0 where
+  pub listed : (r : IndexRef) → Has indices r → (x : RootIndex) × Has w.root.indices x × (x.name ≡ r.name) × (x.id ≡ r.id) × Has x.snapshots uuid
+  pub exact : (x : RootIndex) → Has w.root.indices x → Has x.snapshots uuid → (r : IndexRef) × Has indices r × (r.name ≡ x.name) × (r.id ≡ x.id)
+  pub generations : (r : IndexRef) (k : ℕ) → Has indices r → k < r.shards → (g : ℕ) × Generation w.root r.id k g
+  pub apart : AreApart indices
+  pub told : Told image (λ blobs. (info : SnapInfo) × Reads (At f w.blobs) (Snap uuid) f.info info × (info.indices ≡ indices))
+
+-- a restore is accepted as this op
+pub record AcceptsRestore (f : Formats) (w : World) (name : Bytes) (o uuid : ℕ) (indices : List IndexRef) (image : Option Image) : Type 0 where
+  pub number : o ≡ w.next_op
+  pub listed : IsListed w name uuid
+  pub spared : IsSpared w uuid
+  pub room : fin.len w.restores < 1000
+  pub indices_of : AreIndicesOf f w uuid indices image
+
+-- how a restore may be answered
+pub data RestoreAllows (f : Formats) (w : World) (name : Bytes) : Reply → Option Image → Type 0 where
+  OpeningRestore : (o uuid : ℕ) (indices : List IndexRef) (image : Option Image) → AcceptsRestore f w name o uuid indices image → RestoreAllows f w name (AcceptedRestore o uuid indices) image
+  NotListed : (image : Option Image) → ((uuid : ℕ) → IsListed w name uuid → ⊥) → RestoreAllows f w name (Refused (NoSnapshot name)) image
+  NamedByDelete : (uuid d : ℕ) (image : Option Image) → IsListed w name uuid → IsBeingDeleted w uuid d → RestoreAllows f w name (Refused (BeingDeleted d)) image
+  FullOfRestores : (uuid : ℕ) (image : Option Image) → IsListed w name uuid → IsSpared w uuid → 1000 ≤ fin.len w.restores → RestoreAllows f w name (Refused (TooMany 1000)) image
+
 -- ---- take
 
 -- some unit of this op is ready
@@ -68,10 +110,10 @@ abbrev pub HasReady : World → ℕ → Type 0
 HasReady w o =
     ((op : Op) × (s : ShardWork) × ReadyShard w o op s)
     ⊎ (((op : Op) × (results : List ShardResult) × ReadyFinalize w o op results)
-    ⊎ (ReadyDrop w o ⊎ ((x : Deletion) × (ReadyDelete w o x ⊎ ReadyCleanup w o x))))
+    ⊎ (ReadyDrop w o ⊎ (((x : Deletion) × (ReadyDelete w o x ⊎ ReadyCleanup w o x)) ⊎ ((r : Restoring) × (s : RestoreShard) × ReadyRestore w o r s))))
 
 -- a stands before the first b in the list
-abbrev pub StandsBefore : List ShardWork → ShardWork → ShardWork → Type 0
+abbrev pub StandsBefore : {A : Type 0} → List A → A → A → Type 0
 StandsBefore [] a b = ⊥
 StandsBefore (x ∷ xs) a b = (x ≢ b) × (((x ≡ a) × Has xs b) ⊎ StandsBefore xs a b)
 
@@ -91,10 +133,20 @@ pub record GivesFinalize (f : Formats) (w : World) (o : ℕ) (info : SnapInfo) (
   pub info_is : info ≡ info_of op results
   pub root_back : ReadsBack f.root (finalized_root w.root (info_of op results) results)
 
+pub record GivesRestore (w : World) (o index number uuid : ℕ) : Type 0 where
+  pub r : Restoring
+  pub s : RestoreShard
+  pub found : restore_shard r.shards index number ≡ Some s
+  pub ready : ReadyRestore w o r s
+  -- the first of its op that is unread
+  pub first : (z : RestoreShard) → StandsBefore r.shards z s → z.state ≡ Unread → ⊥
+  pub uuid_is : uuid ≡ r.uuid
+
 abbrev pub Gives : Formats → World → ℕ → Given → Type 0
 Gives f w o (GivenShard index number base) = GivesShard w o index number base
 Gives f w o (GivenFinalize info results) = GivesFinalize f w o info results
 Gives f w o GivenDrop = ReadyDrop w o
+Gives f w o (GivenRestore index number uuid) = GivesRestore w o index number uuid
 
 -- ---- steps of a ticket
 
@@ -187,7 +239,7 @@ Based f t index shard None base = base ≡ no_files
 Based f t index shard (Some g) base = (bytes : Bytes) × Has t.read (ShardIndex index shard g, bytes) × (f.shard_index.read bytes ≡ Some base)
 
 -- A shard is done: its ticket wrote the parts of the files that the base doesn't have, the snapshot of the shard and the
--- index under the last id that it drew. The files are those that the source tells, where it tells them.
+-- index under the last id that it drew, and nothing else. The files are those that the source tells, where it tells them.
 pub record DoneBy (f : Formats) (part_size : ℕ) (t : Ticket) (r : ShardResult) : Type 0 where
   pub size : 0 < part_size
   pub base : ShardFiles
@@ -197,6 +249,7 @@ pub record DoneBy (f : Formats) (part_size : ℕ) (t : Ticket) (r : ShardResult)
   pub generation : r.generation ≡ id_after f base t.first files
   pub drew : t.first + t.drawn ≡ suc r.generation
   pub wrote : (name : BlobName) (bytes : Bytes) → Has (shard_blobs f part_size base r.index r.shard t.uuid t.first files) (name, bytes) → Has t.wrote (name, bytes)
+  pub only : (name : BlobName) (bytes : Bytes) → Has t.wrote (name, bytes) → Has (shard_blobs f part_size base r.index r.shard t.uuid t.first files) (name, bytes)
   pub snap_back : ReadsBack f.shard_snap (record { uuid = t.uuid; files = entries_from f part_size base t.first files })
   pub index_back : ReadsBack f.shard_index (with_snap base t.uuid (entries_from f part_size base t.first files))
   pub count : r.files ≡ length files
@@ -249,7 +302,70 @@ pub record Drops (w : World) (k : ℕ) : Type 0 where
 abbrev pub IsMetadata : BlobName → Type 0
 IsMetadata name = (u : ℕ) × IsMetaOf u name
 
--- ---- all steps
+-- ---- steps that read
+
+-- a restore's ticket fetches the snapshot of its shard, and then the pieces that it lists
+abbrev pub MayRead : Formats → Reader → BlobName → Option Image → Type 0
+MayRead f q name image = (name ≡ ShardSnap q.index q.number q.uuid) ⊎ (IsPiece q.index q.number name × Told image (λ blobs. ListsPiece f q name))
+
+-- the safe root, or what it reaches
+abbrev pub InReach : Formats → World → BlobName → Type 0
+InReach f w name = ((n : ℕ) × (w.safe ≡ suc n) × (name ≡ Root n)) ⊎ Reached f (At f w.blobs) w.root name
+
+-- a check fetches each of these once
+pub record MayCheck (f : Formats) (w : World) (name : BlobName) (image : Option Image) : Type 0 where
+  pub looked : w.caller.looked ≡ true
+  pub idle : w.caller.drawn ≡ None
+  pub unfetched : Has w.caller.fetched name → ⊥
+  pub reached : Told image (λ blobs. InReach f w name)
+
+-- a verification what it committed and hasn't removed, once
+pub record MayVerify (w : World) (name : BlobName) : Type 0 where
+  pub committed : Has w.caller.committed name
+  pub unremoved : Has w.caller.removed name → ⊥
+  pub once : Has w.caller.fetched name → ⊥
+
+pub data Fetcher (f : Formats) (w : World) (name : BlobName) (image : Option Image) : ℕ → Type 0 where
+  ByReader : (k : ℕ) (q : Reader) → IsReading w k q → MayRead f q name image → Fetcher f w name image k
+  ByCheck : MayCheck f w name image → Fetcher f w name image 0
+  ByVerify : MayVerify w name → Fetcher f w name image 0
+
+-- The ticket read all of its shard's snapshot: each file has the stated length and digest, cut at the stated part size.
+pub record RestoredBy (f : Formats) (q : Reader) (files bytes : ℕ) : Type 0 where
+  pub snap : ShardSnapshot
+  pub snap_read : Reads (WasRead q.read) (ShardSnap q.index q.number q.uuid) f.shard_snap snap
+  pub contents : List Bytes
+  pub stand : AllPairs (FileStands f (WasRead q.read) q.index q.number) snap.files contents
+  pub count : files ≡ length snap.files
+  pub sum : bytes ≡ min (sum_by (λ (b : Bytes). length b) contents) (2 ^ 64 - 1)
+
+-- the safe root is whole, where there is one
+abbrev pub IsWhole : Formats → Blobs → ℕ → Type 0
+IsWhole f blobs zero = Unit {0}
+IsWhole f blobs (suc n) = Whole f (At f blobs) n
+
+-- a check has read the safe root and all that it reaches, and nothing else
+pub record CheckedBy (f : Formats) (w : World) : Type 0 where
+  pub whole : IsWhole f w.blobs w.safe
+  pub all : (name : BlobName) → InReach f w name → (bytes : Bytes) × WasRead w.caller.read name bytes
+  pub only : (name : BlobName) → Has w.caller.fetched name → InReach f w name
+
+pub record Checks (f : Formats) (w : World) (snapshots blobs : ℕ) (image : Option Image) : Type 0 where
+  pub looked : w.caller.looked ≡ true
+  pub idle : w.caller.drawn ≡ None
+  pub snapshots_is : snapshots ≡ length w.root.snapshots
+  pub blobs_is : blobs ≡ length w.caller.found
+  pub told : Told image (λ now. CheckedBy f w)
+
+-- Who may answer a step that reads so. Each leaves the blobs.
+pub data ReadAllows (f : Formats) (w : World) : ℕ → Read → Reply → Option Image → Type 0 where
+  ReadFound : (k : ℕ) (name : BlobName) (image : Option Image) → IsStored f name → Fetcher f w name image k → Told image (λ blobs. (bytes : Bytes) × (fin.get w.blobs (f.names.text name) ≡ Some bytes)) → ReadAllows f w k (ReadBlob name) WasFetched image
+  ReadMissing : (k : ℕ) (name : BlobName) (image : Option Image) → IsStored f name → Fetcher f w name image k → Told image (λ blobs. fin.get w.blobs (f.names.text name) ≡ None) → ReadAllows f w k (ReadBlob name) WasAbsent image
+  ReadFault : (k : ℕ) (name : BlobName) (image : Option Image) → IsStored f name → Fetcher f w name image k → ReadAllows f w k (ReadBlob name) (Refused DepotFault) image
+  RestoringShard : (k files bytes : ℕ) (image : Option Image) (q : Reader) → IsReading w k q → Told image (λ blobs. RestoredBy f q files bytes) → ReadAllows f w k (RestoredShard files bytes) HasEnded image
+  ReaderFailing : (k : ℕ) (why : Why) (image : Option Image) (q : Reader) → IsReading w k q → ReadAllows f w k (ReadFails why) HasEnded image
+  CheckingAll : (snapshots blobs : ℕ) (image : Option Image) → Checks f w snapshots blobs image → ReadAllows f w 0 (CheckedAll snapshots blobs) HasEnded image
+  CheckFailing : (why : Why) (image : Option Image) → w.caller.looked ≡ true → ReadAllows f w 0 (ReadFails why) HasEnded image
 
 -- the blobs are as they were
 abbrev pub SameBlobs : World → Option Image → Type 0
@@ -258,6 +374,45 @@ SameBlobs w image = Told image (λ blobs. blobs ≡ w.blobs)
 -- a blob more, under a name that was free
 abbrev pub Adds : Formats → World → BlobName → Bytes → Blobs → Type 0
 Adds f w name bytes blobs = (fin.get w.blobs (f.names.text name) ≡ None) × (blobs ≡ fin.insert w.blobs (f.names.text name) bytes)
+
+-- ---- a verification of the container
+
+-- the name is that of a test blob under the id that was drawn
+pub record IsOwnTest (f : Formats) (w : World) (name : BlobName) : Type 0 where
+  pub id : ℕ
+  pub drawn : w.caller.drawn ≡ Some id
+  pub below : id < w.next_id
+  pub test : IsTestOf id name
+  pub stored : IsStored f name
+
+-- some test blobs that were committed, and may be removed
+pub record MayRemoveTests (w : World) (names : List BlobName) : Type 0 where
+  pub few : length names ≤ 1000
+  pub committed : (name : BlobName) → Has names name → Has w.caller.committed name
+  pub doomed : (name : BlobName) → Has names name → Has w.doomed name
+
+-- each test blob was fetched, was there, and then was removed
+pub record Verifies (w : World) : Type 0 where
+  pub id : ℕ
+  pub drawn : w.caller.drawn ≡ Some id
+  pub found : (name : BlobName) → Has w.caller.committed name → Has w.caller.found name
+  pub removed : (name : BlobName) → Has w.caller.committed name → Has w.caller.removed name
+
+-- How a step of a verification may be answered, who 0 being the caller.
+pub data VerifyAllows (f : Formats) (w : World) : Read → Reply → Option Image → Type 0 where
+  DrawingTest : (image : Option Image) → w.caller.drawn ≡ None → suc w.next_id < first_id (suc w.term) → SameBlobs w image → VerifyAllows f w DrawTest (DrawnFrom w.next_id) image
+  TestSpent : (image : Option Image) → w.caller.drawn ≡ None → first_id (suc w.term) ≤ suc w.next_id → SameBlobs w image → VerifyAllows f w DrawTest (Refused (IdsSpent w.next_id)) image
+  BeginningTest : (name : BlobName) (image : Option Image) → IsOwnTest f w name → SameBlobs w image → VerifyAllows f w (BeginTest name) WasBegun image
+  BeginTestFails : (name : BlobName) (image : Option Image) → IsOwnTest f w name → SameBlobs w image → VerifyAllows f w (BeginTest name) (Refused DepotFault) image
+  CommittingTest : (name : BlobName) (bytes : Bytes) (image : Option Image) → IsOwnTest f w name → (Has w.caller.committed name → ⊥) → Told image (Adds f w name bytes) → VerifyAllows f w (CommitTest name) WasDone image
+  TestTaken : (name : BlobName) (image : Option Image) → IsOwnTest f w name → Told image (λ blobs. Present f w.blobs name × (blobs ≡ w.blobs)) → VerifyAllows f w (CommitTest name) (Refused (NameTaken name)) image
+  CommitTestFails : (name : BlobName) (bytes : Bytes) (image : Option Image) → IsOwnTest f w name → Told image (λ blobs. (blobs ≡ w.blobs) ⊎ Adds f w name bytes blobs) → VerifyAllows f w (CommitTest name) (Refused DepotFault) image
+  RemovingTests : (names : List BlobName) (image : Option Image) → MayRemoveTests w names → Told image (λ blobs. Removes f w.blobs blobs names × ((name : BlobName) → Has names name → fin.get blobs (f.names.text name) ≡ None)) → VerifyAllows f w (RemoveTests names) WasRemoved image
+  RemoveTestsFails : (names : List BlobName) (image : Option Image) → MayRemoveTests w names → Told image (λ blobs. Removes f w.blobs blobs names) → VerifyAllows f w (RemoveTests names) (Refused DepotFault) image
+  VerifyingAll : (image : Option Image) → Verifies w → SameBlobs w image → VerifyAllows f w VerifiedAll HasEnded image
+  VerifyFailing : (why : Why) (id : ℕ) (image : Option Image) → w.caller.drawn ≡ Some id → SameBlobs w image → VerifyAllows f w (ReadFails why) HasEnded image
+
+-- ---- all steps
 
 -- Who may answer a step so, in a world that isn't deposed. A case each for an answer; a further step is a further case.
 pub data Allows (f : Formats) (part_size : ℕ) (w : World) : ℕ → Step → Reply → Option Image → Type 0 where
@@ -281,8 +436,11 @@ pub data Allows (f : Formats) (part_size : ℕ) (w : World) : ℕ → Step → R
   Dropping : (k : ℕ) (image : Option Image) → Drops w k → SameBlobs w image → Allows f part_size w k DroppedStep HasEnded image
   Electing : (image : Option Image) → suc w.term < 2 ^ 63 → SameBlobs w image → Allows f part_size w 0 ElectStep (ElectedTerm (suc w.term)) image
   Looking : (image : Option Image) → SameBlobs w image → Allows f part_size w 0 LookStep (Looked w.root.snapshots w.safe) image
+  AskingRestore : (name place : Bytes) (reply : Reply) (image : Option Image) → RestoreAllows f w name reply image → SameBlobs w image → Allows f part_size w 0 (AskStep (Restore name place)) reply image
+  Verifying : (read : Read) (reply : Reply) (image : Option Image) → VerifyAllows f w read reply image → Allows f part_size w 0 (ReadStep read) reply image
+  Reading : (k : ℕ) (read : Read) (reply : Reply) (image : Option Image) → ReadAllows f w k read reply image → SameBlobs w image → Allows f part_size w k (ReadStep read) reply image
   -- refusals by rule
-  Cleaning : (command : Asked) (d : ℕ) (x : Deletion) (image : Option Image) → fin.get w.deletes d ≡ Some x → x.clean ≡ true → SameBlobs w image → Allows f part_size w 0 (AskStep command) (Refused (CleanupRunning d)) image
+  Cleaning : (command : Asked) (d : ℕ) (x : Deletion) (image : Option Image) → is_recorded command ≡ true → fin.get w.deletes d ≡ Some x → x.clean ≡ true → SameBlobs w image → Allows f part_size w 0 (AskStep command) (Refused (CleanupRunning d)) image
   Used : (name : Bytes) (indices : List AskedIndex) (moment uuid : ℕ) (image : Option Image) → NoCleanup w → IsNameOf w name uuid → SameBlobs w image → Allows f part_size w 0 (AskStep (Snapshot name indices moment)) (Refused (NameInUse uuid)) image
   Full : (name : Bytes) (indices : List AskedIndex) (moment : ℕ) (image : Option Image) → NoCleanup w → IsUnused w name → 1000 ≤ open_count w → SameBlobs w image → Allows f part_size w 0 (AskStep (Snapshot name indices moment)) (Refused (TooMany 1000)) image
   AskSpent : (name : Bytes) (indices : List AskedIndex) (moment : ℕ) (image : Option Image) → NoCleanup w → IsUnused w name → open_count w < 1000 → first_id (suc w.term) ≤ w.next_id + suc (new_names w indices) → SameBlobs w image

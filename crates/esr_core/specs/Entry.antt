@@ -1,7 +1,7 @@
 -- A step of the repository as the history tells it: who made it, what was asked, and what was answered.
-use Rattle.std.specs.Prelude.{ℕ, List, Option}
+use Rattle.std.specs.Prelude.{ℕ, Bool, true, false, List, Option}
 use Rattle.esr_model.specs.Names.{BlobName}
-use Rattle.esr_model.specs.Values.{Bytes, RootSnap, SnapInfo, ShardResult}
+use Rattle.esr_model.specs.Values.{Bytes, IndexRef, RootSnap, SnapInfo, ShardResult}
 use Rattle.esr_model.specs.Image.{Image}
 
 -- an index that a snapshot is to hold, with the place of its files
@@ -13,12 +13,20 @@ pub record AskedIndex : Type 0 where
 -- a command as it is asked; a further command is a further case
 pub data Asked : Type 0 where
   Snapshot : (name : Bytes) (indices : List AskedIndex) (moment : ℕ) → Asked
+  Restore : (name place : Bytes) → Asked
+
+-- the cluster record has the op
+abbrev pub is_recorded : Asked → Bool
+is_recorded (Snapshot name indices moment) = true
+is_recorded (Restore name place) = false
 
 -- the unit that a ticket was given
 pub data Given : Type 0 where
   GivenShard : (index number : ℕ) (base : Option ℕ) → Given
   GivenFinalize : (info : SnapInfo) (results : List ShardResult) → Given
   GivenDrop : Given
+  -- a shard of a restore
+  GivenRestore : (index number uuid : ℕ) → Given
 
 -- why a unit failed
 pub data Why : Type 0 where
@@ -29,6 +37,31 @@ pub data Why : Type 0 where
   OfChange : (first_len : ℕ) (first_digest : Bytes) (second_len : ℕ) (second_digest : Bytes) → Why
   -- a blob that was absent, or didn't read
   OfDamage : (name : BlobName) → Why
+  -- a blob that it was to commit was there already
+  OfTaken : (name : BlobName) → Why
+  -- the ids of the term, or the generations, end here
+  OfIdsSpent : (next : ℕ) → Why
+  OfGenerationsSpent : (pending : ℕ) → Why
+  OfTarget : Why
+  -- a file, of which this is a part, has another print than is stated
+  OfPrint : (name : BlobName) (stated_len : ℕ) (stated_digest : Bytes) (found_len : ℕ) (found_digest : Bytes) → Why
+  -- two blobs that read, but don't agree
+  OfDisagreement : (name other : BlobName) → Why
+
+-- a step of a restore's ticket, or of who 0 that checks the repository or verifies the container
+pub data Read : Type 0 where
+  ReadBlob : (name : BlobName) → Read
+  -- a shard is restored: so many files, of so many bytes
+  RestoredShard : (files bytes : ℕ) → Read
+  -- a check has read all: so many snapshots and blobs
+  CheckedAll : (snapshots blobs : ℕ) → Read
+  -- a verification of the container: an id is drawn, test blobs are committed under it, fetched and removed
+  DrawTest : Read
+  BeginTest : (name : BlobName) → Read
+  CommitTest : (name : BlobName) → Read
+  RemoveTests : (names : List BlobName) → Read
+  VerifiedAll : Read
+  ReadFails : (why : Why) → Read
 
 pub data Step : Type 0 where
   AskStep : (command : Asked) → Step
@@ -47,6 +80,7 @@ pub data Step : Type 0 where
   DroppedStep : Step
   ElectStep : Step
   LookStep : Step
+  ReadStep : (read : Read) → Step
 
 pub data Refusal : Type 0 where
   CleanupRunning : (op : ℕ) → Refusal
@@ -61,6 +95,8 @@ pub data Refusal : Type 0 where
   IdsSpent : (next : ℕ) → Refusal
   NameTaken : (name : BlobName) → Refusal
   DepotFault : Refusal
+  NoSnapshot : (name : Bytes) → Refusal
+  BeingDeleted : (op : ℕ) → Refusal
 
 pub data Reply : Type 0 where
   Accepted : (op : ℕ) → Reply
@@ -81,6 +117,9 @@ pub data Reply : Type 0 where
   ElectedTerm : (term : ℕ) → Reply
   Looked : (snapshots : List RootSnap) (safe : ℕ) → Reply
   Refused : (refusal : Refusal) → Reply
+  WasRemoved : Reply
+  -- a restore of the snapshot with this uuid, which has these indices
+  AcceptedRestore : (op uuid : ℕ) (indices : List IndexRef) → Reply
 
 -- who: a ticket from 1 on, else 0
 pub record Entry : Type 0 where

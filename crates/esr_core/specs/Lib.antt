@@ -1,4 +1,5 @@
 pub mod World
+pub mod Restores
 pub mod Ready
 pub mod Generations
 pub mod Steps
@@ -11,10 +12,13 @@ pub mod Written
 pub mod Ids
 pub mod Tracked
 pub mod Ranked
+pub mod ReadTracked
 pub mod Turns
 pub mod Entry
 pub mod After
 pub mod Allowed
+pub mod ReadLaw
 pub mod History
+pub mod ReadEnds
 pub mod Left
 pub mod Example

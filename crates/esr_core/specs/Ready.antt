@@ -5,7 +5,7 @@ use Rattle.std.specs.FinMap.{FinMap}
 use Rattle.std.specs.FinMap as fin
 use Rattle.esr_model.specs.Values.{ShardResult}
 use Rattle.esr_model.specs.Image.{Has}
-use Rattle.esr_core.specs.World.{World, Op, Deletion, ShardWork, ShardState, Pending, Out, Done, GivenUp, Work, Shard, Finalize, Deleting, Drop, Ticket, AllDone}
+use Rattle.esr_core.specs.World.{World, Op, Deletion, ShardWork, ShardState, Pending, Out, Done, GivenUp, Unread, RestoreShard, Restoring, Work, Shard, Finalize, Deleting, Drop, Ticket, AllDone}
 
 -- an open delete stands before the op
 pub record Barrier (deletes : FinMap nat_cmp Deletion) (o : ℕ) : Type 0 where
@@ -110,6 +110,12 @@ pub record ReadyCleanup (w : World) (d : ℕ) (x : Deletion) : Type 0 where
   pub no_other : (e : ℕ) (y : Deletion) → fin.get w.deletes e ≡ Some y → e ≡ d
   pub no_ticket : (k : ℕ) (t : Ticket) → fin.get w.tickets k ≡ Some t → t.out ≡ true → ⊥
 
+-- of a restore's shard: it is unread
+pub record ReadyRestore (w : World) (o : ℕ) (r : Restoring) (s : RestoreShard) : Type 0 where
+  pub there : fin.get w.restores o ≡ Some r
+  pub s_there : Has r.shards s
+  pub unread : s.state ≡ Unread
+
 -- some unit is ready
 pub data AnyReady (w : World) : Type 0 where
   AShard : (o : ℕ) (op : Op) (s : ShardWork) → ReadyShard w o op s → AnyReady w
@@ -117,6 +123,7 @@ pub data AnyReady (w : World) : Type 0 where
   ADrop : (o : ℕ) → ReadyDrop w o → AnyReady w
   ADelete : (d : ℕ) (x : Deletion) → ReadyDelete w d x → AnyReady w
   ACleanup : (d : ℕ) (x : Deletion) → ReadyCleanup w d x → AnyReady w
+  ARestore : (o : ℕ) (r : Restoring) (s : RestoreShard) → ReadyRestore w o r s → AnyReady w
 
 -- an op of this number is open
 abbrev pub IsOpen : World → ℕ → Type 0

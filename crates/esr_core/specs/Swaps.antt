@@ -8,6 +8,7 @@ use Rattle.esr_model.specs.Values.{Bytes, Ledger, ReadsBack, Formats}
 use Rattle.esr_model.specs.Shelf.{Shelved, shelf_after}
 use Rattle.esr_model.specs.Image.{Has, RootStands, KeptBy}
 use Rattle.esr_core.specs.World.{World, Ticket, Swap, swap, ledger_of, HeldIn}
+use Rattle.esr_core.specs.Restores.{IsTestOf}
 
 -- the blob is there, or the unit writes it
 abbrev pub OrOwn : (BlobName → Bytes → Type 0) → List (BlobName × Bytes) → BlobName → Bytes → Type 0
@@ -17,10 +18,11 @@ OrOwn has own name bytes = has name bytes ⊎ Has own (name, bytes)
 abbrev pub Counts : Ledger → Ticket → Type 0
 Counts ledger t = (t.term ≡ ledger.term) ⊎ ((n : ℕ) × (t.raised ≡ Some n) × (ledger.safe ≤ n))
 
--- its root can be written, its own blobs are no roots, and each has one text
+-- its root can be written, its own blobs are no roots and no test blobs, and each has one text
 pub record SwapShape (f : Formats) (s : Swap) : Type 0 where
   pub root_back : ReadsBack f.root s.root
   pub no_root : (n : ℕ) (bytes : Bytes) → Has s.own (Root n, bytes) → ⊥
+  pub no_test : (v : ℕ) (name : BlobName) (bytes : Bytes) → Has s.own (name, bytes) → IsTestOf v name → ⊥
   pub one_text : (name : BlobName) (a b : Bytes) → Has s.own (name, a) → Has s.own (name, b) → a ≡ b
 
 -- what holds of a swap that counts, of which the ticket noted these names

@@ -3,10 +3,10 @@ use Rattle.std.specs.Prelude.{◌≡◌, ◌≢◌, Bool, ℕ, suc, ◌+◌, ◌
 use Rattle.std.specs.Ordering.{nat_cmp}
 use Rattle.std.specs.FinMap.{FinMap}
 use Rattle.std.specs.FinMap as fin
-use Rattle.esr_model.specs.Names.{BlobName, Root, ShardIndex, ShardSnap}
+use Rattle.esr_model.specs.Names.{BlobName, Root, Snap, ShardIndex, ShardSnap}
 use Rattle.esr_model.specs.Values.{Bytes, IndexRef, RootSnap, RootIndex, RootData, SnapInfo, FileEntry, ShardFiles, ShardSnapshot, ShardResult, ReadsBack, Formats}
 use Rattle.esr_model.specs.Shelf.{Shelved, Command, Delete}
-use Rattle.esr_model.specs.Image.{Has, AllPairs, At, Generation, Present, Reads, FileStands}
+use Rattle.esr_model.specs.Image.{Blobs, IsStored, Has, AllPairs, At, Generation, Present, Reads, FileStands}
 use Rattle.esr_model.specs.Delete.{Deletes, left_snaps}
 use Rattle.esr_model.specs.Shelf.{names_uuid}
 use Rattle.esr_model.specs.Kept.{first_id}
@@ -15,10 +15,11 @@ use Rattle.esr_model.specs.Reach.{Reached}
 use Rattle.esr_model.specs.Places.{places}
 use Rattle.esr_core.specs.Generations.{OpTexts, Together}
 use Rattle.esr_core.specs.Swaps.{SwapShape}
-use Rattle.esr_core.specs.World.{World, Ticket, Op, Deletion, ShardWork, ShardState, Pending, Out, Done, GivenUp, Work, Shard, Finalize, Deleting, Drop, Swap, marked, info_of, HeldIn}
-use Rattle.esr_core.specs.Ready.{IsShard, IsMaster, ReadyShard, ReadyFinalize, ReadyDrop, ReadyDelete, ReadyCleanup}
+use Rattle.esr_core.specs.World.{World, Ticket, Op, Deletion, ShardWork, ShardState, Pending, Out, Done, GivenUp, ReadState, RestoreShard, Restoring, Reader, Caller, Work, Shard, Finalize, Deleting, Drop, Swap, marked, info_of, HeldIn}
+use Rattle.esr_core.specs.Ready.{IsShard, IsMaster, ReadyShard, ReadyFinalize, ReadyDrop, ReadyDelete, ReadyCleanup, ReadyRestore}
+use Rattle.esr_core.specs.Restores.{IsTestOf, AreApart, IsReading, ListsPiece, waits, restore_opened, shard_handed, more_read, shard_ended}
 use Rattle.esr_core.specs.Queue.{Lists}
-use Rattle.esr_core.specs.Steps.{IsOut, Largest, given, shard_ticket, final_ticket, completing, settled, MaySettle, CommitDone, CommitFault, CommitExists, Raise, Elect, TryLatest, FetchFound, Drew, ExtendsBase, Ends, Remove}
+use Rattle.esr_core.specs.Steps.{IsOut, Largest, given, shard_ticket, final_ticket, completing, settled, MaySettle, CommitDone, CommitFault, CommitExists, Raise, Elect, TryLatest, FetchFound, Drew, ExtendsBase, Ends, Removes, Remove}
 
 -- take: the four kinds of unit
 pub record TakeReadyShard (w : World) (o : ℕ) (op : Op) (s : ShardWork) (base : Option ℕ) (new : World) : Type 0 where
@@ -260,6 +261,10 @@ pub record Aborts (ops now : FinMap nat_cmp Op) (by : ℕ) : Type 0 where
   pub stays : (o : ℕ) (old : Op) → fin.get ops o ≡ Some old → (op : Op) × (fin.get now o ≡ Some op) × ((op ≡ old) ⊎ (op ≡ record old { aborted = Some by }))
   pub first : (o : ℕ) (old op : Op) (b : ℕ) → fin.get ops o ≡ Some old → fin.get now o ≡ Some op → old.aborted ≡ Some b → op ≡ old
 
+-- no open restore reads a snapshot that these uuids name
+abbrev pub SparesRestores : World → List ℕ → Type 0
+SparesRestores w uuids = (o : ℕ) (r : Restoring) → fin.get w.restores o ≡ Some r → names_uuid uuids r.uuid ≡ false
+
 -- ask: a delete that is a new op, one that is merged into a waiting one; one that joins changes nothing
 pub record AskDelete (w : World) (uuids : List ℕ) (new : World) : Type 0 where
   pub no_cleanup : (d : ℕ) (x : Deletion) → fin.get w.deletes d ≡ Some x → x.clean ≡ false
@@ -267,6 +272,7 @@ pub record AskDelete (w : World) (uuids : List ℕ) (new : World) : Type 0 where
   pub known : (u : ℕ) → Has uuids u → IsKnown w u
   -- no open clone copies one of them
   pub spares : (o : ℕ) (op : Op) (u : ℕ) → fin.get w.ops o ≡ Some op → op.source ≡ Some u → names_uuid uuids u ≡ false
+  pub spares_restores : SparesRestores w uuids
   pub ops : FinMap nat_cmp Op
   pub aborts : Aborts w.ops ops w.next_op
   -- not one whose finalization is out
@@ -292,7 +298,77 @@ pub record MergeDelete (w : World) (uuids : List ℕ) (d : ℕ) (new : World) : 
   pub known : (u : ℕ) → Has more u → IsKnown w u
   -- no open clone copies one of them
   pub spares : (o : ℕ) (op : Op) (u : ℕ) → fin.get w.ops o ≡ Some op → op.source ≡ Some u → names_uuid (x.uuids ++ more) u ≡ false
+  pub spares_restores : SparesRestores w (x.uuids ++ more)
   pub new_is : new ≡ record w { ops = ops; deletes = fin.insert w.deletes d (record x { uuids = x.uuids ++ more }) }
+
+-- ---- restores, and what who 0 reads: these steps leave all else as it is, but for the numbers of ops and tickets
+
+-- ask: a restore of a listed snapshot, whose info is there and which no open delete names
+pub record OpenRestore (f : Formats) (w : World) (uuid : ℕ) (place : Bytes) (indices : List IndexRef) (new : World) : Type 0 where
+  pub listed : Lists w.root uuid
+  pub spared : (d : ℕ) (x : Deletion) → fin.get w.deletes d ≡ Some x → names_uuid x.uuids uuid ≡ false
+  pub info : SnapInfo
+  pub info_reads : Reads (At f w.blobs) (Snap uuid) f.info info
+  pub indices_is : info.indices ≡ indices
+  pub apart : AreApart indices
+  pub new_is : new ≡ restore_opened w uuid place indices
+
+-- take
+pub record HandShard (w : World) (o : ℕ) (r : Restoring) (s : RestoreShard) (new : World) : Type 0 where
+  pub ready : ReadyRestore w o r s
+  pub new_is : new ≡ shard_handed w o r s
+
+-- a blob is fetched: the snapshot of the shard, or a piece that it lists
+pub record ReadMore (f : Formats) (w : World) (k : ℕ) (name : BlobName) (bytes : Bytes) (new : World) : Type 0 where
+  pub q : Reader
+  pub reading : IsReading w k q
+  pub there : At f w.blobs name bytes
+  pub may : (name ≡ ShardSnap q.index q.number q.uuid) ⊎ ListsPiece f q name
+  pub new_is : new ≡ more_read w k q name bytes
+
+-- a shard is restored, or has failed
+pub record EndShard (w : World) (k : ℕ) (state : ReadState) (new : World) : Type 0 where
+  pub q : Reader
+  pub reading : IsReading w k q
+  pub r : Restoring
+  pub there : fin.get w.restores q.op ≡ Some r
+  pub over : waits state ≡ false
+  pub new_is : new ≡ shard_ended w k q r state
+
+pub data ReadTurn (f : Formats) (w : World) : World → Type 0 where
+  OpensRestore : (new : World) → (uuid : ℕ) (place : Bytes) (indices : List IndexRef) → OpenRestore f w uuid place indices new → ReadTurn f w new
+  HandsShard : (new : World) → (o : ℕ) (r : Restoring) (s : RestoreShard) → HandShard w o r s new → ReadTurn f w new
+  ReadsMore : (new : World) → (k : ℕ) (name : BlobName) (bytes : Bytes) → ReadMore f w k name bytes new → ReadTurn f w new
+  EndsShard : (new : World) → (k : ℕ) (state : ReadState) → EndShard w k state new → ReadTurn f w new
+  Calls : (new : World) → (caller : Caller) → new ≡ record w { caller = caller } → ReadTurn f w new
+
+-- ---- a verification of the container
+
+-- an id is drawn
+pub record DrawTest (w : World) (new : World) : Type 0 where
+  pub fits : suc w.next_id < first_id (suc w.term)
+  pub new_is : new ≡ record w { next_id = suc w.next_id }
+
+-- a test blob is added under an id that was drawn: it may be removed from then on
+pub record AddTest (f : Formats) (w : World) (name : BlobName) (bytes : Bytes) (new : World) : Type 0 where
+  pub named : IsStored f name
+  pub id : ℕ
+  pub test : IsTestOf id name
+  pub drawn : id < w.next_id
+  pub absent : fin.get w.blobs (f.names.text name) ≡ None
+  pub new_is : new ≡ record w { blobs = fin.insert w.blobs (f.names.text name) bytes; doomed = name ∷ w.doomed }
+
+-- test blobs are removed
+pub record RemoveTests (f : Formats) (w : World) (names : List BlobName) (new : World) : Type 0 where
+  pub doomed : (name : BlobName) → Has names name → Has w.doomed name
+  pub now : Blobs
+  pub removes : Removes f w.blobs now names
+  pub new_is : new ≡ record w { blobs = now }
+
+pub data TestTurn (f : Formats) (w : World) : World → Type 0 where
+  DrawsTest : (new : World) → DrawTest w new → TestTurn f w new
+  AddsTest : (new : World) → (name : BlobName) (bytes : Bytes) → AddTest f w name bytes new → TestTurn f w new
+  RemovesTests : (new : World) → (names : List BlobName) → RemoveTests f w names new → TestTurn f w new
 
 -- the steps that change the world, where they are answered Ok or the container fails in them; any other leaves it
 pub data Turn (f : Formats) (w : World) : World → Type 0 where
@@ -326,12 +402,17 @@ pub data Turn (f : Formats) (w : World) : World → Type 0 where
   Removing : (new : World) → (k : ℕ) (names : List BlobName) → Remove f w k names new → Turn f w new
   -- a record swap that failed leaves the world as before, or as where Ok, and deposed
   Deposes : (new up : World) → Turn f w up → new ≡ record up { deposed = true } → Turn f w new
+  Tests : (new : World) → TestTurn f w new → Turn f w new
+  -- and then something is read
+  Besides : (new up : World) → Turn f w up → ReadTurn f up new → Turn f w new
 
 -- the commands of the settles that stand
 abbrev pub commands_of : (f : Formats) (w new : World) → Turn f w new → List Command
 commands_of f w new (SettlesFinal m k n t s h) = s.commands
 commands_of f w new (SettlesDelete m k n t s h) = s.commands
 commands_of f w new (Deposes m up h e) = commands_of f w up h
+commands_of f w new (Besides m up h e) = commands_of f w up h
+commands_of f w new (Tests m h) = []
 commands_of f w new (Stays m e) = []
 commands_of f w new (Commits m k name h) = []
 commands_of f w new (CommitFails m k name h) = []

@@ -10,6 +10,7 @@ use Rattle.esr_model.specs.Places.{comes_first, sorted_by}
 use Rattle.esr_model.specs.Kept.{first_id}
 use Rattle.esr_model.specs.Finalize.{finalized_root}
 use Rattle.esr_model.specs.Image.{Blobs, Image, Has, AllPairs, RootIs, At, global_of}
+use Rattle.esr_core.specs.Entry.{Why}
 
 pub data ShardState : Type 0 where
   Pending : ShardState
@@ -83,6 +84,55 @@ pub record Ticket : Type 0 where
   pub settled : Bool
   pub out : Bool
 
+-- how far a restore has come with a shard
+pub data ReadState : Type 0 where
+  Unread : ReadState
+  BeingRead : (ticket : ℕ) → ReadState
+  -- so many files, of so many bytes
+  Restored : (files bytes : ℕ) → ReadState
+  NotRestored : (why : Why) → ReadState
+
+pub record RestoreShard : Type 0 where
+  pub ref : IndexRef
+  pub number : ℕ
+  pub state : ReadState
+
+-- an open restore of a listed snapshot into a place: some shard of it is unread or being read
+pub record Restoring : Type 0 where
+  pub uuid : ℕ
+  pub place : Bytes
+  pub shards : List RestoreShard
+
+-- the ticket of a restore's shard; it belongs to no term
+pub record Reader : Type 0 where
+  pub op : ℕ
+  -- of the snapshot
+  pub uuid : ℕ
+  pub index : ℕ
+  pub number : ℕ
+  -- of the index
+  pub name : Bytes
+  pub place : Bytes
+  -- the blobs that it fetched, as they were then
+  pub read : List (BlobName × Bytes)
+  pub out : Bool
+
+-- what who 0 has done since it last asked or looked, or a check or verification of it ended
+pub record Caller : Type 0 where
+  -- a check is open, begun by a look
+  pub looked : Bool
+  -- a verification is open, and drew this id
+  pub drawn : Option ℕ
+  pub committed : List BlobName
+  -- fetched, and of these the ones that were there
+  pub fetched : List BlobName
+  pub found : List BlobName
+  pub removed : List BlobName
+  pub read : List (BlobName × Bytes)
+
+abbrev pub no_caller : Caller
+no_caller = record { looked = false; drawn = None; committed = []; fetched = []; found = []; removed = []; read = [] }
+
 -- `safe` and `pending` count roots: the safe root is the last of the first `safe` ones, and the next to be begun is `pending`
 pub record World : Type 0 where
   pub blobs : Blobs
@@ -101,9 +151,13 @@ pub record World : Type 0 where
   pub next_ticket : ℕ
   -- the next id that is drawn
   pub next_id : ℕ
-  -- names that some settled ticket may remove
+  -- names that some settled ticket may remove, or who 0 its test blobs
   pub doomed : List BlobName
   pub deposed : Bool
+  -- open restores, under the numbering of ops, and their tickets, under that of tickets; the cluster record has neither
+  pub restores : FinMap nat_cmp Restoring
+  pub readers : FinMap nat_cmp Reader
+  pub caller : Caller
 
 -- the blob is there with these bytes, and nobody may remove it
 abbrev pub Safely : Formats → Blobs → List BlobName → BlobName → Bytes → Type 0
@@ -215,6 +269,9 @@ opened blobs cluster root =
       next_id = first_id (suc cluster.ledger.term);
       doomed = [];
       deposed = false;
+      restores = fin.empty;
+      readers = fin.empty;
+      caller = no_caller;
     }
 
 -- a container in which nothing was written has no root, and term 0

@@ -7,7 +7,7 @@ ghost use Rattle.esr_model.specs.Names.{BlobName, Root};
 ghost use Rattle.esr_model.specs.Image.{Has, Blobs, Image, KeptBy, Present};
 ghost use Rattle.esr_model.specs.Kept.{Kept, RootIds, first_id};
 ghost use Rattle.esr_model.specs.Shelf.{Shelved, Command, shelf_after};
-ghost use Rattle.esr_core.specs.World.{World, Op, ShardWork, Shard, Ticket, HeldIn, ledger_of, image_of, record_of, opened, Opened};
+ghost use Rattle.esr_core.specs.World.{World, Op, ShardWork, Restoring, Reader, Shard, Ticket, HeldIn, ledger_of, image_of, record_of, opened, Opened};
 ghost use Rattle.esr_core.specs.Swaps.{TicketLaw};
 ghost use Rattle.esr_core.specs.Generations.{Carried};
 ghost use Rattle.esr_core.specs.Written.{Written};
@@ -18,6 +18,10 @@ ghost use Rattle.esr_core.specs.Queue.{Lists, Sole, QueueIn};
 ghost use Rattle.esr_core.specs.Ids.{Law, DoomedIds, IdsIn, InTerm};
 ghost use Rattle.esr_core.specs.Tracked.{IsOneIndex, Tracked};
 ghost use Rattle.esr_core.specs.Ranked.{Ranked};
+ghost use Rattle.esr_core.specs.ReadTracked.{ReadTracked};
+ghost use Rattle.esr_core.specs.ReadEnds.{CanEnd};
+ghost use Rattle.esr_core.specs.ReadLaw.{ReadLaw, ReadsShelved, IsOnShelf};
+ghost use Rattle.esr_core.specs.Restores.{IsReading};
 ghost use Rattle.esr_core.specs.Ready.{IsOpen, AnyReady, Barrier, Idle, SwapIsOut};
 ghost use Rattle.std.specs.FinMap as fin;
 ghost use Rattle.std.specs.FinMap.{FinMap};
@@ -27,7 +31,7 @@ ghost use Rattle.esr_core.specs.Doomed.{Dooms};
 ghost use Rattle.esr_core.specs.Entry.{Moment, SettleStep, WasSettled, Refused, StaleTerm};
 ghost use Rattle.esr_core.specs.After.{swaps_record, after};
 ghost use Rattle.esr_core.specs.Example.{CanWrite, HasSnapshot};
-ghost use Rattle.esr_core.specs.Allowed.{SameBlobs, Allowed};
+ghost use Rattle.esr_core.specs.Allowed.{SameBlobs, Allowed, RestoredBy};
 ghost use Rattle.esr_core.specs.History.{world_from, IsLegal, AllKnown, AreTold, AreHonest, committed, Lasts};
 ghost use Rattle.esr_core.specs.Left.{cut_off, Leaves, safe_in};
 
@@ -202,6 +206,59 @@ pub fn each_step_is_tracked()
 /// And so does each legal history.
 pub fn each_history_is_tracked()
     ensures { (f : Formats) (part_size : ℕ) (w : World) (log : List Moment) → Tracked w → IsLegal f part_size w log → Tracked (world_from f w log) }
+{}
+
+/// In the opened world no restore is open.
+pub fn opened_worlds_track_restores()
+    ensures { (blobs : Blobs) (cluster : ClusterRecord) (root : RootData) → ReadTracked (opened blobs cluster root) }
+{}
+
+/// Each step keeps the order of restores and their tickets, whatever the container tells: each ticket that is out has its
+/// restore and its shard, each shard that is being read has its ticket, and none has the number of another op or ticket.
+pub fn each_step_tracks_restores()
+    ensures { (f : Formats) (part_size : ℕ) (w : World) (m : Moment) → Tracked w → ReadTracked w → Allowed f part_size w m → ReadTracked (after f w m) }
+{}
+
+/// And so does each legal history.
+pub fn each_history_tracks_restores()
+    ensures { (f : Formats) (part_size : ℕ) (w : World) (log : List Moment) → Tracked w → ReadTracked w → IsLegal f part_size w log → ReadTracked (world_from f w log) }
+{}
+
+/// Over each turn from a lawful world the snapshot of an open restore stays listed and no open delete names it, and what its
+/// tickets have read stays as it is.
+pub fn restores_stay()
+    ensures { (f : Formats) (w new : World) (shelf : List Shelved) → Law f w shelf → ReadLaw f w → w.deposed ≡ false → Turn f w new → ReadLaw f new }
+{}
+
+/// What the ticket of a restore has read of its whole shard are the files of that shard on the shelf, under their names and in their order.
+pub fn each_restored_shard_is_on_the_shelf()
+    ensures { (f : Formats) (w : World) (shelf : List Shelved) → Law f w shelf → ReadLaw f w → (k : ℕ) (q : Reader) → IsReading w k q → (files bytes : ℕ) (by : RestoredBy f q files bytes) → IsOnShelf f shelf q files bytes by }
+{}
+
+/// While a restore is open the snapshot of the shelf that it reads stays there as it was when it was asked.
+pub fn each_restored_snapshot_stays()
+    ensures { (f : Formats) (part_size : ℕ) (shelf : List Shelved) (w : World) (log : List Moment) (o : ℕ) (x : Shelved) → AllKnown f → Law f w shelf → ReadLaw f w → o < w.next_op → ReadsShelved w shelf o x → IsLegal f part_size w log → AreTold log
+        → AreHonest f w log → ReadsShelved (world_from f w log) (shelf_after shelf (committed f (world_from f w log).safe w log)) o x }
+{}
+
+/// In a lawful world each ticket of a restore that is out can read its whole shard and end it: the conditions of its steps can be met.
+pub fn each_reader_can_end()
+    ensures { (f : Formats) (part_size : ℕ) (w : World) (shelf : List Shelved) (k : ℕ) (q : Reader) → Law f w shelf → ReadLaw f w → w.deposed ≡ false → ReadsBack f.cluster (record_of w) → IsReading w k q → CanEnd f part_size w k }
+{}
+
+/// Where a restore is open and none of its tickets is out, some unit is ready.
+pub fn each_restore_goes_on()
+    ensures { (w : World) (o : ℕ) (r : Restoring) → ReadTracked w → fin.get w.restores o ≡ Some r → ((k : ℕ) (q : Reader) → fin.get w.readers k ≡ Some q → q.out ≡ true → q.op ≡ o → ⊥) → AnyReady w }
+{}
+
+/// In the opened world no restore is open, whatever its container tells.
+pub fn opened_restores_are_lawful()
+    ensures { (f : Formats) (blobs : Blobs) (cluster : ClusterRecord) (root : RootData) → ReadLaw f (opened blobs cluster root) }
+{}
+
+/// Over each legal history that begins at a lawful world all this holds of restores.
+pub fn each_history_keeps_restores()
+    ensures { (f : Formats) (part_size : ℕ) (shelf : List Shelved) (w : World) (log : List Moment) → AllKnown f → Law f w shelf → ReadLaw f w → IsLegal f part_size w log → AreTold log → AreHonest f w log → ReadLaw f (world_from f w log) }
 {}
 
 /// A step that doesn't swap the record leaves it, whatever it answers and whatever the container tells.

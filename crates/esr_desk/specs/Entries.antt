@@ -1,11 +1,12 @@
 -- The entries of the history, as the definitions see them.
 use Rattle.std.specs.Prelude.{ℕ, map, option_map}
 use Rattle.esr_core.specs.Entry as entry
-use Rattle.esr_core.specs.Entry.{AskStep, TakeStep, DrawStep, BeginStep, CommitStep, LatestStep, FetchStep, ListStep, RaiseStep, SettleStep, DoneStep, FailedStep, FinishStep, DroppedStep, ElectStep, LookStep}
-use Rattle.esr_core.specs.Entry.{OfDepot, OfSource, OfChange, OfDamage, GivenShard, GivenFinalize, GivenDrop}
-use Rattle.esr_core.specs.Entry.{Accepted, NothingReady, Gave, DrawnFrom, WasBegun, WasDone, WasThere, WasReplaced, WasFetched, WasAbsent, WasListed, RaisedTo, WasSettled, HasEnded, ElectedTerm, Looked, Refused}
+use Rattle.esr_core.specs.Entry.{AskStep, TakeStep, DrawStep, BeginStep, CommitStep, LatestStep, FetchStep, ListStep, RaiseStep, SettleStep, DoneStep, FailedStep, FinishStep, DroppedStep, ElectStep, LookStep, ReadStep, ReadBlob, RestoredShard, CheckedAll, DrawTest, BeginTest, CommitTest, RemoveTests, VerifiedAll, ReadFails}
+use Rattle.esr_core.specs.Entry.{OfDepot, OfSource, OfChange, OfDamage, OfTaken, OfIdsSpent, OfGenerationsSpent, OfTarget, OfPrint, OfDisagreement, GivenShard, GivenFinalize, GivenDrop, GivenRestore}
+use Rattle.esr_core.specs.Entry.{Accepted, NothingReady, Gave, DrawnFrom, WasBegun, WasDone, WasThere, WasReplaced, WasFetched, WasAbsent, WasListed, RaisedTo, WasSettled, HasEnded, ElectedTerm, Looked, Refused, WasRemoved, AcceptedRestore}
 use Rattle.esr_formats.specs.Ids.{number_of}
 use Rattle.esr_formats.specs.Names.{name_of}
+use Rattle.esr_formats.specs.Refs.{ref_of_code}
 use Rattle.esr_formats.specs.Roots.{root_snap_of}
 use Rattle.esr_formats.specs.Infos.{info_of_code}
 use Rattle.esr_formats.specs.Clusters.{count_of}
@@ -13,6 +14,8 @@ use Rattle.esr_results.specs.Results.{result_of}
 use Rattle.esr_progress.specs.Asked.{asked_of}
 use Rattle.esr_desk.specs.declared.entry.Why.{Why}
 use Rattle.esr_desk.specs.declared.entry.Why.TheVariants as whys
+use Rattle.esr_desk.specs.declared.entry.Read.{Read}
+use Rattle.esr_desk.specs.declared.entry.Read.TheVariants as reads
 use Rattle.esr_desk.specs.declared.entry.Step.{Step}
 use Rattle.esr_desk.specs.declared.entry.Step.TheVariants as steps
 use Rattle.esr_desk.specs.declared.entry.Given.{Given}
@@ -26,6 +29,23 @@ why_of whys.Depot = OfDepot
 why_of whys.Source = OfSource
 why_of (whys.Changed first second) = OfChange first.len first.sha256 second.len second.sha256
 why_of (whys.Damaged name) = OfDamage (name_of name)
+why_of (whys.NameTaken name) = OfTaken (name_of name)
+why_of (whys.IdsSpent next) = OfIdsSpent next.number
+why_of (whys.GenerationsSpent number) = OfGenerationsSpent (count_of number)
+why_of whys.Target = OfTarget
+why_of (whys.Misprinted name stated found) = OfPrint (name_of name) stated.len stated.sha256 found.len found.sha256
+why_of (whys.Disagreeing name other) = OfDisagreement (name_of name) (name_of other)
+
+abbrev pub read_of : Read → entry.Read
+read_of (reads.Blob name) = ReadBlob (name_of name)
+read_of (reads.Restored files bytes) = RestoredShard files bytes
+read_of (reads.Checked snapshots blobs) = CheckedAll snapshots blobs
+read_of reads.DrawTest = DrawTest
+read_of (reads.BeginTest name) = BeginTest (name_of name)
+read_of (reads.CommitTest name) = CommitTest (name_of name)
+read_of (reads.RemoveTests names) = RemoveTests (map name_of names)
+read_of reads.Verified = VerifiedAll
+read_of (reads.Failed why) = ReadFails (why_of why)
 
 abbrev pub step_of : Step → entry.Step
 step_of (steps.Ask command) = AskStep (asked_of command)
@@ -44,14 +64,17 @@ step_of steps.Finish = FinishStep
 step_of steps.Dropped = DroppedStep
 step_of steps.Elect = ElectStep
 step_of steps.Look = LookStep
+step_of (steps.Read read) = ReadStep (read_of read)
 
 abbrev pub unit_of : Given → entry.Given
 unit_of (units.Shard shard base) = GivenShard shard.index.number shard.number (option_map number_of base)
 unit_of (units.Finalize info shards) = GivenFinalize (info_of_code info) (map result_of shards)
 unit_of units.Drop = GivenDrop
+unit_of (units.RestoreShard shard uuid) = GivenRestore shard.index.number shard.number uuid.number
 
 abbrev pub answer_of : Answer → entry.Reply
 answer_of (answers.Accepted op) = Accepted op
+answer_of (answers.AcceptedRestore op uuid indices) = AcceptedRestore op uuid.number (map ref_of_code indices)
 answer_of answers.NothingReady = NothingReady
 answer_of (answers.Gave ticket op unit) = Gave ticket op (unit_of unit)
 answer_of (answers.Drawn first) = DrawnFrom first.number
@@ -62,6 +85,7 @@ answer_of answers.Replaced = WasReplaced
 answer_of answers.Fetched = WasFetched
 answer_of answers.Absent = WasAbsent
 answer_of answers.Listed = WasListed
+answer_of answers.Removed = WasRemoved
 answer_of (answers.Raised generation) = RaisedTo generation
 answer_of answers.Settled = WasSettled
 answer_of answers.Ended = HasEnded

@@ -3,7 +3,7 @@ use Rattle.std.specs.Prelude.{◌≡◌, ◌<◌, ℕ, Bool, true, false, List, 
 use Rattle.esr_model.specs.Names.{BlobName}
 use Rattle.esr_model.specs.Values.{Bytes, Has}
 use Rattle.esr_core.specs.World.{Ticket, Work, Shard, Finalize, Deleting, Drop}
-use Rattle.esr_core.specs.Entry.{Why, OfDepot, OfSource, OfChange, OfDamage, Step, BeginStep, LatestStep, FailedStep, HasEnded, Refused, DepotFault, Moment}
+use Rattle.esr_core.specs.Entry.{Why, OfDepot, OfSource, OfChange, OfDamage, OfTaken, OfIdsSpent, OfGenerationsSpent, OfTarget, OfPrint, OfDisagreement, Step, BeginStep, LatestStep, FailedStep, HasEnded, Refused, Refusal, DepotFault, NameTaken, IdsSpent, GenerationsSpent, Moment}
 use Rattle.esr_core.specs.After.{is_latest}
 use Rattle.esr_source.specs.declared.address.Address.{Address}
 use Rattle.esr_desk.specs.declared.fault.FailedObject.TheVariants as objects
@@ -45,6 +45,15 @@ pub record HadFault (s : Start) (log : List Moment) (who : ℕ) : Type 0 where
   pub of : moment.entry.who ≡ who
   pub reply : moment.entry.reply ≡ Refused DepotFault
   pub matters : Matters (ticket_of s log who).work moment.entry.step
+
+-- a step of the ticket was refused so
+pub record HadRefusal (log : List Moment) (who : ℕ) (refusal : Refusal) : Type 0 where
+  pub front : List Moment
+  pub moment : Moment
+  pub back : List Moment
+  pub is : log ≡ front ++ moment ∷ back
+  pub of : moment.entry.who ≡ who
+  pub reply : moment.entry.reply ≡ Refused refusal
 
 -- the ticket is that of the shard of this address
 pub record IsOf (t : Ticket) (address : Address) : Type 0 where
@@ -89,14 +98,27 @@ ReadShown (by.Object object) shown = ⊥
 ReadShown by.Entry shown = ⊥
 ReadShown by.Nothing shown = shown
 
+-- a step of the ticket shows it: no object failed
+abbrev pub StepShown : {S F H T : Type 0} → By S F H T → Type 0 → Type 0
+StepShown (by.Object object) shown = ⊥
+StepShown by.Entry shown = shown
+StepShown by.Nothing shown = ⊥
+
 -- By its cause: an object that failed, or a step; or two prints of a file, which the sources don't tell, differ; or the base is
--- at fault.
+-- at fault; or a step was refused, since a name was taken or numbers were spent.
 abbrev pub IsShown : {S F H T : Type 0} → Counts S F H T → Start → List Moment → ℕ → Why → By S F H T → Type 0
 IsShown c s log who OfDepot b = DepotShown c s log who b
 IsShown c s log who OfSource b = SourceShown c s (ticket_of s log who) b
 IsShown c s log who (OfChange first_len first_digest second_len second_digest) b =
     ReadShown b (((first_len ≡ second_len) → (first_digest ≡ second_digest) → ⊥) × IsUntold s (ticket_of s log who))
 IsShown c s log who (OfDamage name) b = ReadShown b (IsBase (ticket_of s log who) name × BaseFault s log who name)
+IsShown c s log who (OfTaken name) b = StepShown b (HadRefusal log who (NameTaken name))
+IsShown c s log who (OfIdsSpent next) b = StepShown b (HadRefusal log who (IdsSpent next))
+IsShown c s log who (OfGenerationsSpent pending) b = StepShown b (HadRefusal log who (GenerationsSpent pending))
+-- these are of a restore or a check, which have no unit of a ticket
+IsShown c s log who OfTarget b = ⊥
+IsShown c s log who (OfPrint name stated_len stated_digest found_len found_digest) b = ⊥
+IsShown c s log who (OfDisagreement name other) b = ⊥
 
 -- ---- of a history
 

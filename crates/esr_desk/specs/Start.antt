@@ -18,6 +18,8 @@ pub record Start : Type 0 where
   pub quiet : Bool
   -- the sources tell that no call of the shard of a place, an index name and a number fails
   pub steady : Bytes → Bytes → ℕ → Bool
+  -- the targets tell that no call of one fails
+  pub sure_targets : Bool
   -- nobody else makes a step, and there are 2^40 turns
   pub alone : Bool
   -- the opened world

@@ -2,7 +2,7 @@
 use crate::EntryRefusal;
 use esr_hash::Print;
 use esr_meta::SnapInfo;
-use esr_names::{BlobName, Id, ShardId};
+use esr_names::{BlobName, Id, IndexRefs, ShardId};
 use esr_progress::Command;
 use esr_results::{ShardResult, ShardResults};
 use esr_root::RootSnaps;
@@ -17,9 +17,59 @@ pub enum Why {
     /// A call of the shard's source failed.
     Source,
     /// A file had these two prints, one after the other.
-    Changed { first: Print, second: Print },
+    Changed {
+        first: Print,
+        second: Print,
+    },
     /// A blob of this name was absent, or doesn't read.
-    Damaged { name: BlobName },
+    Damaged {
+        name: BlobName,
+    },
+    /// A blob of this name, which the unit was to commit, was there already.
+    NameTaken {
+        name: BlobName,
+    },
+    /// The term has too few ids left from this one on.
+    IdsSpent {
+        next: Id,
+    },
+    /// The last generation, 2^63 - 1, was given out.
+    GenerationsSpent {
+        number: i64,
+    },
+    /// A call of a restore's target failed.
+    Target,
+    /// A file, of which this blob is a part, has another print than is stated.
+    Misprinted {
+        name: BlobName,
+        stated: Print,
+        found: Print,
+    },
+    /// These two blobs read, but don't agree.
+    Disagreeing {
+        name: BlobName,
+        other: BlobName,
+    },
+}
+
+/// Names of blobs.
+pub type BlobNames = Seq<BlobName>;
+
+/// A step of a restore's ticket, or of a caller that checks the repository or verifies the container.
+#[derive(Debug, Drop)]
+pub enum Read {
+    Blob { name: BlobName },
+    /// A shard is restored: so many files, of so many bytes.
+    Restored { files: u64, bytes: u64 },
+    /// A check has read all: so many snapshots and blobs.
+    Checked { snapshots: u64, blobs: u64 },
+    /// A verification draws an id, commits test blobs under it, fetches and removes them.
+    DrawTest,
+    BeginTest { name: BlobName },
+    CommitTest { name: BlobName },
+    RemoveTests { names: BlobNames },
+    Verified,
+    Failed { why: Why },
 }
 
 /// What was asked.
@@ -41,6 +91,7 @@ pub enum Step {
     Dropped,
     Elect,
     Look,
+    Read { read: Read },
 }
 
 /// The unit that a ticket was given.
@@ -56,15 +107,34 @@ pub enum Given {
         shards: ShardResults,
     },
     Drop,
+    /// A shard of a restore of the snapshot `uuid`.
+    RestoreShard {
+        shard: ShardId,
+        uuid: Id,
+    },
 }
 
 /// What was answered.
 #[derive(Debug, Drop)]
 pub enum Answer {
-    Accepted { op: u64 },
+    Accepted {
+        op: u64,
+    },
+    /// A restore of the snapshot `uuid`, which has these indices.
+    AcceptedRestore {
+        op: u64,
+        uuid: Id,
+        indices: IndexRefs,
+    },
     NothingReady,
-    Gave { ticket: u64, op: u64, unit: Given },
-    Drawn { first: Id },
+    Gave {
+        ticket: u64,
+        op: u64,
+        unit: Given,
+    },
+    Drawn {
+        first: Id,
+    },
     Begun,
     /// The blob was added.
     Done,
@@ -74,12 +144,23 @@ pub enum Answer {
     Fetched,
     Absent,
     Listed,
-    Raised { generation: u64 },
+    /// The test blobs are gone.
+    Removed,
+    Raised {
+        generation: u64,
+    },
     Settled,
     Ended,
-    Elected { term: u64 },
-    Looked { snapshots: RootSnaps, safe: i64 },
-    Refused { refusal: EntryRefusal },
+    Elected {
+        term: u64,
+    },
+    Looked {
+        snapshots: RootSnaps,
+        safe: i64,
+    },
+    Refused {
+        refusal: EntryRefusal,
+    },
 }
 
 /// A step with its answer. `who` is the ticket from 1 on that made it, or 0: a caller at a line of the script, or a take.

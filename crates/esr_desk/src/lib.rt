@@ -9,7 +9,7 @@ mod refusal;
 mod unit;
 
 pub use desk::Desk;
-pub use entry::{Answer, Entry, Given, History, Step, Why};
+pub use entry::{Answer, BlobNames, Entry, Given, History, Read, Step, Why};
 pub use fault::{By, FailedObject, Fault, Faults};
 pub use named::Named;
 pub use refusal::{EntryRefusal, StepRefusal};

@@ -30,6 +30,8 @@ pub enum EntryRefusal {
     NameTaken { name: BlobName },
     /// The container failed.
     DepotFault,
+    /// This open delete names the snapshot.
+    BeingDeleted { op: u64 },
 }
 
 /// Why a step isn't made.

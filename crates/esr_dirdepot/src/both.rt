@@ -6,6 +6,7 @@ use esr_memdepot::MemDepot;
 use esr_seq::Seq;
 use std::alloc::Global;
 use std::fs;
+use std::process::Abort;
 use std::test::Fail;
 
 /// Calls, with their names and texts, and what each container is to answer.
@@ -54,7 +55,8 @@ fn told_otherwise<D: Depot>(alloc: Global, depot: &mut D) -> Result<String, Call
     for (call, name, bytes, wanted) in &CALLS {
         let got = answer(alloc, depot, (*call, *name, *bytes))?;
         if got.as_str() != *wanted {
-            text.push_str(format!(in alloc; "{call:?} {name}: {got}\n")?.as_str())?;
+            let word = call.word();
+            text.push_str(format!(in alloc; "{word} {name}: {got}\n")?.as_str())?;
         }
     }
     Ok(text)
@@ -77,39 +79,38 @@ fn put_in_pieces<D: Depot>(
     answer(alloc, depot, (Call::Fetch, "pieces", ""))
 }
 
-#[test]
-fn memory_answers_as_the_table_says(rt: HostRuntime) -> Result<(), Fail> {
-    let alloc = rt.alloc();
-    let mut depot = MemDepot::new(alloc, Seq::new(alloc));
-    assert_eq!(rt; told_otherwise(alloc, &mut depot)?.as_str(), "");
+/// That the container answers to the calls as the table says.
+fn check_calls<D: Depot>(rt: &impl Abort, alloc: Global, depot: &mut D) -> Result<(), Fail> {
+    assert_eq!(rt; told_otherwise(alloc, depot)?.as_str(), "");
     assert_eq!(rt; depot.fault_count(), 0);
     Ok(())
+}
+
+/// That a blob that is written in two pieces is whole in the container.
+fn check_pieces<D: Depot>(rt: &impl Abort, alloc: Global, depot: &mut D) -> Result<(), Fail> {
+    let got = put_in_pieces(alloc, depot, "one, ", "two")?;
+    assert_eq!(rt; got.as_str(), "one, two");
+    Ok(())
+}
+
+#[test]
+fn memory_answers_as_the_table_says(rt: HostRuntime) -> Result<(), Fail> {
+    let mut depot = MemDepot::new(rt.alloc(), Seq::new(rt.alloc()));
+    check_calls(&rt, rt.alloc(), &mut depot)
 }
 
 #[test]
 fn a_folder_answers_as_memory_does(rt: HostRuntime) -> Result<(), Fail> {
-    let alloc = rt.alloc();
     let _ = fs::remove_dir_all(&rt, "esr_dirdepot_both");
-    let mut depot = DirDepot::new(&rt, alloc, "esr_dirdepot_both")?;
-    assert_eq!(rt; told_otherwise(alloc, &mut depot)?.as_str(), "");
-    assert_eq!(rt; depot.fault_count(), 0);
-    Ok(())
+    let mut depot = DirDepot::new(&rt, rt.alloc(), "esr_dirdepot_both")?;
+    check_calls(&rt, rt.alloc(), &mut depot)
 }
 
 #[test]
 fn a_blob_in_two_pieces_is_whole(rt: HostRuntime) -> Result<(), Fail> {
-    let alloc = rt.alloc();
     let _ = fs::remove_dir_all(&rt, "esr_dirdepot_pieces");
-    let mut folder = DirDepot::new(&rt, alloc, "esr_dirdepot_pieces")?;
-    let mut memory = MemDepot::new(alloc, Seq::new(alloc));
-    let wanted = "one, two";
-    assert_eq!(rt;
-        put_in_pieces(alloc, &mut memory, "one, ", "two")?.as_str(),
-        wanted
-    );
-    assert_eq!(rt;
-        put_in_pieces(alloc, &mut folder, "one, ", "two")?.as_str(),
-        wanted
-    );
-    Ok(())
+    let mut folder = DirDepot::new(&rt, rt.alloc(), "esr_dirdepot_pieces")?;
+    let mut memory = MemDepot::new(rt.alloc(), Seq::new(rt.alloc()));
+    check_pieces(&rt, rt.alloc(), &mut memory)?;
+    check_pieces(&rt, rt.alloc(), &mut folder)
 }

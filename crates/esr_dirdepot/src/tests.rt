@@ -7,10 +7,11 @@ use esr_seq::{Seq, Text};
 use std::alloc::Global;
 use std::cell::Cell;
 use std::fs::{self, OpenOptions};
+use std::process::Abort;
 use std::test::Fail;
 
 /// A call of the suite.
-#[derive(Clone, Copy, Debug)]
+#[derive(Clone, Copy)]
 pub(crate) enum Call {
     Commit,
     Replace,
@@ -19,6 +20,20 @@ pub(crate) enum Call {
     Remove,
     Record,
     Swap,
+}
+
+impl Call {
+    pub(crate) fn word(self) -> &'static str {
+        match self {
+            Call::Commit => "commit",
+            Call::Replace => "replace",
+            Call::Fetch => "fetch",
+            Call::List => "list",
+            Call::Remove => "remove",
+            Call::Record => "record",
+            Call::Swap => "swap",
+        }
+    }
 }
 
 /// Writes a blob in one piece, and commits it or puts it in place of the one that has its name.
@@ -160,17 +175,22 @@ static SUITE: [(Call, &str, &str, &str); 33] = [
     ),
 ];
 
-#[test]
-fn each_call_answers(rt: HostRuntime) -> Result<(), Fail> {
-    let dir = "esr_dirdepot_suite/a/b/";
-    let _ = fs::remove_dir_all(&rt, "esr_dirdepot_suite");
-    let mut depot = DirDepot::new(&rt, rt.alloc(), dir)?;
+/// That the container answers to the calls as it is to.
+fn check_suite<D: Depot>(rt: &impl Abort, alloc: Global, depot: &mut D) -> Result<(), Fail> {
     for (call, name, text, want) in &SUITE {
-        let got = answer(rt.alloc(), &mut depot, (*call, *name, *text))?;
-        assert_eq!(rt; got.as_str(), *want, "{call:?} {name} {text}");
+        let got = answer(alloc, depot, (*call, *name, *text))?;
+        let word = call.word();
+        assert_eq!(rt; got.as_str(), *want, "{word} {name} {text}");
     }
     assert_eq!(rt; depot.fault_count(), 10);
     Ok(())
+}
+
+#[test]
+fn each_call_answers(rt: HostRuntime) -> Result<(), Fail> {
+    let _ = fs::remove_dir_all(&rt, "esr_dirdepot_suite");
+    let mut depot = DirDepot::new(&rt, rt.alloc(), "esr_dirdepot_suite/a/b/")?;
+    check_suite(&rt, rt.alloc(), &mut depot)
 }
 
 /// Whether that call failed.
@@ -178,40 +198,48 @@ fn has_failed<T: Drop>(answer: Result<T, CallError>) -> bool {
     matches!(answer, Err(CallError::Failed))
 }
 
+/// The container in that folder, after its record was put.
+fn begun<'a>(rt: &'a HostRuntime, dir: &str) -> Result<DirDepot<'a, HostRuntime>, Fail> {
+    let mut depot = DirDepot::new(rt, rt.alloc(), dir)?;
+    swap(rt.alloc(), &mut depot, "term 1")?;
+    Ok(depot)
+}
+
+/// That the container, which another keeps out of the folder, fails.
+fn check_kept_out<D: Depot>(rt: &impl Abort, alloc: Global, depot: &mut D) {
+    assert!(rt; has_failed(record(alloc, depot)));
+    assert!(rt; has_failed(put(alloc, depot, "a", "", true)));
+    assert_eq!(rt; depot.fault_count(), 2);
+}
+
 #[test]
 fn one_process_has_the_folder(rt: HostRuntime) -> Result<(), Fail> {
-    let (alloc, dir) = (rt.alloc(), "esr_dirdepot_lock");
-    let mut first = DirDepot::new(&rt, alloc, dir)?;
-    assert!(rt; swap(alloc, &mut first, "term 1").is_ok());
-    let mut second = DirDepot::new(&rt, alloc, dir)?;
-    assert!(rt; has_failed(record(alloc, &mut second)));
-    assert!(rt; has_failed(put(alloc, &mut second, "a", "", true)));
-    assert_eq!(rt; second.fault_count(), 2);
+    let dir = "esr_dirdepot_lock";
+    let first = begun(&rt, dir)?;
+    let mut second = DirDepot::new(&rt, rt.alloc(), dir)?;
+    check_kept_out(&rt, rt.alloc(), &mut second);
+    drop(first);
     Ok(())
 }
 
 #[test]
 fn a_folder_that_another_made_is_refused(rt: HostRuntime) -> Result<(), Fail> {
-    let (alloc, dir) = (rt.alloc(), "esr_dirdepot_absent");
-    let mut early = DirDepot::new(&rt, alloc, dir)?;
-    assert!(rt; record(alloc, &mut early).is_ok());
+    let dir = "esr_dirdepot_absent";
+    let mut early = DirDepot::new(&rt, rt.alloc(), dir)?;
+    assert!(rt; record(rt.alloc(), &mut early).is_ok());
     assert!(rt; !fs::exists(&rt, dir)?);
-    let mut first = DirDepot::new(&rt, alloc, dir)?;
-    assert!(rt; swap(alloc, &mut first, "term 1").is_ok());
-    drop(first);
-    assert!(rt; has_failed(swap(alloc, &mut early, "term 1")));
+    drop(begun(&rt, dir)?);
+    assert!(rt; has_failed(swap(rt.alloc(), &mut early, "term 1")));
     Ok(())
 }
 
 #[test]
 fn stages_that_were_left_go(rt: HostRuntime) -> Result<(), Fail> {
-    let (alloc, dir) = (rt.alloc(), "esr_dirdepot_stages");
-    let mut first = DirDepot::new(&rt, alloc, dir)?;
-    assert!(rt; swap(alloc, &mut first, "term 1").is_ok());
-    drop(first);
+    let dir = "esr_dirdepot_stages";
+    drop(begun(&rt, dir)?);
     fs::write(&rt, "esr_dirdepot_stages/stage/0", "left")?;
-    let mut second = DirDepot::new(&rt, alloc, dir)?;
-    assert!(rt; put(alloc, &mut second, "a", "A", true).is_ok());
+    let mut second = DirDepot::new(&rt, rt.alloc(), dir)?;
+    assert!(rt; put(rt.alloc(), &mut second, "a", "A", true).is_ok());
     assert!(rt; !fs::exists(&rt, "esr_dirdepot_stages/stage/0")?);
     Ok(())
 }
@@ -250,16 +278,21 @@ fn failures_twice(alloc: Global, files: &Failing, dir: &str) -> Result<(u64, u64
     Ok((first, failures(alloc, &mut depot)?))
 }
 
+/// The same in a new folder, where that call of the file system fails.
+fn failures_at(rt: &HostRuntime, nth: u64) -> Result<(u64, u64), Fail> {
+    let _ = fs::remove_dir_all(rt, "esr_dirdepot_failing");
+    let files = Failing {
+        rt: rt.clone()?,
+        left: Cell::new(nth),
+    };
+    failures_twice(rt.alloc(), &files, "esr_dirdepot_failing")
+}
+
 #[test]
 fn each_failure_of_the_file_system_fails_one_call(rt: HostRuntime) -> Result<(), Fail> {
     let mut most = 0;
     for nth in 0..1000 {
-        let _ = fs::remove_dir_all(&rt, "esr_dirdepot_failing");
-        let files = Failing {
-            rt: rt.clone()?,
-            left: Cell::new(nth),
-        };
-        let (first, second) = failures_twice(rt.alloc(), &files, "esr_dirdepot_failing")?;
+        let (first, second) = failures_at(&rt, nth)?;
         if first == 0 {
             break;
         }
@@ -284,19 +317,23 @@ fn full_stage(alloc: Global, rt: &HostRuntime) -> Result<DirStage, Fail> {
     })
 }
 
-#[test]
-fn a_stage_that_failed_is_never_committed(rt: HostRuntime) -> Result<(), Fail> {
-    let (alloc, dir) = (rt.alloc(), "esr_dirdepot_broken");
-    let mut depot = DirDepot::new(&rt, alloc, dir)?;
-    assert!(rt; swap(alloc, &mut depot, "term 1").is_ok());
-    fs::write(&rt, "esr_dirdepot_broken/stage/9", "ab")?;
-    let mut stage = full_stage(alloc, &rt)?;
+/// That a write fails, which the stage counts.
+fn check_broken(rt: &impl Abort, stage: &mut DirStage) -> Result<(), Fail> {
     if stage.room < 2 {
         return Err(Fail::new("the stage has no room"));
     }
     assert!(rt; stage.write("ab".as_bytes()).is_err());
     assert_eq!(rt; stage.fault_count(), 1);
-    assert!(rt; has_failed(depot.commit(alloc, stage)));
-    assert_eq!(rt; list(alloc, &mut depot)?.as_str(), "");
+    Ok(())
+}
+
+#[test]
+fn a_stage_that_failed_is_never_committed(rt: HostRuntime) -> Result<(), Fail> {
+    let mut depot = begun(&rt, "esr_dirdepot_broken")?;
+    fs::write(&rt, "esr_dirdepot_broken/stage/9", "ab")?;
+    let mut stage = full_stage(rt.alloc(), &rt)?;
+    check_broken(&rt, &mut stage)?;
+    assert!(rt; has_failed(depot.commit(rt.alloc(), stage)));
+    assert_eq!(rt; list(rt.alloc(), &mut depot)?.as_str(), "");
     Ok(())
 }

@@ -17,6 +17,7 @@ abbrev pub IsDrop : Work → Type 0
 IsDrop (works.Shard uuid shard index place) = ⊥
 IsDrop (works.Finalize info shards) = ⊥
 IsDrop works.Drop = Unit {0}
+IsDrop (works.RestoreShard uuid shard index place) = ⊥
 
 -- the unit's last step was refused, if it didn't end as failed
 abbrev pub IsUnitStopped : Start → List Moment → ℕ → UnitRefusal → Type 0

@@ -47,6 +47,7 @@ pub fn do_unit<Q: Desk<Shard = S::Shard>, S: Sources, G: Gate>(
         Work::Shard { .. } => esr_upload::run_unit(alloc, desk, unit, sources, gate, part_size),
         Work::Finalize { .. } => esr_finish::run_unit(alloc, desk, unit),
         Work::Drop => drop_op(alloc, desk, unit),
+        Work::RestoreShard { .. } => unreachable!("no ticket restores a shard"),
     }
 }
 

@@ -1,12 +1,20 @@
 -- The ends of the unit that aren't Ok.
-use Rattle.std.proofs.Common.{◌≡◌, ◌⊎◌, inl, inr, ℕ, Bool, true, false, List, Option, Some, None, Result, Ok, Err, IfErr, refl, sym, ap, ◌∙◌, subst}
+use Rattle.std.proofs.Common.{◌≡◌, ◌⊎◌, inl, inr, ℕ, Bool, true, false, List, [], ◌∷◌, ◌++◌, append_assoc, Option, Some, None, Result, Ok, Err, IfErr, refl, sym, ap, ◌∙◌, subst}
+use Rattle.esr_formats.specs.Names.{name_of}
+use Rattle.esr_formats.specs.Clusters.{count_of}
 use Rattle.std.specs.Result.{IsErrAnd}
 use Rattle.esr_model.specs.Values.{RootData, SnapInfo}
-use Rattle.esr_core.specs.World.{Ticket}
-use Rattle.esr_core.specs.Entry.{Step, SettleStep, FailedStep, FinishStep, WasSettled, HasEnded, OfDepot, DepotFault, Refusal, Moment}
+use Rattle.esr_core.specs.World.{Ticket, Work, Shard, Finalize, Deleting, Drop}
+use Rattle.esr_core.specs.Entry.{Step, SettleStep, FailedStep, FinishStep, WasSettled, HasEnded, DepotFault, NameTaken, GenerationsSpent, Refusal, Refused, Moment}
 use Rattle.esr_desk.specs.declared.refusal.StepRefusal.{StepRefusal}
 use Rattle.esr_desk.specs.declared.unit.UnitRefusal.{UnitRefusal}
 use Rattle.esr_desk.specs.declared.unit.UnitRefusal.TheVariants as units
+use Rattle.esr_desk.specs.declared.entry.Why.{Why}
+use Rattle.esr_desk.specs.declared.entry.Why.TheVariants as whys
+use Rattle.esr_desk.specs.declared.fault.By.TheVariants as shows
+use Rattle.esr_desk.specs.Entries.{why_of}
+use Rattle.esr_desk.specs.Shown.{Counts, Matters, HadRefusal, IsShown, is_of_latest}
+use Rattle.esr_desk.specs.Last.{IsLast}
 use Rattle.esr_desk.specs.Refusals.{told_refusal}
 use Rattle.esr_desk.specs.Start.{Start, formats_of, ticket_of}
 use Rattle.esr_desk.specs.Outcome.{Refusing, Outcome, Spends, Waited}
@@ -19,7 +27,7 @@ use Rattle.esr_finish.specs.declared.refusal.PutRefusal.TheVariants as puts
 use Rattle.esr_desk.specs.Taken.{IsSettled}
 use Rattle.esr_finish.specs.Ticket.{MayWrite, IsWritten}
 use Rattle.esr_finish.specs.Went.{Went}
-use Rattle.esr_finish.specs.Refused.{IsEnding, WasStopped, WasPutRefused, IsPutRefused, HasFault, Reported, IsUnitRefused}
+use Rattle.esr_finish.specs.Refused.{failed_by, EndsUnit, IsEnding, WasStopped, WasPutRefused, IsPutRefused, HasFault, HadCause, Reported, IsUnitRefused}
 use Rattle.esr_finish.proofs.Runs.{worked_to}
 
 -- an error that was made of a step's refusal
@@ -75,34 +83,145 @@ settle_refused {S = S} s faults old mid new who info root refusal may went writt
       refused.1,
     )
 
--- the report of a failure, after what failed
-pub fail_ends : {S : Type 0} (s : Start) (faults : S → ℕ) (old mid new : List Moment) (who : ℕ) (info : SnapInfo) (root : RootData) (e : UnitRefusal) → MayWrite s (ticket_of s old who) info root → Went s old mid who
-    → ((log : List Moment) → Waited s mid log who → HasFault s faults log who) → Reported s mid new who e → IsUnitRefused s faults old new who e
-fail_ends {S = S} s faults old mid new who info root (units.Failed why) may went fault reported = (
-  reported.0,
+-- the report of a failure, after its cause
+pub fail_ends : {S : Type 0} (s : Start) (faults : S → ℕ) (old mid new : List Moment) (who : ℕ) (info : SnapInfo) (root : RootData) (why : Why) (e : UnitRefusal) → MayWrite s (ticket_of s old who) info root → Went s old mid who
+    → ((log : List Moment) → Waited s mid log who → HadCause s faults log who why) → Reported s mid new who why e → IsUnitRefused s faults old new who e
+fail_ends {S = S} s faults old mid new who info root why (units.Failed told) may went cause reported = subst (λ (w : Why). IsUnitRefused {S = S} s faults old new who (units.Failed w)) (sym reported.0) (
   record {
     worked = ticket_of s mid who;
     is_worked = went.worked;
     is = reported.1;
     unsettled = ap (λ (t : Ticket). t.settled) (reported.1 ∙ ap (λ (t : Ticket). record t { out = false }) went.worked.is) ∙ may.swaps.unsettled;
   },
-  (record { front = reported.2.front; image = reported.2.image; is = reported.2.is }, fault reported.2.front reported.2.waited),
+  (record { front = reported.2.front; image = reported.2.image; is = reported.2.is }, cause reported.2.front reported.2.waited),
 )
-fail_ends {S = S} s faults old mid new who info root (units.Stopped refusal) may went fault reported =
-    ending_refused s faults old mid new who info root (FailedStep OfDepot) refusal may went reported.0 tt (reported.1, reported.2)
+fail_ends {S = S} s faults old mid new who info root why (units.Stopped refusal) may went cause reported =
+    ending_refused s faults old mid new who info root (FailedStep (why_of why)) refusal may went reported.0 tt (reported.1, reported.2)
 
 -- a failed stage
 pub by_stage : {S : Type 0} (s : Start) (faults : S → ℕ) (mid : List Moment) (who : ℕ) (e : PutRefusal S) (stage : S) → e ≡ puts.Stage stage → IsPutRefused s faults mid who e
-    → (log : List Moment) → Waited s mid log who → HasFault s faults log who
+    → (log : List Moment) → Waited s mid log who → HadCause s faults log who whys.Depot
 by_stage s faults mid who e stage is refused log waited = inl (stage, subst (IsPutRefused s faults mid who) is refused)
 
--- the ticket's last step, in which the container failed
-pub fault_was : {S : Type 0} (s : Start) (faults : S → ℕ) (mid : List Moment) (who : ℕ) (e : PutRefusal S) (r : StepRefusal) (x : EntryRefusal) → e ≡ puts.Step r → r ≡ steps.Refused x → x ≡ refusals.DepotFault
-    → IsPutRefused s faults mid who e → WasPutRefused mid who (Some DepotFault)
-fault_was s faults mid who e r x e_is r_is x_is refused =
-    let r_was : r ≡ steps.Refused refusals.DepotFault = r_is ∙ ap steps.Refused x_is in
-    let was : WasPutRefused mid who (told_refusal r) = (subst (IsPutRefused s faults mid who) e_is refused).0 in
-    subst (λ (q : StepRefusal). WasPutRefused mid who (told_refusal q)) r_was was
+-- ---- a refusal that ends the ticket
 
-pub by_step : {S : Type 0} (s : Start) (faults : S → ℕ) (mid : List Moment) (who : ℕ) → WasPutRefused mid who (Some DepotFault) → (log : List Moment) → Waited s mid log who → HasFault s faults log who
-by_step s faults mid who was log waited = inr (record { front = mid; step = was.0; refused = was.1; matters = was.2 refl; waited = waited })
+-- why a blob wasn't put, where a step was refused
+pub was_refused : {S : Type 0} (s : Start) (faults : S → ℕ) (mid : List Moment) (who : ℕ) (e : PutRefusal S) (refusal : StepRefusal) → e ≡ puts.Step refusal → IsPutRefused s faults mid who e → WasPutRefused mid who (told_refusal refusal)
+was_refused {S = S} s faults mid who e refusal is refused = (subst (IsPutRefused {S = S} s faults mid who) is refused).0
+
+-- the ticket's last step was refused so, while others step
+had_refusal : (s : Start) (mid log : List Moment) (who : ℕ) (step : Step) (refusal : Refusal) → IsLast mid who step (Refused refusal) → Waited s mid log who → HadRefusal log who refusal
+had_refusal s mid log who step refusal last waited =
+    let moment : Moment = record { entry = record { who = who; step = step; reply = Refused refusal }; image = last.image } in
+    record {
+      front = last.front;
+      moment = moment;
+      back = waited.others;
+      is = waited.grew ∙ ap (λ (l : List Moment). l ++ waited.others) last.is ∙ append_assoc last.front (moment ∷ []) waited.others;
+      of = refl;
+      reply = refl;
+    }
+
+-- it is the cause
+pub by_step : {S : Type 0} (s : Start) (faults : S → ℕ) (mid : List Moment) (who : ℕ) (refusal : StepRefusal) (why : Why) → failed_by refusal ≡ Some why → WasPutRefused mid who (told_refusal refusal)
+    → (log : List Moment) → Waited s mid log who → HadCause s faults log who why
+by_step s faults mid who steps.Memory why is was log waited = cc
+by_step s faults mid who steps.TurnsSpent why is was log waited = cc
+by_step {S = S} s faults mid who (steps.Refused refusals.DepotFault) why is was log waited =
+    let same : whys.Depot ≡ why = cc in
+    subst (HadCause {S = S} s faults log who) same (inr (record { front = mid; step = was.0; refused = was.1; matters = was.2 refl; waited = waited }))
+by_step {S = S} s faults mid who (steps.Refused (refusals.NameTaken name)) why is was log waited =
+    let same : whys.NameTaken name ≡ why = cc in
+    subst (HadCause {S = S} s faults log who) same (had_refusal s mid log who was.0 (NameTaken (name_of name)) was.1 waited)
+by_step {S = S} s faults mid who (steps.Refused (refusals.GenerationsSpent number)) why is was log waited =
+    let same : whys.GenerationsSpent number ≡ why = cc in
+    subst (HadCause {S = S} s faults log who) same (had_refusal s mid log who was.0 (GenerationsSpent (count_of number)) was.1 waited)
+by_step s faults mid who (steps.Refused (refusals.CleanupRunning op)) why is was log waited = cc
+by_step s faults mid who (steps.Refused (refusals.NameInUse uuid)) why is was log waited = cc
+by_step s faults mid who (steps.Refused (refusals.TooMany limit)) why is was log waited = cc
+by_step s faults mid who (steps.Refused (refusals.Deposed entry)) why is was log waited = cc
+by_step s faults mid who (steps.Refused (refusals.Aborted by)) why is was log waited = cc
+by_step s faults mid who (steps.Refused (refusals.StaleTerm own now)) why is was log waited = cc
+by_step s faults mid who (steps.Refused (refusals.TermsSpent spent)) why is was log waited = cc
+by_step s faults mid who (steps.Refused (refusals.IdsSpent next)) why is was log waited = cc
+by_step s faults mid who (steps.Refused (refusals.BeingDeleted op)) why is was log waited = cc
+
+matters_any : (work : Work) (step : Step) → is_of_latest step ≡ false → Matters work step
+matters_any (Shard index number) step other = tt
+matters_any (Finalize info shards made) step other = other
+matters_any (Deleting uuids plan) step other = other
+matters_any Drop step other = other
+
+had_last : (log : List Moment) (who : ℕ) (step : Step) (refusal : Refusal) → IsLast log who step (Refused refusal) → HadRefusal log who refusal
+had_last log who step refusal last = record {
+  front = last.front;
+  moment = record { entry = record { who = who; step = step; reply = Refused refusal }; image = last.image };
+  back = [];
+  is = last.is;
+  of = refl;
+  reply = refl;
+}
+
+-- it shows the failure
+pub step_shown : {S F H T : Type 0} (c : Counts S F H T) (s : Start) (log : List Moment) (who : ℕ) (refusal : StepRefusal) (why : Why) → failed_by refusal ≡ Some why → WasPutRefused log who (told_refusal refusal)
+    → IsShown c s log who (why_of why) shows.Entry
+step_shown c s log who steps.Memory why is was = cc
+step_shown c s log who steps.TurnsSpent why is was = cc
+step_shown {S = S} {F = F} {H = H} {T = T} c s log who (steps.Refused refusals.DepotFault) why is was =
+    let same : whys.Depot ≡ why = cc in
+    subst (λ (w : Why). IsShown {S = S} {F = F} {H = H} {T = T} c s log who (why_of w) shows.Entry) same (
+    record {
+      front = was.1.front;
+      moment = record { entry = record { who = who; step = was.0; reply = Refused DepotFault }; image = was.1.image };
+      back = [];
+      is = was.1.is;
+      of = refl;
+      reply = refl;
+      matters = matters_any (ticket_of s log who).work was.0 (was.2 refl);
+    }
+    )
+step_shown {S = S} {F = F} {H = H} {T = T} c s log who (steps.Refused (refusals.NameTaken name)) why is was =
+    let same : whys.NameTaken name ≡ why = cc in
+    subst (λ (w : Why). IsShown {S = S} {F = F} {H = H} {T = T} c s log who (why_of w) shows.Entry) same (had_last log who was.0 (NameTaken (name_of name)) was.1)
+step_shown {S = S} {F = F} {H = H} {T = T} c s log who (steps.Refused (refusals.GenerationsSpent number)) why is was =
+    let same : whys.GenerationsSpent number ≡ why = cc in
+    subst (λ (w : Why). IsShown {S = S} {F = F} {H = H} {T = T} c s log who (why_of w) shows.Entry) same (had_last log who was.0 (GenerationsSpent (count_of number)) was.1)
+step_shown c s log who (steps.Refused (refusals.CleanupRunning op)) why is was = cc
+step_shown c s log who (steps.Refused (refusals.NameInUse uuid)) why is was = cc
+step_shown c s log who (steps.Refused (refusals.TooMany limit)) why is was = cc
+step_shown c s log who (steps.Refused (refusals.Deposed entry)) why is was = cc
+step_shown c s log who (steps.Refused (refusals.Aborted by)) why is was = cc
+step_shown c s log who (steps.Refused (refusals.StaleTerm own now)) why is was = cc
+step_shown c s log who (steps.Refused (refusals.TermsSpent spent)) why is was = cc
+step_shown c s log who (steps.Refused (refusals.IdsSpent next)) why is was = cc
+step_shown c s log who (steps.Refused (refusals.BeingDeleted op)) why is was = cc
+
+-- ---- a refusal that leaves the ticket out
+
+-- it is none of those that end it
+pub put_stopped : (log : List Moment) (who : ℕ) (refusal : StepRefusal) → failed_by refusal ≡ None → WasPutRefused log who (told_refusal refusal) → WasStopped log who (told_refusal refusal)
+put_stopped log who steps.Memory left was = tt
+put_stopped log who steps.TurnsSpent left was = tt
+put_stopped log who (steps.Refused refusals.DepotFault) left was = cc
+put_stopped log who (steps.Refused (refusals.NameTaken name)) left was = cc
+put_stopped log who (steps.Refused (refusals.GenerationsSpent number)) left was = cc
+put_stopped log who (steps.Refused (refusals.CleanupRunning op)) left was = (was.0, was.1, λ ends. absurd ends)
+put_stopped log who (steps.Refused (refusals.NameInUse uuid)) left was = (was.0, was.1, λ ends. absurd ends)
+put_stopped log who (steps.Refused (refusals.TooMany limit)) left was = (was.0, was.1, λ ends. absurd ends)
+put_stopped log who (steps.Refused (refusals.Deposed entry)) left was = (was.0, was.1, λ ends. absurd ends)
+put_stopped log who (steps.Refused (refusals.Aborted by)) left was = (was.0, was.1, λ ends. absurd ends)
+put_stopped log who (steps.Refused (refusals.StaleTerm own now)) left was = (was.0, was.1, λ ends. absurd ends)
+put_stopped log who (steps.Refused (refusals.TermsSpent spent)) left was = (was.0, was.1, λ ends. absurd ends)
+put_stopped log who (steps.Refused (refusals.IdsSpent next)) left was = (was.0, was.1, λ ends. absurd ends)
+put_stopped log who (steps.Refused (refusals.BeingDeleted op)) left was = (was.0, was.1, λ ends. absurd ends)
+
+-- a blob wasn't put, and the ticket stays out
+pub put_refused : {S : Type 0} (s : Start) (faults : S → ℕ) (old mid : List Moment) (who : ℕ) (info : SnapInfo) (root : RootData) (e : PutRefusal S) (refusal : StepRefusal) → MayWrite s (ticket_of s old who) info root → Went s old mid who
+    → e ≡ puts.Step refusal → failed_by refusal ≡ None → IsPutRefused s faults mid who e → IsUnitRefused {S = S} s faults old mid who (units.Stopped refusal)
+put_refused {S = S} s faults old mid who info root e refusal may went is left refused =
+    let was : IsPutRefused {S = S} s faults mid who (puts.Step refusal) = subst (IsPutRefused {S = S} s faults mid who) is refused in (
+      ap (λ (t : Ticket). t.out) went.worked.is ∙ may.swaps.out,
+      inl went.worked,
+      put_stopped mid who refusal left was.0,
+      was.1,
+    )

@@ -1,14 +1,17 @@
 -- Runs of steps, one after another.
-use Rattle.std.proofs.Common.{◌≡◌, ◌⊎◌, inl, inr, IfOk, IfErr, ℕ, true, List, Some, Result, Ok, Err, refl, sym, ap, ◌∙◌, subst}
+use Rattle.std.proofs.Common.{◌≡◌, ◌⊎◌, inl, inr, IfOk, IfErr, ℕ, Bool, true, false, List, Some, Result, Ok, Err, refl, sym, ap, ◌∙◌, subst}
 use Rattle.esr_core.specs.World.{Ticket}
-use Rattle.esr_core.specs.Entry.{RaiseStep, RaisedTo, Moment}
+use Rattle.std.specs.Prelude.{if◌then◌else◌}
+use Rattle.esr_model.specs.Names.{BlobName}
+use Rattle.esr_core.specs.Entry.{BeginStep, WasBegun, RaiseStep, RaisedTo, Moment}
+use Rattle.esr_core.specs.After.{is_latest}
 use Rattle.esr_desk.specs.declared.refusal.StepRefusal.{StepRefusal}
 use Rattle.esr_desk.specs.declared.refusal.StepRefusal.TheVariants as steps
 use Rattle.esr_desk.specs.declared.refusal.EntryRefusal.TheVariants as refusals
 use Rattle.esr_desk.specs.Start.{Start, ticket_of}
 use Rattle.esr_desk.specs.Outcome.{Outcome}
 use Rattle.esr_desk.specs.Grew.{grew_by_none, grew_by_on, outcome_grew_by}
-use Rattle.esr_desk.specs.Taken.{tried, tried_by, LeftBy, HasRaised}
+use Rattle.esr_desk.specs.Taken.{tried, tried_by, begun_by, LeftBy, HasRaised}
 use Rattle.esr_finish.specs.Went.{Worked, Went}
 
 pub worked_not : (t : Ticket) → Worked t t
@@ -55,6 +58,36 @@ tried_by_worked t (Err (steps.Refused (refusals.GenerationsSpent number))) = wor
 tried_by_worked t (Err (steps.Refused (refusals.TermsSpent number))) = worked_not t
 tried_by_worked t (Err (steps.Refused (refusals.IdsSpent next))) = worked_not t
 tried_by_worked t (Err (steps.Refused (refusals.NameTaken name))) = worked_not t
+tried_by_worked t (Err (steps.Refused (refusals.BeingDeleted op))) = worked_not t
+
+tried_if : (latest : Bool) (t : Ticket) → Worked t (if latest then tried t else t)
+tried_if true t = tried_worked t
+tried_if false t = worked_not t
+
+begun_by_worked : {X : Type 0} (name : BlobName) (t : Ticket) (result : Result X StepRefusal) → Worked t (begun_by name result t)
+begun_by_worked name t (Ok x) = worked_not t
+begun_by_worked name t (Err steps.Memory) = worked_not t
+begun_by_worked name t (Err steps.TurnsSpent) = worked_not t
+begun_by_worked name t (Err (steps.Refused refusals.DepotFault)) = tried_if (is_latest name) t
+begun_by_worked name t (Err (steps.Refused (refusals.CleanupRunning op))) = worked_not t
+begun_by_worked name t (Err (steps.Refused (refusals.NameInUse uuid))) = worked_not t
+begun_by_worked name t (Err (steps.Refused (refusals.TooMany limit))) = worked_not t
+begun_by_worked name t (Err (steps.Refused (refusals.Deposed entry))) = worked_not t
+begun_by_worked name t (Err (steps.Refused (refusals.Aborted by))) = worked_not t
+begun_by_worked name t (Err (steps.Refused (refusals.StaleTerm own now))) = worked_not t
+begun_by_worked name t (Err (steps.Refused (refusals.GenerationsSpent number))) = worked_not t
+begun_by_worked name t (Err (steps.Refused (refusals.TermsSpent number))) = worked_not t
+begun_by_worked name t (Err (steps.Refused (refusals.IdsSpent next))) = worked_not t
+begun_by_worked name t (Err (steps.Refused (refusals.NameTaken taken))) = worked_not t
+begun_by_worked name t (Err (steps.Refused (refusals.BeingDeleted op))) = worked_not t
+
+-- a begin, whatever it was answered
+pub begin_went : {X : Type 0} (s : Start) (old new : List Moment) (who : ℕ) (name : BlobName) (result : Result X StepRefusal) → Outcome s old new who (BeginStep name) (λ x. WasBegun) result
+    → ticket_of s new who ≡ begun_by name result (ticket_of s old who) → Went s old new who
+begin_went s old new who name result step own = record {
+  grew = outcome_grew_by s old new who (BeginStep name) (λ x. WasBegun) result step;
+  worked = worked_to (ticket_of s old who) (begun_by name result (ticket_of s old who)) (ticket_of s new who) (begun_by_worked name (ticket_of s old who) result) own;
+}
 
 -- what a record swap that was refused left of the ticket
 pub left_cases : {X : Type 0} (gone : Ticket → Type 0) (result : Result X StepRefusal) (t u : Ticket) → LeftBy gone result t u → IfErr result (λ e. (u ≡ t) ⊎ gone u)
@@ -72,6 +105,7 @@ left_cases gone (Err (steps.Refused (refusals.GenerationsSpent number))) t u h =
 left_cases gone (Err (steps.Refused (refusals.TermsSpent number))) t u h = inl h
 left_cases gone (Err (steps.Refused (refusals.IdsSpent next))) t u h = inl h
 left_cases gone (Err (steps.Refused (refusals.NameTaken name))) t u h = inl h
+left_cases gone (Err (steps.Refused (refusals.BeingDeleted op))) t u h = inl h
 
 raised_worked : (t u : Ticket) → (u ≡ t) ⊎ HasRaised t u → Worked t u
 raised_worked t u (inl same) = worked_to t t u (worked_not t) same

@@ -1,15 +1,22 @@
 -- Why the unit stopped or failed, and where its ticket is then.
 use Rattle.std.specs.Prelude.{◌≡◌, ◌⊎◌, ℕ, true, false, List, Option, Some, None}
 use Rattle.esr_core.specs.World.{Ticket}
-use Rattle.esr_core.specs.Entry.{Step, SettleStep, FailedStep, FinishStep, OfDepot, HasEnded, Refused, Refusal, DepotFault, Moment}
+use Rattle.esr_core.specs.Entry.{Step, SettleStep, FailedStep, FinishStep, HasEnded, Refused, Refusal, DepotFault, NameTaken, GenerationsSpent, Moment}
+use Rattle.esr_formats.specs.Names.{name_of}
+use Rattle.esr_formats.specs.Clusters.{count_of}
+use Rattle.esr_desk.specs.declared.entry.Why.{Why}
 use Rattle.esr_desk.specs.declared.entry.Why.TheVariants as whys
+use Rattle.esr_desk.specs.declared.refusal.EntryRefusal.TheVariants as refusals
+use Rattle.esr_desk.specs.declared.refusal.StepRefusal.{StepRefusal}
+use Rattle.esr_desk.specs.declared.refusal.StepRefusal.TheVariants as steps
 use Rattle.esr_desk.specs.declared.unit.UnitRefusal.{UnitRefusal}
 use Rattle.esr_desk.specs.declared.unit.UnitRefusal.TheVariants as units
+use Rattle.esr_desk.specs.Entries.{why_of}
 use Rattle.esr_desk.specs.Refusals.{told_refusal}
 use Rattle.esr_desk.specs.Start.{Start, formats_of, ticket_of}
 use Rattle.esr_desk.specs.Outcome.{Waited, Stepped, Refusing, Spends}
 use Rattle.esr_desk.specs.Last.{IsLast}
-use Rattle.esr_desk.specs.Shown.{is_of_latest, Faulty}
+use Rattle.esr_desk.specs.Shown.{is_of_latest, Faulty, HadRefusal}
 use Rattle.esr_finish.specs.declared.refusal.PutRefusal.{PutRefusal}
 use Rattle.esr_finish.specs.declared.refusal.PutRefusal.TheVariants as puts
 use Rattle.esr_finish.specs.Ticket.{HasSettled}
@@ -25,6 +32,20 @@ abbrev pub IsPutRefused : {S : Type 0} → Start → (S → ℕ) → List Moment
 IsPutRefused s faults log who (puts.Step refusal) = WasPutRefused log who (told_refusal refusal) × Spends s log refusal
 IsPutRefused s faults log who (puts.Stage stage) = Faulty s (faults stage)
 
+-- why a refusal before the settle ends the ticket, where it does
+abbrev pub failed_by : StepRefusal → Option Why
+failed_by (steps.Refused refusals.DepotFault) = Some whys.Depot
+failed_by (steps.Refused (refusals.NameTaken name)) = Some (whys.NameTaken name)
+failed_by (steps.Refused (refusals.GenerationsSpent number)) = Some (whys.GenerationsSpent number)
+failed_by refusal = None
+
+-- the container failed, or the name of the root was taken, or no generation is left
+abbrev pub EndsUnit : Refusal → Type 0
+EndsUnit DepotFault = Unit {0}
+EndsUnit (NameTaken name) = Unit {0}
+EndsUnit (GenerationsSpent pending) = Unit {0}
+EndsUnit refusal = ⊥
+
 -- a settle, or the end of a ticket
 abbrev pub IsEnding : Step → Type 0
 IsEnding SettleStep = Unit {0}
@@ -32,10 +53,10 @@ IsEnding (FailedStep why) = Unit {0}
 IsEnding FinishStep = Unit {0}
 IsEnding step = ⊥
 
--- the ticket's last step was refused so, if the history tells it, and the container didn't fail in a step before the settle
+-- the ticket's last step was refused so, if the history tells it; where such a refusal ends the unit, it was of a settle or of the end of the ticket
 abbrev pub WasStopped : List Moment → ℕ → Option Refusal → Type 0
 WasStopped log who None = Unit {0}
-WasStopped log who (Some refusal) = (step : Step) × IsLast log who step (Refused refusal) × (refusal ≡ DepotFault → IsEnding step)
+WasStopped log who (Some refusal) = (step : Step) × IsLast log who step (Refused refusal) × (EndsUnit refusal → IsEnding step)
 
 -- the ticket has ended, unsettled
 pub record HasFailed (old new : Ticket) : Type 0 where
@@ -56,15 +77,29 @@ pub record HadFault (s : Start) (log : List Moment) (who : ℕ) : Type 0 where
 abbrev pub HasFault : {S : Type 0} → Start → (S → ℕ) → List Moment → ℕ → Type 0
 HasFault {S} s faults log who = ((stage : S) × Faulty s (faults stage)) ⊎ HadFault s log who
 
--- it has failed for the container's sake, or stopped with its ticket out: unsettled, or settled with all that goes before
+-- The cause, before the ticket ended so: the container failed, or an own step was refused, since a name was taken or no
+-- generation is left. A finalization fails for nothing else.
+abbrev pub HadCause : {S : Type 0} → Start → (S → ℕ) → List Moment → ℕ → Why → Type 0
+HadCause s faults log who whys.Depot = HasFault s faults log who
+HadCause s faults log who whys.Source = ⊥
+HadCause s faults log who (whys.Changed first second) = ⊥
+HadCause s faults log who (whys.Damaged name) = ⊥
+HadCause s faults log who (whys.NameTaken name) = HadRefusal log who (NameTaken (name_of name))
+HadCause s faults log who (whys.IdsSpent next) = ⊥
+HadCause s faults log who (whys.GenerationsSpent number) = HadRefusal log who (GenerationsSpent (count_of number))
+HadCause s faults log who whys.Target = ⊥
+HadCause s faults log who (whys.Misprinted name stated found) = ⊥
+HadCause s faults log who (whys.Disagreeing name other) = ⊥
+
+-- it has failed, with its cause, or stopped with its ticket out: unsettled, or settled with all that goes before
 abbrev pub IsUnitRefused : {S : Type 0} → Start → (S → ℕ) → List Moment → List Moment → ℕ → UnitRefusal → Type 0
 IsUnitRefused {S} s faults old new who (units.Failed why) =
-    (why ≡ whys.Depot) × HasFailed (ticket_of s old who) (ticket_of s new who) × ((last : IsLast new who (FailedStep OfDepot) HasEnded) × HasFault s faults last.front who)
+    HasFailed (ticket_of s old who) (ticket_of s new who) × ((last : IsLast new who (FailedStep (why_of why)) HasEnded) × HadCause s faults last.front who why)
 IsUnitRefused {S} s faults old new who (units.Stopped refusal) =
     ((ticket_of s new who).out ≡ true) × (Worked (ticket_of s old who) (ticket_of s new who) ⊎ HasSettled (formats_of s) (ticket_of s old who) true (ticket_of s new who))
     × WasStopped new who (told_refusal refusal) × Spends s new refusal
 
--- the report that the unit failed was taken, so that the ticket has ended, or it was refused
-abbrev pub Reported : Start → List Moment → List Moment → ℕ → UnitRefusal → Type 0
-Reported s old new who (units.Failed why) = (why ≡ whys.Depot) × (ticket_of s new who ≡ record (ticket_of s old who) { out = false }) × Stepped s old new who (FailedStep OfDepot) HasEnded
-Reported s old new who (units.Stopped refusal) = (ticket_of s new who ≡ ticket_of s old who) × Refusing s old new who (FailedStep OfDepot) (told_refusal refusal) × Spends s new refusal
+-- the report that the unit failed for this reason was taken, so that the ticket has ended, or it was refused
+abbrev pub Reported : Start → List Moment → List Moment → ℕ → Why → UnitRefusal → Type 0
+Reported s old new who why (units.Failed told) = (told ≡ why) × (ticket_of s new who ≡ record (ticket_of s old who) { out = false }) × Stepped s old new who (FailedStep (why_of why)) HasEnded
+Reported s old new who why (units.Stopped refusal) = (ticket_of s new who ≡ ticket_of s old who) × Refusing s old new who (FailedStep (why_of why)) (told_refusal refusal) × Spends s new refusal

@@ -1,6 +1,6 @@
 //! The unit of a finalization.
 ghost use Rattle.std.specs.Prelude.{◌≡◌, IfErr, OnOk};
-ghost use Rattle.esr_core.specs.Entry.{OfDepot};
+ghost use Rattle.esr_desk.specs.Entries.{why_of};
 ghost use Rattle.esr_desk.specs.Start.{ticket_of};
 ghost use Rattle.esr_desk.specs.Shown.{IsShown};
 ghost use Rattle.esr_desk.specs.Conditions.{CanFail};
@@ -8,7 +8,7 @@ ghost use Rattle.esr_desk.specs.Taken.{Took};
 ghost use Rattle.esr_finish.specs.Work.{IsFinalize};
 ghost use Rattle.esr_finish.specs.Ticket.{Finalized};
 ghost use Rattle.esr_desk.specs.Grew.{GrewBy};
-ghost use Rattle.esr_finish.specs.Refused.{IsUnitRefused, Reported};
+ghost use Rattle.esr_finish.specs.Refused.{failed_by, IsUnitRefused, Reported};
 
 use crate::refusal::PutRefusal;
 use crate::root::write_swap;
@@ -17,7 +17,7 @@ use esr_progress::Work;
 use std::alloc::Global;
 
 /// Writes the metadata of the unit's snapshot and the new root, settles on it, and ends the ticket. Where the container
-/// fails before the settle, the ticket ends as failed.
+/// fails before the settle, the name of the root is taken or no generation is left, the ticket ends as failed.
 pub fn run_unit<Q: Desk>(alloc: Global, desk: &mut Q, unit: &Unit) -> Result<(), UnitRefusal>
     requires mine { Q.holds desk.old unit.now.ready.ticket }
     requires fresh { Took Q.start (Q.seen desk.old) unit.now }
@@ -42,32 +42,47 @@ pub fn run_unit<Q: Desk>(alloc: Global, desk: &mut Q, unit: &Unit) -> Result<(),
         }
         Err(PutRefusal::Stage { stage }) => {
             let object = FailedObject::Stage { stage };
-            Err(fail(alloc, desk, ticket, By::Object { object }))
+            Err(fail(alloc, desk, ticket, Why::Depot, By::Object { object }))
         }
-        Err(PutRefusal::Step(StepRefusal::Refused(EntryRefusal::DepotFault))) => {
-            Err(fail(alloc, desk, ticket, By::Entry))
-        }
-        Err(PutRefusal::Step(refusal)) => Err(UnitRefusal::Stopped(refusal)),
+        Err(PutRefusal::Step(refusal)) => match failed_by(refusal) {
+            Some(why) => Err(fail(alloc, desk, ticket, why, By::Entry)),
+            None => Err(UnitRefusal::Stopped(refusal)),
+        },
     }
 }
 
-/// Reports that the container failed, as `by` shows, which ends the ticket.
+/// Why a refusal before the settle ends the ticket, or `None` where it leaves it out.
+fn failed_by(refusal: StepRefusal) -> Option<Why>
+    ensures { result ≡ failed_by refusal }
+{
+    match refusal {
+        StepRefusal::Refused(EntryRefusal::DepotFault) => Some(Why::Depot),
+        StepRefusal::Refused(EntryRefusal::NameTaken { name }) => Some(Why::NameTaken { name }),
+        StepRefusal::Refused(EntryRefusal::GenerationsSpent { number }) => {
+            Some(Why::GenerationsSpent { number })
+        }
+        _ => None,
+    }
+}
+
+/// Reports that the unit failed, as `by` shows, which ends the ticket.
 fn fail<Q: Desk>(
     alloc: Global,
     desk: &mut Q,
     ticket: u64,
+    why: Why,
     by: By<Q::Stage, Q::Fetch, Q::Shard, Q::Target>,
 ) -> UnitRefusal
     requires mine { Q.holds desk.old ticket }
     requires may { CanFail (ticket_of Q.start (Q.seen desk.old) ticket) }
     requires shown { IsShown (record { stage = Q.Stage.faults; fetch = Q.Fetch.faults; shard = Q.Shard.faults; target = Q.Target.faults; made_for = λ h. (Q.Shard.origin h).address })
-        Q.start (Q.seen desk.old) ticket OfDepot by }
-    ensures reported { Reported Q.start (Q.seen desk.old) (Q.seen desk.new) ticket result }
+        Q.start (Q.seen desk.old) ticket (why_of why) by }
+    ensures reported { Reported Q.start (Q.seen desk.old) (Q.seen desk.new) ticket why result }
     ensures grew { GrewBy Q.start ticket (Q.seen desk.old) (Q.seen desk.new) }
     ensures holds { Q.holds desk.new ticket }
 {
-    match desk.failed(alloc, ticket, Why::Depot, by) {
-        Ok(()) => UnitRefusal::Failed(Why::Depot),
+    match desk.failed(alloc, ticket, why, by) {
+        Ok(()) => UnitRefusal::Failed(why),
         Err(refusal) => UnitRefusal::Stopped(refusal),
     }
 }

@@ -53,6 +53,7 @@ pub(crate) fn work_unit<D: Depot, K: Told, S: Sources>(
             esr_finish::run_unit(alloc, desk, unit)?;
             Ok(())
         }
+        Work::RestoreShard { .. } => Err(Fail::new("a restore was accepted")),
         Work::Drop => Err(Fail::new("an op failed")),
     }
 }

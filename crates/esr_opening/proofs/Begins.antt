@@ -5,7 +5,7 @@ use Rattle.std.specs.FinMap.{FinMap}
 use Rattle.std.specs.FinMap as fin
 use Rattle.esr_model.specs.Values.{Bytes, ReadsBack, ClusterRecord}
 use Rattle.esr_model.specs.Kept.{first_id}
-use Rattle.esr_core.specs.World.{World, Deletion, Ticket, record_of, kept_deletes, numbered_deletes}
+use Rattle.esr_core.specs.World.{World, Deletion, Ticket, Restoring, record_of, kept_deletes, numbered_deletes}
 use Rattle.esr_depot.specs.Image.{Image as Held, with_text, swap_known}
 use Rattle.esr_depot.specs.Look.{Look, now}
 use Rattle.esr_depot.specs.Calls.{HasCause}
@@ -13,7 +13,7 @@ use Rattle.esr_depot.specs.Moments.{LeavesOnly, joined}
 use Rattle.esr_record.specs.Record.{Record}
 use Rattle.esr_root.specs.Root.{Root}
 use Rattle.esr_formats.specs.Clusters.{cluster_of, cluster_kind}
-use Rattle.esr_progress.specs.Plan.{no_plan, seat_of, IsPlanOf}
+use Rattle.esr_progress.specs.Plan.{RestorePlan, no_plan, seat_of, restore_plan, reader_seat, IsPlanOf}
 use Rattle.esr_opening.specs.Found.{Obstacle, Damage, found}
 use Rattle.esr_opening.specs.Hindrances.{IsNoDamage}
 use Rattle.esr_opening.specs.Opening.{Kept, IsKeptOf, world_in, opened_text, IsInOrder, IsLeftOf, IsOpening, IsAsBefore, SwapFailed, SparesKept, IsOpenRefused}
@@ -41,6 +41,9 @@ plan_is held cluster root fit = record {
   seats = λ k. fin.get-empty nat_cmp k ∙ ap (option_map seat_of) (sym (fin.get-empty nat_cmp k));
   next_op = sym (ap (λ (kept : List (List ℕ)). suc (length kept)) (fit_kept cluster root fit));
   next_ticket = refl;
+  restores = λ o. fin.get-empty nat_cmp o ∙ ap (option_map restore_plan) (sym (fin.get-empty nat_cmp o));
+  restore_count = fin.len-empty nat_cmp RestorePlan ∙ sym (fin.len-empty nat_cmp Restoring);
+  readers = λ k. fin.get-empty nat_cmp k ∙ ap (option_map reader_seat) (sym (fin.get-empty nat_cmp k));
 }
 
 kept_is : (held : Option Held) (cluster next : Record) (root : Root) → IsFit cluster root → next ≡ next_term cluster → IsKeptOf (world_in held cluster root) (record { cluster = next; root = root; plan = no_plan; next = first_id next.term })

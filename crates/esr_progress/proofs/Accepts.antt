@@ -19,12 +19,12 @@ use Rattle.esr_core.specs.Tracked.{Named}
 use Rattle.esr_names.specs.declared.index_ref.IndexRef.{IndexRef as CodeRef}
 use Rattle.std.proofs.lemmas.List.{length-map}
 use Rattle.esr_formats.specs.Refs.{ref_of_code, AreApart}
-use Rattle.esr_progress.specs.declared.unit.Seat.{Seat as CodeSeat}
+use Rattle.esr_progress.specs.declared.unit.Slot.{Slot}
 use Rattle.esr_progress.specs.Asked.{IsAskable}
 use Rattle.esr_formats.specs.Formats.{formats}
 use Rattle.esr_progress.specs.declared.refusal.Refusal.{Refusal}
 use Rattle.esr_progress.specs.declared.command.Accepted.{Accepted}
-use Rattle.esr_progress.specs.Plan.{Plan, IsPlanOf, IsAskedIn}
+use Rattle.esr_progress.specs.Plan.{Plan, RestorePlan, IsPlanOf, IsAskedIn}
 use Rattle.esr_progress.specs.Inside.{numbers_of, Rise, IsProgress, plan_with}
 use Rattle.esr_progress.specs.Accepting.{MayAccept, IsAccepted, IsRefused, drawn_by}
 use Rattle.esr_progress.specs.Asking.{open_cleanup, snap_uuid, op_uuid, name_user, known_in, first_refusal, refs_by, new_by, op_begun}
@@ -161,6 +161,9 @@ module _ (ops : List (ℕ × Op)) (deletes : List (ℕ × Deletion)) (p : Plan) 
       seats = is.plan.seats;
       next_op = ap suc is.plan.next_op;
       next_ticket = is.plan.next_ticket;
+      restores = is.plan.restores;
+      restore_count = is.plan.restore_count;
+      readers = is.plan.readers;
     }
 
     pub accepted : (m : Making) (new : Plan) (a : Accepted) → Makes m
@@ -183,8 +186,8 @@ module _ (ops : List (ℕ × Op)) (deletes : List (ℕ × Deletion)) (p : Plan) 
 
 -- ---- the lists of a plan
 
-pub listed : (ops : List (ℕ × Op)) (deletes : List (ℕ × Deletion)) (completed : List ℕ) (seats : List CodeSeat) (next : ℕ) (p : Plan) → IsProgress ops deletes next → plan_with ops deletes completed seats next ≡ p → IsListed ops deletes p
-listed ops deletes completed seats next p h view = record {
+pub listed : (ops : List (ℕ × Op)) (deletes : List (ℕ × Deletion)) (completed : List ℕ) (seats : List Slot) (next : ℕ) (restores : List (ℕ × RestorePlan)) (p : Plan) → IsProgress ops deletes next restores → plan_with ops deletes completed seats next restores ≡ p → IsListed ops deletes p
+listed ops deletes completed seats next restores p h view = record {
   ops_rise = h.ops_numbered.rise;
   deletes_rise = h.deletes_numbered.rise;
   ops_are = ap (λ (q : Plan). q.ops) (sym view);

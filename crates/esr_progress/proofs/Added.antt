@@ -5,17 +5,18 @@ use Rattle.std.proofs.lemmas.List.{map-append}
 use Rattle.esr_model.specs.Values.{Has}
 use Rattle.esr_core.specs.World.{Op, Deletion}
 use Rattle.esr_core.specs.Steps.{completing}
-use Rattle.esr_progress.specs.declared.unit.Seat.{Seat as CodeSeat}
-use Rattle.esr_progress.specs.Plan.{Plan}
-use Rattle.esr_progress.specs.Inside.{numbers_of, IsProgress, plan_with, seats_with}
+use Rattle.esr_progress.specs.declared.unit.Slot.{Slot}
+use Rattle.esr_progress.specs.Plan.{Plan, RestorePlan}
+use Rattle.esr_progress.specs.Inside.{numbers_of, IsProgress, plan_with, seats_with, readers_with}
 use Rattle.esr_progress.proofs.Lists.{Has-either}
 use Rattle.esr_progress.proofs.Entries.{from_push}
 use Rattle.esr_progress.proofs.Numbers.{numbers-push, AreNumbers-next, found_below}
 
-more : (ops : List (ℕ × Op)) (deletes : List (ℕ × Deletion)) (next : ℕ) (op : Op) → IsProgress ops deletes next → next < 2 ^ 62 → IsProgress (ops ++ (next, op) ∷ []) deletes (suc next)
-more ops deletes next op h room = record {
+more : (ops : List (ℕ × Op)) (deletes : List (ℕ × Deletion)) (next : ℕ) (restores : List (ℕ × RestorePlan)) (op : Op) → IsProgress ops deletes next restores → next < 2 ^ 62 → IsProgress (ops ++ (next, op) ∷ []) deletes (suc next) restores
+more ops deletes next restores op h room = record {
   ops_numbered = numbers-push ops next op h.first h.ops_numbered;
   deletes_numbered = AreNumbers-next (numbers_of deletes) next (suc next) (omega arith) h.deletes_numbered;
+  restores_numbered = AreNumbers-next (numbers_of restores) next (suc next) (omega arith) h.restores_numbered;
   apart = λ n a b.
       let is : numbers_of (ops ++ (next, op) ∷ []) ≡ numbers_of ops ++ next ∷ [] = map-append (λ (e : ℕ × Op). e.0) ops ((next, op) ∷ []) in
       elim (Has-either (numbers_of ops) (next ∷ []) n (subst (λ ns. Has ns n) is a)) [
@@ -26,22 +27,24 @@ more ops deletes next op h room = record {
   most = omega arith;
 }
 
-pub progress-push : (ops : List (ℕ × Op)) (deletes : List (ℕ × Deletion)) (next : ℕ) (op : ℕ × Op) (new : List (ℕ × Op)) → IsProgress ops deletes next → next < 2 ^ 62 → op.0 ≡ next → new ≡ ops ++ op ∷ [] → IsProgress new deletes (next + 1)
-progress-push ops deletes next op new h room is pushed =
-    subst (λ (es : List (ℕ × Op)). IsProgress es deletes (next + 1)) (sym (pushed ∙ λ j. ops ++ (is j, op.1) ∷ [])) (subst (λ (n : ℕ). IsProgress (ops ++ (next, op.1) ∷ []) deletes n) (sym (add-one next)) (more ops deletes next op.1 h room))
+pub progress-push : (ops : List (ℕ × Op)) (deletes : List (ℕ × Deletion)) (next : ℕ) (restores : List (ℕ × RestorePlan)) (op : ℕ × Op) (new : List (ℕ × Op)) → IsProgress ops deletes next restores → next < 2 ^ 62 → op.0 ≡ next → new ≡ ops ++ op ∷ [] → IsProgress new deletes (next + 1) restores
+progress-push ops deletes next restores op new h room is pushed =
+    subst (λ (es : List (ℕ × Op)). IsProgress es deletes (next + 1) restores) (sym (pushed ∙ λ j. ops ++ (is j, op.1) ∷ [])) (subst (λ (n : ℕ). IsProgress (ops ++ (next, op.1) ∷ []) deletes n restores) (sym (add-one next)) (more ops deletes next restores op.1 h room))
 
-pub plan-push : (ops : List (ℕ × Op)) (deletes : List (ℕ × Deletion)) (completed now : List ℕ) (seats : List CodeSeat) (next : ℕ) (op : ℕ × Op) (new : List (ℕ × Op)) (p : Plan) → IsProgress ops deletes next → plan_with ops deletes completed seats next ≡ p
+pub plan-push : (ops : List (ℕ × Op)) (deletes : List (ℕ × Deletion)) (completed now : List ℕ) (seats : List Slot) (next : ℕ) (restores : List (ℕ × RestorePlan)) (op : ℕ × Op) (new : List (ℕ × Op)) (p : Plan) → IsProgress ops deletes next restores → plan_with ops deletes completed seats next restores ≡ p
     → op.0 ≡ next → new ≡ ops ++ op ∷ [] → now ≡ completing completed op.0 op.1.shards
-    → plan_with new deletes now seats (next + 1) ≡ record p { ops = fin.insert p.ops op.0 op.1; completed = completing p.completed op.0 op.1.shards; next_op = suc p.next_op }
-plan-push ops deletes completed now seats next op new p h view is pushed noted =
+    → plan_with new deletes now seats (next + 1) restores ≡ record p { ops = fin.insert p.ops op.0 op.1; completed = completing p.completed op.0 op.1.shards; next_op = suc p.next_op }
+plan-push ops deletes completed now seats next restores op new p h view is pushed noted =
     let free : fin.find nat_cmp op.0 ops ≡ None = ap (λ (k : ℕ). fin.find nat_cmp k ops) is ∙ found_below ops next h.ops_numbered in
-    subst (λ (q : Plan). plan_with new deletes now seats (next + 1) ≡ record q { ops = fin.insert q.ops op.0 op.1; completed = completing q.completed op.0 op.1.shards; next_op = suc q.next_op }) view (
+    subst (λ (q : Plan). plan_with new deletes now seats (next + 1) restores ≡ record q { ops = fin.insert q.ops op.0 op.1; completed = completing q.completed op.0 op.1.shards; next_op = suc q.next_op }) view (
     λ j. record {
       ops = (ap (λ (es : List (ℕ × Op)). fin.from_entries {R = nat_cmp} es) pushed ∙ from_push ops op.0 op.1 free) j;
       deletes = fin.from_entries deletes;
       completed = noted j;
       seats = seats_with seats;
+      restores = fin.from_entries restores;
+      readers = readers_with seats;
       next_op = add-one next j;
-      next_ticket = (plan_with ops deletes completed seats next).next_ticket;
+      next_ticket = (plan_with ops deletes completed seats next restores).next_ticket;
     }
     )

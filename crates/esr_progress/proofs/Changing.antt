@@ -1,7 +1,7 @@
 -- A plan after a change of its lists.
-use Rattle.std.proofs.Common.{◌≡◌, ℕ, ◌-◌, ◌<◌, ◌≤◌, Bool, true, false, cond, eqb, List, [], ◌∷◌, ◌++◌, Option, Some, None, option_map, length, get_or, refl, sym, ap, ◌∙◌, subst, nat_cmp, true≢false}
+use Rattle.std.proofs.Common.{◌≡◌, ℕ, ◌-◌, ◌<◌, ◌≤◌, Bool, true, false, cond, eqb, List, [], ◌∷◌, ◌++◌, Option, Some, None, option_map, length, get_or, refl, sym, ap, ◌∙◌, subst, nat_cmp, true≢false, eq-eqb}
 use Rattle.std.specs.Prelude.{not, is_some}
-use Rattle.std.specs.List.{position, filter}
+use Rattle.std.specs.List.{position, filter, list_any}
 use Rattle.std.specs.FinMap as fin
 use Rattle.std.proofs.lemmas.Option.{get_or_from_slice_get}
 use Rattle.std.proofs.Math.ListN.{set}
@@ -9,31 +9,52 @@ use Rattle.esr_model.specs.Values.{Has, ShardResult}
 use Rattle.esr_core.specs.World.{Op, Deletion}
 use Rattle.esr_core.specs.Steps.{all_done}
 use Rattle.esr_progress.specs.declared.unit.Seat.{Seat as CodeSeat}
-use Rattle.esr_progress.specs.Plan.{Plan, Seat, seat_of_code}
-use Rattle.esr_progress.specs.Seats.{seat_at}
-use Rattle.esr_progress.specs.Inside.{plan_with, seats_with, numbers_of, AreNumbers, IsProgress}
-use Rattle.esr_progress.specs.Changes.{with_seat, without_op, with_completed, op_changed, op_marked, op_failed, seat_ended, done_by, failed_by}
+use Rattle.esr_progress.specs.declared.unit.ReaderSeat.{ReaderSeat as CodeReader}
+use Rattle.esr_progress.specs.declared.unit.Slot.{Slot}
+use Rattle.esr_progress.specs.declared.unit.Slot.TheVariants as slots
+use Rattle.esr_progress.specs.Plan.{Plan, Seat, seat_of_code, ReaderSeat, reader_of_code, RestorePlan}
+use Rattle.esr_progress.specs.Seats.{seat_at, seat_in, reader_in, told_in}
+use Rattle.esr_progress.specs.Inside.{plan_with, seats_with, readers_with, numbers_of, AreNumbers, IsProgress}
+use Rattle.esr_progress.specs.Restores.{is_waiting}
+use Rattle.esr_progress.specs.Changes.{with_seat, without_op, with_completed, op_changed, op_marked, op_failed, seat_ended, done_by, failed_by, with_reader, reader_ended, restore_over, restore_changed, restore_kept, put_plan, read_by}
 use Rattle.esr_progress.proofs.Lists.{none_some, some_same}
-use Rattle.esr_progress.proofs.Entries.{FirstAt, position_found, position_missed, get_from, from_set, from_filter}
+use Rattle.esr_progress.proofs.Entries.{FirstAt, position_found, position_missed, get_from, get_put, get_left, same_maps, from_set, from_filter}
 use Rattle.esr_progress.proofs.Numbers.{numbers-set, numbers-filter, kept_number}
-use Rattle.esr_progress.proofs.SeatMaps.{get-seats, seat_at_within}
-use Rattle.esr_progress.proofs.Plans.{plan-seat}
+use Rattle.esr_progress.proofs.SeatMaps.{get-seats, get-readers, seat_at_within}
+use Rattle.esr_progress.proofs.Plans.{plan-seat, plan-reader}
 
 -- ---- a seat
 
-seen : (o : Option CodeSeat) → is_some (option_map seat_of_code o) ≡ true → (c : CodeSeat) × (o ≡ Some c)
+seen : (o : Option Slot) → is_some (told_in seat_in o) ≡ true → (c : CodeSeat) × (o ≡ Some (slots.Ticket c))
 seen None e = absurd (true≢false (sym e))
-seen (Some c) e = (c, refl)
+seen (Some (slots.Ticket c)) e = (c, refl)
+seen (Some (slots.Reader q)) e = absurd (true≢false (sym e))
 
-pub seat_there : (seats : List CodeSeat) (k : ℕ) → is_some (fin.get (seats_with seats) k) ≡ true → (c : CodeSeat) × (seat_at seats k ≡ Some c)
+pub seat_there : (seats : List Slot) (k : ℕ) → is_some (fin.get (seats_with seats) k) ≡ true → (c : CodeSeat) × (seat_at seats k ≡ Some (slots.Ticket c))
 seat_there seats k e = seen (seat_at seats k) (sym (ap is_some (get-seats seats k)) ∙ e)
 
-pub seat_within : (seats : List CodeSeat) (k : ℕ) → is_some (fin.get (seats_with seats) k) ≡ true → (1 ≤ k) × (k - 1 < length seats)
-seat_within seats k e = let (c, there) = seat_there seats k e in seat_at_within seats k c there
+pub seat_within : (seats : List Slot) (k : ℕ) → is_some (fin.get (seats_with seats) k) ≡ true → (1 ≤ k) × (k - 1 < length seats)
+seat_within seats k e = let (c, there) = seat_there seats k e in seat_at_within seats k (slots.Ticket c) there
 
-pub seat_put : (ops : List (ℕ × Op)) (deletes : List (ℕ × Deletion)) (completed : List ℕ) (seats : List CodeSeat) (next k : ℕ) (new : CodeSeat) → is_some (fin.get (seats_with seats) k) ≡ true
-    → plan_with ops deletes completed (set seats (k - 1) new) next ≡ with_seat (plan_with ops deletes completed seats next) k (seat_of_code new)
-seat_put ops deletes completed seats next k new e = let (c, there) = seat_there seats k e in plan-seat ops deletes completed seats next k c new there
+seen_reader : (o : Option Slot) → is_some (told_in reader_in o) ≡ true → (c : CodeReader) × (o ≡ Some (slots.Reader c))
+seen_reader None e = absurd (true≢false (sym e))
+seen_reader (Some (slots.Ticket c)) e = absurd (true≢false (sym e))
+seen_reader (Some (slots.Reader q)) e = (q, refl)
+
+pub reader_there : (seats : List Slot) (k : ℕ) → is_some (fin.get (readers_with seats) k) ≡ true → (c : CodeReader) × (seat_at seats k ≡ Some (slots.Reader c))
+reader_there seats k e = seen_reader (seat_at seats k) (sym (ap is_some (get-readers seats k)) ∙ e)
+
+pub reader_within : (seats : List Slot) (k : ℕ) → is_some (fin.get (readers_with seats) k) ≡ true → (1 ≤ k) × (k - 1 < length seats)
+reader_within seats k e = let (c, there) = reader_there seats k e in seat_at_within seats k (slots.Reader c) there
+
+module _ (ops : List (ℕ × Op)) (deletes : List (ℕ × Deletion)) (completed : List ℕ) (seats : List Slot) (next : ℕ) (restores : List (ℕ × RestorePlan)) (k : ℕ) where
+  pub seat_put : (new : CodeSeat) → is_some (fin.get (seats_with seats) k) ≡ true
+      → plan_with ops deletes completed (set seats (k - 1) (slots.Ticket new)) next restores ≡ with_seat (plan_with ops deletes completed seats next restores) k (seat_of_code new)
+  seat_put new e = let (c, there) = seat_there seats k e in plan-seat ops deletes completed seats next restores k c new there
+
+  pub reader_put : (new : CodeReader) → is_some (fin.get (readers_with seats) k) ≡ true
+      → plan_with ops deletes completed (set seats (k - 1) (slots.Reader new)) next restores ≡ with_reader (plan_with ops deletes completed seats next restores) k (reader_of_code new)
+  reader_put new e = let (c, there) = reader_there seats k e in plan-reader ops deletes completed seats next restores k c new there
 
 -- ---- an op
 
@@ -50,10 +71,10 @@ has_op_is ops o None e = sym (ap is_some (missed_op ops o (sym e)))
 has_op_is [] o (Some i) e = absurd (none_some i (sym e))
 has_op_is (x ∷ ops) o (Some i) e = sym (ap is_some (get_from (x ∷ ops) o ∙ (position_found (x ∷ ops) o i x (sym e)).found))
 
-module _ (g : Op → Op) (deletes : List (ℕ × Deletion)) (completed : List ℕ) (seats : List CodeSeat) (next o : ℕ) where
+module _ (g : Op → Op) (deletes : List (ℕ × Deletion)) (completed : List ℕ) (seats : List Slot) (next : ℕ) (restores : List (ℕ × RestorePlan)) (o : ℕ) where
   pub op_missed : (ops : List (ℕ × Op)) → position (λ e. eqb e.0 o) ops ≡ None
-      → plan_with ops deletes completed seats next ≡ op_changed g (plan_with ops deletes completed seats next) o (fin.get (fin.from_entries {R = nat_cmp} ops) o)
-  op_missed ops e = sym (ap (op_changed g (plan_with ops deletes completed seats next) o) (get_from ops o ∙ position_missed ops o e))
+      → plan_with ops deletes completed seats next restores ≡ op_changed g (plan_with ops deletes completed seats next restores) o (fin.get (fin.from_entries {R = nat_cmp} ops) o)
+  op_missed ops e = sym (ap (op_changed g (plan_with ops deletes completed seats next restores) o) (get_from ops o ∙ position_missed ops o e))
 
   module _ (ops : List (ℕ × Op)) (i : ℕ) (x new : ℕ × Op) (found : position (λ e. eqb e.0 o) ops ≡ Some i) (x_is : x ≡ get_or ops i x) (new_is : new ≡ (x.0, g x.1)) where
     at : FirstAt ops o i
@@ -65,39 +86,144 @@ module _ (g : Op → Op) (deletes : List (ℕ × Deletion)) (completed : List �
     put_is : new ≡ (o, g at.e.1)
     put_is = new_is ∙ (λ j. ((same j).0, g (same j).1)) ∙ (λ j. (at.key j, g at.e.1))
 
-    pub op_put : plan_with (set ops i new) deletes completed seats next ≡ op_changed g (plan_with ops deletes completed seats next) o (fin.get (fin.from_entries {R = nat_cmp} ops) o)
+    pub op_put : plan_with (set ops i new) deletes completed seats next restores ≡ op_changed g (plan_with ops deletes completed seats next restores) o (fin.get (fin.from_entries {R = nat_cmp} ops) o)
     op_put =
         let map_is : fin.from_entries {R = nat_cmp} (set ops i new) ≡ fin.insert (fin.from_entries {R = nat_cmp} ops) o (g at.e.1) = ap (λ v. fin.from_entries {R = nat_cmp} (set ops i v)) put_is ∙ from_set ops o i (g at.e.1) at in
         let there : fin.get (fin.from_entries {R = nat_cmp} ops) o ≡ Some at.e.1 = get_from ops o ∙ at.found in
-        (λ j. record (plan_with ops deletes completed seats next) { ops = map_is j }) ∙ sym (ap (op_changed g (plan_with ops deletes completed seats next) o) there)
+        (λ j. record (plan_with ops deletes completed seats next restores) { ops = map_is j }) ∙ sym (ap (op_changed g (plan_with ops deletes completed seats next restores) o) there)
 
     pub op_put_numbers : numbers_of (set ops i new) ≡ numbers_of ops
     op_put_numbers = ap (λ v. numbers_of (set ops i v)) put_is ∙ numbers-set ops o i (g at.e.1) at
 
-    pub op_put_keeps : IsProgress ops deletes next → IsProgress (set ops i new) deletes next
+    pub op_put_keeps : IsProgress ops deletes next restores → IsProgress (set ops i new) deletes next restores
     op_put_keeps h = record {
       ops_numbered = subst (λ ns. AreNumbers ns next) (sym op_put_numbers) h.ops_numbered;
       deletes_numbered = h.deletes_numbered;
+      restores_numbered = h.restores_numbered;
       apart = λ n m. h.apart n (subst (λ (ns : List ℕ). Has ns n) op_put_numbers m);
       first = h.first;
       most = h.most;
     }
 
 module _ (ops : List (ℕ × Op)) (deletes : List (ℕ × Deletion)) (o : ℕ) where
-  pub left_keeps : (next : ℕ) → IsProgress ops deletes next → IsProgress (filter (λ e. not (eqb e.0 o)) ops) (filter (λ e. not (eqb e.0 o)) deletes) next
-  left_keeps next h = record {
+  pub left_keeps : (next : ℕ) (restores : List (ℕ × RestorePlan)) → IsProgress ops deletes next restores → IsProgress (filter (λ e. not (eqb e.0 o)) ops) (filter (λ e. not (eqb e.0 o)) deletes) next restores
+  left_keeps next restores h = record {
     ops_numbered = numbers-filter (λ e. not (eqb e.0 o)) ops next h.ops_numbered;
     deletes_numbered = numbers-filter (λ e. not (eqb e.0 o)) deletes next h.deletes_numbered;
+    restores_numbered = h.restores_numbered;
     apart = λ n a b. h.apart n (kept_number (λ e. not (eqb e.0 o)) ops n a) (kept_number (λ e. not (eqb e.0 o)) deletes n b);
     first = h.first;
     most = h.most;
   }
 
-  pub left_is : (completed : List ℕ) (seats : List CodeSeat) (next : ℕ)
-      → plan_with (filter (λ e. not (eqb e.0 o)) ops) (filter (λ e. not (eqb e.0 o)) deletes) completed seats next ≡ without_op (plan_with ops deletes completed seats next) o
-  left_is completed seats next = λ j. record (plan_with ops deletes completed seats next) { ops = from_filter ops o j; deletes = from_filter deletes o j }
+  pub left_is : (completed : List ℕ) (seats : List Slot) (next : ℕ) (restores : List (ℕ × RestorePlan))
+      → plan_with (filter (λ e. not (eqb e.0 o)) ops) (filter (λ e. not (eqb e.0 o)) deletes) completed seats next restores ≡ without_op (plan_with ops deletes completed seats next restores) o
+  left_is completed seats next restores = λ j. record (plan_with ops deletes completed seats next restores) { ops = from_filter ops o j; deletes = from_filter deletes o j }
+
+-- ---- a restore
+
+pub missed_restore : (restores : List (ℕ × RestorePlan)) (o : ℕ) → position (λ e. eqb e.0 o) restores ≡ None → fin.get (fin.from_entries {R = nat_cmp} restores) o ≡ None
+missed_restore restores o e = get_from restores o ∙ position_missed restores o e
+
+pub found_restore : (restores : List (ℕ × RestorePlan)) (o i : ℕ) (x : ℕ × RestorePlan) → position (λ e. eqb e.0 o) restores ≡ Some i → x ≡ get_or restores i x → fin.get (fin.from_entries {R = nat_cmp} restores) o ≡ Some x.1
+found_restore restores o i x found is =
+    let at = position_found restores o i x found in
+    get_from restores o ∙ at.found ∙ ap (λ (e : ℕ × RestorePlan). Some e.1) (sym (is ∙ get_or_from_slice_get restores i at.e x at.there))
+
+pub has_restore_is : (restores : List (ℕ × RestorePlan)) (o : ℕ) (i : Option ℕ) → i ≡ position (λ e. eqb e.0 o) restores → is_some i ≡ is_some (fin.get (fin.from_entries {R = nat_cmp} restores) o)
+has_restore_is restores o None e = sym (ap is_some (missed_restore restores o (sym e)))
+has_restore_is [] o (Some i) e = absurd (none_some i (sym e))
+has_restore_is (x ∷ restores) o (Some i) e = sym (ap is_some (get_from (x ∷ restores) o ∙ (position_found (x ∷ restores) o i x (sym e)).found))
+
+module _ (g : RestorePlan → RestorePlan) (ops : List (ℕ × Op)) (deletes : List (ℕ × Deletion)) (completed : List ℕ) (seats : List Slot) (next o : ℕ) where
+  pub restore_missed : (restores : List (ℕ × RestorePlan)) → position (λ e. eqb e.0 o) restores ≡ None
+      → plan_with ops deletes completed seats next restores ≡ restore_changed g (plan_with ops deletes completed seats next restores) o (fin.get (fin.from_entries {R = nat_cmp} restores) o)
+  restore_missed restores e = sym (ap (restore_changed g (plan_with ops deletes completed seats next restores) o) (missed_restore restores o e))
+
+  module _ (restores : List (ℕ × RestorePlan)) (i : ℕ) (x new : ℕ × RestorePlan) (found : position (λ e. eqb e.0 o) restores ≡ Some i) (x_is : x ≡ get_or restores i x) (new_is : new ≡ (x.0, g x.1)) where
+    restore_at : FirstAt restores o i
+    restore_at = position_found restores o i x found
+
+    same_restore : x ≡ restore_at.e
+    same_restore = x_is ∙ get_or_from_slice_get restores i restore_at.e x restore_at.there
+
+    restore_is : new ≡ (o, g restore_at.e.1)
+    restore_is = new_is ∙ (λ j. ((same_restore j).0, g (same_restore j).1)) ∙ (λ j. (restore_at.key j, g restore_at.e.1))
+
+    pub restore_put : plan_with ops deletes completed seats next (set restores i new) ≡ restore_changed g (plan_with ops deletes completed seats next restores) o (fin.get (fin.from_entries {R = nat_cmp} restores) o)
+    restore_put =
+        let map_is : fin.from_entries {R = nat_cmp} (set restores i new) ≡ fin.insert (fin.from_entries {R = nat_cmp} restores) o (g restore_at.e.1) =
+        ap (λ v. fin.from_entries {R = nat_cmp} (set restores i v)) restore_is ∙ from_set restores o i (g restore_at.e.1) restore_at in
+        let there : fin.get (fin.from_entries {R = nat_cmp} restores) o ≡ Some restore_at.e.1 = get_from restores o ∙ restore_at.found in
+        (λ j. record (plan_with ops deletes completed seats next restores) { restores = map_is j }) ∙ sym (ap (restore_changed g (plan_with ops deletes completed seats next restores) o) there)
+
+    restore_put_numbers : numbers_of (set restores i new) ≡ numbers_of restores
+    restore_put_numbers = ap (λ v. numbers_of (set restores i v)) restore_is ∙ numbers-set restores o i (g restore_at.e.1) restore_at
+
+    pub restore_put_keeps : IsProgress ops deletes next restores → IsProgress ops deletes next (set restores i new)
+    restore_put_keeps h = record { ops_numbered = h.ops_numbered; deletes_numbered = h.deletes_numbered; restores_numbered = subst (λ ns. AreNumbers ns next) (sym restore_put_numbers) h.restores_numbered; apart = h.apart; first = h.first; most = h.most }
+
+module _ (ops : List (ℕ × Op)) (deletes : List (ℕ × Deletion)) (completed : List ℕ) (seats : List Slot) (next : ℕ) (restores : List (ℕ × RestorePlan)) (o : ℕ) where
+  pub restore_left_keeps : IsProgress ops deletes next restores → IsProgress ops deletes next (filter (λ e. not (eqb e.0 o)) restores)
+  restore_left_keeps h = record { ops_numbered = h.ops_numbered; deletes_numbered = h.deletes_numbered; restores_numbered = numbers-filter (λ e. not (eqb e.0 o)) restores next h.restores_numbered; apart = h.apart; first = h.first; most = h.most }
+
+  pub restore_none : position (λ e. eqb e.0 o) restores ≡ None
+      → plan_with ops deletes completed seats next restores ≡ restore_kept (plan_with ops deletes completed seats next restores) o (fin.get (fin.from_entries {R = nat_cmp} restores) o)
+  restore_none e = sym (ap (restore_kept (plan_with ops deletes completed seats next restores) o) (missed_restore restores o e))
+
+  pub restore_stays : (i : ℕ) (x : ℕ × RestorePlan) → position (λ e. eqb e.0 o) restores ≡ Some i → x ≡ get_or restores i x → list_any is_waiting x.1.shards ≡ true
+      → plan_with ops deletes completed seats next restores ≡ restore_kept (plan_with ops deletes completed seats next restores) o (fin.get (fin.from_entries {R = nat_cmp} restores) o)
+  restore_stays i x found is waits =
+      sym (ap (restore_kept (plan_with ops deletes completed seats next restores) o) (found_restore restores o i x found is)
+      ∙ (λ j. record (plan_with ops deletes completed seats next restores) { restores = cond (waits j) (fin.from_entries restores) (fin.remove (fin.from_entries restores) o) }))
+
+  pub restore_leaves : (i : ℕ) (x : ℕ × RestorePlan) → position (λ e. eqb e.0 o) restores ≡ Some i → x ≡ get_or restores i x → list_any is_waiting x.1.shards ≡ false
+      → plan_with ops deletes completed seats next (filter (λ e. not (eqb e.0 o)) restores) ≡ restore_kept (plan_with ops deletes completed seats next restores) o (fin.get (fin.from_entries {R = nat_cmp} restores) o)
+  restore_leaves i x found is over =
+      (λ j. record (plan_with ops deletes completed seats next restores) { restores = from_filter restores o j })
+      ∙ sym (ap (restore_kept (plan_with ops deletes completed seats next restores) o) (found_restore restores o i x found is)
+      ∙ (λ j. record (plan_with ops deletes completed seats next restores) { restores = cond (over j) (fin.from_entries restores) (fin.remove (fin.from_entries restores) o) }))
 
 -- ---- what each report changes
+
+pub is_there_by : (b : Bool) → not b ≡ false → b ≡ true
+is_there_by true e = refl
+is_there_by false e = absurd (true≢false e)
+
+remove_put : {A : Type 0} (m : fin.FinMap nat_cmp A) (k : ℕ) (v : A) → fin.remove (fin.insert m k v) k ≡ fin.remove m k
+remove_put {A} m k v = same_maps _ _ (λ q. get_left (fin.insert m k v) k q ∙ ap (cond (eqb q k) None) (get_put m k v q) ∙ past (eqb q k) q ∙ sym (get_left m k q))
+  where
+    past : (b : Bool) (q : ℕ) → cond b None (cond b (Some v) (fin.get m q)) ≡ cond b None (fin.get m q)
+    past true q = refl
+    past false q = refl
+
+put_or_left : (m : fin.FinMap nat_cmp RestorePlan) (o : ℕ) (r : RestorePlan) (b : Bool) → cond b (fin.insert m o r) (fin.remove (fin.insert m o r) o) ≡ cond b (fin.insert m o r) (fin.remove m o)
+put_or_left m o r true = refl
+put_or_left m o r false = remove_put m o r
+
+abbrev between : Plan → ℕ → ReaderSeat → Option RestorePlan → Plan
+between p k s o = restore_changed (restore_over k) (with_reader p k (reader_ended s)) s.op o
+
+-- the reader ends, what it has is over, and the restore leaves where that was its last shard
+pub read_put : (p q t new : Plan) (k : ℕ) (s : ReaderSeat) → is_some (fin.get p.restores s.op) ≡ true → q ≡ with_reader p k (reader_ended s) → t ≡ restore_changed (restore_over k) q s.op (fin.get q.restores s.op)
+    → new ≡ restore_kept t s.op (fin.get t.restores s.op) → new ≡ read_by p k s (fin.get p.restores s.op)
+read_put p q t new k s there q_is t_is new_is =
+    new_is
+    ∙ ap (λ (z : Plan). restore_kept z s.op (fin.get z.restores s.op)) (t_is ∙ ap (λ (z : Plan). restore_changed (restore_over k) z s.op (fin.get z.restores s.op)) q_is)
+    ∙ go (fin.get p.restores s.op) there
+  where
+    go : (o : Option RestorePlan) → is_some o ≡ true → restore_kept (between p k s o) s.op (fin.get (between p k s o).restores s.op) ≡ read_by p k s o
+    go None e = absurd (true≢false (sym e))
+    go (Some r) e =
+        ap (restore_kept (between p k s (Some r)) s.op) (get_put p.restores s.op (restore_over k r) s.op ∙ ap (λ b. cond b (Some (restore_over k r)) (fin.get p.restores s.op)) (eq-eqb s.op s.op refl))
+        ∙ (λ j. record p { restores = put_or_left p.restores s.op (restore_over k r) (list_any is_waiting (restore_over k r).shards) j; readers = fin.insert p.readers k (reader_ended s) })
+
+pub read_missed : (p : Plan) (k : ℕ) (s : ReaderSeat) → is_some (fin.get p.restores s.op) ≡ false → p ≡ read_by p k s (fin.get p.restores s.op)
+read_missed p k s none = go (fin.get p.restores s.op) none
+  where
+    go : (o : Option RestorePlan) → is_some o ≡ false → p ≡ read_by p k s o
+    go None e = refl
+    go (Some r) e = absurd (true≢false e)
 
 pub failed_put : (p q new : Plan) (k : ℕ) (s : Seat) → is_some (fin.get p.ops s.op) ≡ true → q ≡ with_seat p k (seat_ended s) → new ≡ op_changed (op_failed k) q s.op (fin.get q.ops s.op) → new ≡ failed_by p k s (fin.get p.ops s.op)
 failed_put p q new k s there q_is new_is = new_is ∙ ap (λ (r : Plan). op_changed (op_failed k) r s.op (fin.get r.ops s.op)) q_is ∙ go (fin.get p.ops s.op) there

@@ -14,7 +14,7 @@ use Rattle.esr_core.specs.Allowed.{StandsBefore}
 use Rattle.esr_core.specs.After.{shard_of}
 use Rattle.esr_progress.specs.declared.ready.Kind.{Kind}
 use Rattle.esr_progress.specs.declared.ready.Kind.TheVariants as ready
-use Rattle.esr_progress.specs.declared.unit.Seat.{Seat as CodeSeat}
+use Rattle.esr_progress.specs.declared.unit.Slot.{Slot}
 use Rattle.esr_progress.specs.Shards.{is_pending, waits, waits_for, is_shard}
 use Rattle.esr_progress.specs.Ops.{has_stopped, is_free}
 use Rattle.esr_progress.specs.Inside.{numbers_of, Rise}
@@ -25,7 +25,7 @@ use Rattle.esr_progress.proofs.Numbers.{found_member}
 
 -- ---- the search
 
-module _ (ops : List (ℕ × Op)) (completed : List ℕ) (seats : List CodeSeat) (term : ℕ) where
+module _ (ops : List (ℕ × Op)) (completed : List ℕ) (seats : List Slot) (term : ℕ) where
   pub ready_here : (at : ℕ) (e : ℕ × Op) (kind : Kind) → at < length ops → e ≡ get_or ops at e → ready_of ops completed seats term (take at ops) e ≡ Some kind → NoneBefore ops completed seats term at
       → IsReadyAt ops completed seats term at kind
   ready_here at e kind lt is found before = record { e = e; there = slice_get_read ops (length ops) at e refl lt is; is = found; before = before }
@@ -290,7 +290,7 @@ picked_so false out (Some i) final = (refl, refl)
 picked_so false out None true = (refl, refl, refl)
 picked_so false out None false = inr (refl, refl, refl)
 
-pub picked : (ops : List (ℕ × Op)) (completed : List ℕ) (seats : List CodeSeat) (term : ℕ) (before : List (ℕ × Op)) (e : ℕ × Op) (kind : Option Kind) → ready_of ops completed seats term before e ≡ kind
+pub picked : (ops : List (ℕ × Op)) (completed : List ℕ) (seats : List Slot) (term : ℕ) (before : List (ℕ × Op)) (e : ℕ × Op) (kind : Option Kind) → ready_of ops completed seats term before e ≡ kind
     → WasPicked kind (has_stopped e.1) (is_out_of seats term e.0) (position (is_free before) e.1.shards) (is_final ops completed seats term e)
 picked ops completed seats term before e kind is =
     subst (λ (k : Option Kind). WasPicked k (has_stopped e.1) (is_out_of seats term e.0) (position (is_free before) e.1.shards) (is_final ops completed seats term e)) is
@@ -311,7 +311,7 @@ shard_found index number (x ∷ xs) (suc i) s there id n other =
     let not_this : ((x.ref.id == index) && (x.number == number)) ≡ false = is_false _ (λ e. let (a, b) = and_true _ _ e in other x (inl refl) (eqb_is _ _ a) (eqb_is _ _ b)) in
     ap (λ c. cond c (Some x) (shard_of xs index number)) not_this ∙ shard_found index number xs i s there id n (λ z m. other z (inr m))
 
-pub stands_taken : (xs : List ShardWork) (i : ℕ) (z s : ShardWork) → slice_get xs i ≡ Some s → StandsBefore xs z s → Has (take i xs) z
+pub stands_taken : {A : Type 0} (xs : List A) (i : ℕ) (z s : A) → slice_get xs i ≡ Some s → StandsBefore xs z s → Has (take i xs) z
 stands_taken [] i z s there h = absurd h
 stands_taken (x ∷ xs) zero z s there (ne, h) = absurd (ne (some_same x s there))
 stands_taken (x ∷ xs) (suc i) z s there (ne, inl h) = inl h.0
@@ -322,7 +322,7 @@ pub free_alike : (before : List (ℕ × Op)) (a b : ShardWork) → a.ref.id ≡ 
 free_alike before a b id number state = λ i. is_pending (state i) && not (list_any (λ (e : ℕ × Op). list_any (waits_for (id i) (number i)) e.1.shards) before)
 
 -- an op can give the unit that is found
-pub possible : (ops : List (ℕ × Op)) (completed : List ℕ) (seats : List CodeSeat) (term : ℕ) (before : List (ℕ × Op)) (e : ℕ × Op) (kind : Kind) → ready_of ops completed seats term before e ≡ Some kind → IsPossible e.1 kind
+pub possible : (ops : List (ℕ × Op)) (completed : List ℕ) (seats : List Slot) (term : ℕ) (before : List (ℕ × Op)) (e : ℕ × Op) (kind : Kind) → ready_of ops completed seats term before e ≡ Some kind → IsPossible e.1 kind
 possible ops completed seats term before e (ready.Shard i) is = (place_within (is_free before) e.1.shards i (picked ops completed seats term before e (Some (ready.Shard i)) is).1).0
 possible ops completed seats term before e ready.Finalize is = (and_true _ _ (picked ops completed seats term before e (Some ready.Finalize) is).2).0
 possible ops completed seats term before e ready.Drop is = tt
@@ -330,18 +330,18 @@ possible ops completed seats term before e ready.Drop is = tt
 -- ---- the same, of equal lists
 
 module _ (ops here : List (ℕ × Op)) (same : here ≡ ops) where
-  pub none_in : (completed done : List ℕ) → done ≡ completed → (seats sat : List CodeSeat) → sat ≡ seats → (term : ℕ) → NoneBefore here done sat term (length here) → NoneBefore ops completed seats term (length ops)
+  pub none_in : (completed done : List ℕ) → done ≡ completed → (seats sat : List Slot) → sat ≡ seats → (term : ℕ) → NoneBefore here done sat term (length here) → NoneBefore ops completed seats term (length ops)
   none_in completed done d seats sat s term h =
       subst (λ (es : List (ℕ × Op)). NoneBefore es completed seats term (length es)) same
-      (subst (λ (ns : List ℕ). NoneBefore here ns seats term (length here)) d (subst (λ (cs : List CodeSeat). NoneBefore here done cs term (length here)) s h))
+      (subst (λ (ns : List ℕ). NoneBefore here ns seats term (length here)) d (subst (λ (cs : List Slot). NoneBefore here done cs term (length here)) s h))
 
-  pub ready_in : (completed done : List ℕ) → done ≡ completed → (seats sat : List CodeSeat) → sat ≡ seats → (term at : ℕ) (kind : Kind) → IsReadyAt here done sat term at kind → IsReadyAt ops completed seats term at kind
+  pub ready_in : (completed done : List ℕ) → done ≡ completed → (seats sat : List Slot) → sat ≡ seats → (term at : ℕ) (kind : Kind) → IsReadyAt here done sat term at kind → IsReadyAt ops completed seats term at kind
   ready_in completed done d seats sat s term at kind h =
       subst (λ (es : List (ℕ × Op)). IsReadyAt es completed seats term at kind) same
-      (subst (λ (ns : List ℕ). IsReadyAt here ns seats term at kind) d (subst (λ (cs : List CodeSeat). IsReadyAt here done cs term at kind) s h))
+      (subst (λ (ns : List ℕ). IsReadyAt here ns seats term at kind) d (subst (λ (cs : List Slot). IsReadyAt here done cs term at kind) s h))
 
 -- the op at the place, read
-module _ (ops here : List (ℕ × Op)) (same : here ≡ ops) (completed : List ℕ) (seats : List CodeSeat) (term at : ℕ) (kind : Kind) (r : IsReadyAt here completed seats term at kind) (e : ℕ × Op) (is : e ≡ get_or ops at e) where
+module _ (ops here : List (ℕ × Op)) (same : here ≡ ops) (completed : List ℕ) (seats : List Slot) (term at : ℕ) (kind : Kind) (r : IsReadyAt here completed seats term at kind) (e : ℕ × Op) (is : e ≡ get_or ops at e) where
   pub read_there : slice_get ops at ≡ Some e
   read_there =
       let there : slice_get ops at ≡ Some r.e = ap (λ es. slice_get es at) (sym same) ∙ r.there in

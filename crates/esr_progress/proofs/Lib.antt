@@ -2,6 +2,7 @@ pub mod Lists
 pub mod Searches
 pub mod Results
 pub mod OpenOps
+pub mod OpenRestores
 pub mod Entries
 pub mod Numbers
 pub mod SeatMaps
@@ -14,7 +15,11 @@ pub mod Drawn
 pub mod Accepts
 pub mod Changing
 pub mod Reporting
+pub mod Reading
 pub mod Recorded
 pub mod Takes
 pub mod Choices
 pub mod NextUnits
+pub mod Unread
+pub mod Restorables
+pub mod Lowest

@@ -10,12 +10,12 @@ use Rattle.esr_names.specs.declared.blob.ShardId.{ShardId}
 use Rattle.esr_model.specs.Values.{Bytes, Has, RootData, ShardResult, Formats}
 use Rattle.esr_core.specs.Entry.{GivenShard}
 use Rattle.esr_model.specs.Image.{Generation}
-use Rattle.esr_core.specs.World.{World, Op, Deletion, ShardState, Pending, ShardWork, Ticket, Work, Shard, Finalize, Deleting, Drop, AllDone, info_of}
-use Rattle.esr_core.specs.Ready.{Barrier, Goes, Stopped, Waits, Before, IsMaster, IsShard, SwapIsOut, UnitIsOut, ReadyShard, ReadyFinalize, ReadyDrop, ReadyDelete, ReadyCleanup, AnyReady, AShard, AFinalize, ADrop, ADelete, ACleanup}
-use Rattle.esr_core.specs.Steps.{all_done, given, Largest, final_ticket, shard_ticket}
+use Rattle.esr_core.specs.World.{World, Op, Deletion, ShardState, Pending, Out, Done, GivenUp, ShardWork, Ticket, Work, Shard, Finalize, Deleting, Drop, AllDone, info_of}
+use Rattle.esr_core.specs.Ready.{Barrier, Goes, Stopped, Waits, Before, IsMaster, IsShard, SwapIsOut, UnitIsOut, ReadyShard, ReadyFinalize, ReadyDrop, ReadyDelete, ReadyCleanup, ReadyRestore}
+use Rattle.esr_core.specs.Steps.{all_done, is_done, given, Largest, final_ticket, shard_ticket}
 use Rattle.esr_core.specs.Turns.{plain_ticket}
 use Rattle.esr_core.specs.Generations.{IsLive, DoneAt}
-use Rattle.esr_core.specs.Allowed.{HasReady, StandsBefore, GivesShard}
+use Rattle.esr_core.specs.Allowed.{StandsBefore, GivesShard}
 use Rattle.esr_core.specs.After.{shard_of, taken_by, taken_shard}
 use Rattle.esr_formats.specs.Ids.{number_of}
 use Rattle.esr_formats.specs.Infos.{info_of_code}
@@ -25,17 +25,19 @@ use Rattle.esr_results.specs.Results.{result_of}
 use Rattle.esr_progress.specs.declared.ready.Kind.{Kind}
 use Rattle.esr_progress.specs.declared.ready.Kind.TheVariants as ready
 use Rattle.esr_progress.specs.declared.unit.Seat.{Seat as CodeSeat}
+use Rattle.esr_progress.specs.declared.unit.Slot.{Slot}
+use Rattle.esr_progress.specs.declared.unit.Slot.TheVariants as slots
 use Rattle.esr_progress.specs.declared.unit.SeatKind.{SeatKind}
 use Rattle.esr_progress.specs.declared.unit.SeatKind.TheVariants as kinds
 use Rattle.esr_progress.specs.declared.unit.Work.{Work as CodeWork}
 use Rattle.esr_progress.specs.declared.unit.Work.TheVariants as works
 use Rattle.esr_progress.specs.declared.unit.Copied.{Copied}
 use Rattle.esr_progress.specs.declared.unit.ReadyUnit.{ReadyUnit}
-use Rattle.esr_progress.specs.Plan.{Plan, Seat, UnitKind, OfShard, OfFinalize, OfDelete, OfDrop, kind_of, seat_of, seat_of_code, IsPlanOf, IsGivenIn}
-use Rattle.esr_progress.specs.Seats.{seat_at, is_swap_out, is_unit_out, is_master, is_of_shard}
+use Rattle.esr_progress.specs.Plan.{Plan, Seat, UnitKind, OfShard, OfFinalize, OfDelete, OfDrop, kind_of, seat_of, seat_of_code, RestorePlan, IsPlanOf, IsGivenIn}
+use Rattle.esr_progress.specs.Seats.{seat_at, seat_in, told_in, holds, is_swap_out, is_unit_out, is_master, is_of_shard}
 use Rattle.esr_progress.specs.Ops.{has_stopped, is_free, IsDoneAt, Among, IsMost, IsShardWork, IsFinalWork}
 use Rattle.esr_progress.specs.Inside.{plan_with, seats_with, numbers_of, Rise, IsProgress}
-use Rattle.esr_progress.specs.Units.{given_by, given_of, IsCopyOf, ShardGiven, GivesWork, GivesUnit, NextUnit}
+use Rattle.esr_progress.specs.Units.{given_by, given_of, IsCopyOf, ShardGiven, GivesWork, HasOpReady, GivesLowest, LowestUnit, IsLowest}
 use Rattle.esr_progress.specs.Choice.{is_earliest, is_out_of, is_swapping, is_final, ready_of, NoneBefore, IsReadyAt, IsFirstReady, IsPossible, IsWorkFor, IsSeatOf, IsSeatFor, IsLiveIn, IsBaseFor, given_entry, AreShards}
 use Rattle.esr_progress.proofs.Lists.{Has-at, position-None, some_same, none_some}
 use Rattle.esr_progress.proofs.Entries.{FirstAt, first_at, from_set, get_from, find-member, eqb_is}
@@ -72,13 +74,32 @@ kind_master (Finalize info results made) e = tt
 kind_master (Deleting uuids plan) e = tt
 kind_master Drop e = true≢false (sym e)
 
+-- the results of shards that are done
+some_results : (shards : List ShardWork) → all_done shards ≡ true → (results : List ShardResult) × AllDone shards results
+some_results [] e = ([], tt)
+some_results (s ∷ shards) e =
+    let (here, rest) = and_true _ _ e in
+    let (r, is) = done_by s.state here in
+    let (results, all) = some_results shards rest in
+    (r ∷ results, (is, all))
+  where
+    done_by : (st : ShardState) → is_done st ≡ true → (r : ShardResult) × (st ≡ Done r)
+    done_by Pending e = absurd (true≢false (sym e))
+    done_by (Out k) e = absurd (true≢false (sym e))
+    done_by (Done r) e = (r, refl)
+    done_by GivenUp e = absurd (true≢false (sym e))
+
 -- ---- seats by their tickets
 
-coded : (o : Option CodeSeat) (s : Seat) → option_map seat_of_code o ≡ Some s → (c : CodeSeat) × (o ≡ Some c) × (seat_of_code c ≡ s)
+coded : (o : Option Slot) (s : Seat) → told_in seat_in o ≡ Some s → (c : Slot) × (o ≡ Some c) × (seat_in c ≡ Some s)
 coded None s e = absurd (none_some s e)
-coded (Some c) s e = (c, refl, some_same (seat_of_code c) s e)
+coded (Some c) s e = (c, refl, e)
 
-seat_member : (seats : List CodeSeat) (k : ℕ) (c : CodeSeat) → seat_at seats k ≡ Some c → Has seats c
+held : (p : Seat → Bool) (o : Option Seat) → holds p o ≡ true → (s : Seat) × (o ≡ Some s) × (p s ≡ true)
+held p None e = absurd (true≢false (sym e))
+held p (Some s) e = (s, refl, e)
+
+pub seat_member : (seats : List Slot) (k : ℕ) (c : Slot) → seat_at seats k ≡ Some c → Has seats c
 seat_member seats zero c e = absurd (none_some c e)
 seat_member seats (suc k) c e = Has-at seats k c e
 
@@ -92,10 +113,10 @@ has_taken (y ∷ xs) zero j x lt e = absurd (omega arith)
 has_taken (y ∷ xs) (suc i) zero x lt e = inl (some_same y x e)
 has_taken (y ∷ xs) (suc i) (suc j) x lt e = inr (has_taken xs i j x (omega arith) e)
 
-pub entry_at : (ops : List (ℕ × Op)) → Rise (numbers_of ops) → (at : ℕ) (e : ℕ × Op) → slice_get ops at ≡ Some e → FirstAt ops e.0 at
-entry_at ops rise at e there =
+pub entry_at : {A : Type 0} (ops : List (ℕ × A)) → Rise (numbers_of ops) → (at : ℕ) (e : ℕ × A) → slice_get ops at ≡ Some e → FirstAt ops e.0 at
+entry_at {A} ops rise at e there =
     let lt : at < length ops = slice_get_within ops at e there in
-    first_at ops e.0 at e lt (ap (λ (x : ℕ × Op). x.0) (get_or_from_slice_get ops at e e there))
+    first_at ops e.0 at e lt (ap (λ (x : ℕ × A). x.0) (get_or_from_slice_get ops at e e there))
     (λ j below same. let less = number_below ops rise at e there (get_or ops j e) (has_taken ops at j (get_or ops j e) below (slice_get-get_or ops j e (omega arith))) in absurd (omega (arith, less, same)))
 
 -- the numbers stay where a shard is given
@@ -104,15 +125,15 @@ given_numbers ops rise at e there (kinds.Shard shard) ticket = numbers-set ops e
 given_numbers ops rise at e there kinds.Finalize ticket = numbers-set ops e.0 at e.1 (entry_at ops rise at e there)
 given_numbers ops rise at e there kinds.Drop ticket = numbers-set ops e.0 at e.1 (entry_at ops rise at e there)
 
-pub same_numbers : (ops here : List (ℕ × Op)) → here ≡ ops → (deletes : List (ℕ × Deletion)) (completed : List ℕ) (seats : List CodeSeat) (next : ℕ) (now : Plan) → plan_with ops deletes completed seats next ≡ now → IsProgress ops deletes next
+pub same_numbers : (ops here : List (ℕ × Op)) → here ≡ ops → (deletes : List (ℕ × Deletion)) (completed : List ℕ) (seats : List Slot) (next : ℕ) (restores : List (ℕ × RestorePlan)) (now : Plan) → plan_with ops deletes completed seats next restores ≡ now → IsProgress ops deletes next restores
     → (at : ℕ) (e : ℕ × Op) → slice_get ops at ≡ Some e → (seat : SeatKind) (ticket : ℕ) (given_list : List (ℕ × Op)) → IfSome (slice_get here at) (λ (x : ℕ × Op). given_list ≡ set here at (given_entry seat ticket x))
     → numbers_of given_list ≡ numbers_of (fin.entries now.ops)
-same_numbers ops here same deletes completed seats next now view h at e there seat ticket given_list given_is =
+same_numbers ops here same deletes completed seats next restores now view h at e there seat ticket given_list given_is =
     let list_is : given_list ≡ set here at (given_entry seat ticket e) = if_some (slice_get here at) (λ (x : ℕ × Op). given_list ≡ set here at (given_entry seat ticket x)) e (ap (λ es. slice_get es at) same ∙ there) given_is in
     ap numbers_of (list_is ∙ ap (λ es. set es at (given_entry seat ticket e)) same) ∙ given_numbers ops h.ops_numbered.rise at e there seat ticket
     ∙ ap numbers_of (sym (entries_from ops h.ops_numbered.rise)) ∙ ap (λ (p : Plan). numbers_of (fin.entries p.ops)) view
 
-module _ (ops : List (ℕ × Op)) (deletes : List (ℕ × Deletion)) (completed : List ℕ) (seats : List CodeSeat) (next : ℕ) (now : Plan) (view : plan_with ops deletes completed seats next ≡ now) (h : IsProgress ops deletes next)
+module _ (ops : List (ℕ × Op)) (deletes : List (ℕ × Deletion)) (completed : List ℕ) (seats : List Slot) (next : ℕ) (restores : List (ℕ × RestorePlan)) (now : Plan) (view : plan_with ops deletes completed seats next restores ≡ now) (h : IsProgress ops deletes next restores)
     (no_delete : now.deletes ≡ fin.empty) (root : RootData) (safe term : ℕ) (w : World) (is : IsGivenIn now root safe term w) where
   rise : Rise (numbers_of ops)
   rise = h.ops_numbered.rise
@@ -131,16 +152,16 @@ module _ (ops : List (ℕ × Op)) (deletes : List (ℕ × Deletion)) (completed 
 
   -- ---- tickets that are out
 
-  seat_is : (k : ℕ) → fin.get now.seats k ≡ option_map seat_of_code (seat_at seats k)
+  seat_is : (k : ℕ) → fin.get now.seats k ≡ told_in seat_in (seat_at seats k)
   seat_is k = ap (λ (p : Plan). fin.get p.seats k) (sym view) ∙ get-seats seats k
 
-  seat_by : (k : ℕ) (t : Ticket) → fin.get w.tickets k ≡ Some t → (c : CodeSeat) × Has seats c × (seat_of_code c ≡ seat_of t)
+  seat_by : (k : ℕ) (t : Ticket) → fin.get w.tickets k ≡ Some t → (c : Slot) × Has seats c × (seat_in c ≡ Some (seat_of t))
   seat_by k t e =
       let (c, at, same) = coded (seat_at seats k) (seat_of t) (sym (seat_is k) ∙ is.plan.seats k ∙ ap (option_map seat_of) e) in
       (c, seat_member seats k c at, same)
 
-  by_seat : (c : CodeSeat) → Has seats c → (k : ℕ) × ((t : Ticket) × (fin.get w.tickets k ≡ Some t) × (seat_of t ≡ seat_of_code c))
-  by_seat c m = let (k, at) = place_of seats c m in (suc k, ticket_of w now is.plan (suc k) (seat_of_code c) (seat_is (suc k) ∙ ap (option_map seat_of_code) at))
+  by_seat : (c : Slot) (s : Seat) → seat_in c ≡ Some s → Has seats c → (k : ℕ) × ((t : Ticket) × (fin.get w.tickets k ≡ Some t) × (seat_of t ≡ s))
+  by_seat c s e m = let (k, at) = place_of seats c m in (suc k, ticket_of w now is.plan (suc k) s (seat_is (suc k) ∙ ap (told_in seat_in) at ∙ e))
 
   none_out : (o : ℕ) → is_out_of seats term o ≡ false → (k : ℕ) → UnitIsOut w.tickets w.term o k → ⊥
   none_out o e k u =
@@ -149,12 +170,13 @@ module _ (ops : List (ℕ × Op)) (deletes : List (ℕ × Deletion)) (completed 
         | inl shard ↦ or_left _ _ (shard_kind u.t.work shard)
         | inr present ↦ or_right _ _ (eq-eqb u.t.term term (present ∙ is.term_is))
       ] in
-      clash _ (any_here (λ (s : CodeSeat). is_unit_out term o (seat_of_code s)) seats c m (ap (is_unit_out term o) same ∙ both_true _ _ (both_true _ _ u.out (eq-eqb u.t.op o u.op_is)) counts)) e
+      clash _ (any_here (λ (s : Slot). holds (is_unit_out term o) (seat_in s)) seats c m (ap (holds (is_unit_out term o)) same ∙ both_true _ _ (both_true _ _ u.out (eq-eqb u.t.op o u.op_is)) counts)) e
 
   some_out : (o : ℕ) → is_out_of seats term o ≡ true → (k : ℕ) × UnitIsOut w.tickets w.term o k
   some_out o e =
-      let (c, m, test) = any_true (λ (s : CodeSeat). is_unit_out term o (seat_of_code s)) seats e in
-      let (k, found) = by_seat c m in
+      let (c, m, hold) = any_true (λ (s : Slot). holds (is_unit_out term o) (seat_in s)) seats e in
+      let (s, seat, test) = held (is_unit_out term o) (seat_in c) hold in
+      let (k, found) = by_seat c s seat m in
       let t : Ticket = found.0 in
       let tested : is_unit_out term o (seat_of t) ≡ true = ap (is_unit_out term o) found.2 ∙ test in
       let (first, counts) = and_true _ _ tested in
@@ -164,13 +186,14 @@ module _ (ops : List (ℕ × Op)) (deletes : List (ℕ × Deletion)) (completed 
   none_swapping : is_swapping seats term ≡ false → (k : ℕ) → SwapIsOut w.tickets w.term k → ⊥
   none_swapping e k u =
       let (c, m, same) = seat_by k u.t u.there in
-      clash _ (any_here (λ (s : CodeSeat). is_swap_out term (seat_of_code s)) seats c m
-      (ap (is_swap_out term) same ∙ both_true _ _ (both_true _ _ (both_true _ _ u.out (ap not u.unsettled)) (eq-eqb u.t.term term (u.present ∙ is.term_is))) (master_kind u.t.work u.swaps))) e
+      clash _ (any_here (λ (s : Slot). holds (is_swap_out term) (seat_in s)) seats c m
+      (ap (holds (is_swap_out term)) same ∙ both_true _ _ (both_true _ _ (both_true _ _ u.out (ap not u.unsettled)) (eq-eqb u.t.term term (u.present ∙ is.term_is))) (master_kind u.t.work u.swaps))) e
 
   some_swapping : is_swapping seats term ≡ true → (k : ℕ) × SwapIsOut w.tickets w.term k
   some_swapping e =
-      let (c, m, test) = any_true (λ (s : CodeSeat). is_swap_out term (seat_of_code s)) seats e in
-      let (k, found) = by_seat c m in
+      let (c, m, hold) = any_true (λ (s : Slot). holds (is_swap_out term) (seat_in s)) seats e in
+      let (s, seat, test) = held (is_swap_out term) (seat_in c) hold in
+      let (k, found) = by_seat c s seat m in
       let t : Ticket = found.0 in
       let tested : is_swap_out term (seat_of t) ≡ true = ap (is_swap_out term) found.2 ∙ test in
       let (first, swaps) = and_true _ _ tested in
@@ -226,7 +249,7 @@ module _ (ops : List (ℕ × Op)) (deletes : List (ℕ × Deletion)) (completed 
     ready_drop stopped out = record { stopped = inl (e.1, got, stopped_by e.1 stopped); idle = none_out e.0 out }
 
     -- where the search finds none, none is ready
-    none_ready : ready_of ops completed seats term (take at ops) e ≡ None → HasReady w e.0 → ⊥
+    none_ready : ready_of ops completed seats term (take at ops) e ≡ None → HasOpReady w e.0 → ⊥
     none_ready none (inl (op, s, r0)) =
         let r = subst (λ (o : Op). ReadyShard w e.0 o s) (same_op op r0.op_there) r0 in
         elim (picked ops completed seats term (take at ops) e None none) [
@@ -249,29 +272,39 @@ module _ (ops : List (ℕ × Op)) (deletes : List (ℕ × Deletion)) (completed 
     none_ready none (inr (inr (inr (x, inr r)))) = gone e.0 x r.there
 
   -- an op of which a unit is ready is in the list
-  open_of : (o : ℕ) → HasReady w o → (op : Op) × Has ops (o, op)
+  open_of : (o : ℕ) → HasOpReady w o → (op : Op) × Has ops (o, op)
   open_of o (inl (op, s, r)) = (op, find-member o ops op (sym (find_op o) ∙ r.op_there))
   open_of o (inr (inl (op, results, r))) = (op, find-member o ops op (sym (find_op o) ∙ r.op_there))
   open_of o (inr (inr (inl r))) = elim r.stopped [ inl x ↦ (x.0, find-member o ops x.0 (sym (find_op o) ∙ x.1)) | inr x ↦ absurd (gone o x.0 x.1) ]
   open_of o (inr (inr (inr (x, inl r)))) = absurd (gone o x r.there)
   open_of o (inr (inr (inr (x, inr r)))) = absurd (gone o x r.there)
 
-  lowest : (at : ℕ) (e : ℕ × Op) → slice_get ops at ≡ Some e → NoneBefore ops completed seats term at → (p : ℕ) → p < e.0 → HasReady w p → ⊥
+  lowest : (at : ℕ) (e : ℕ × Op) → slice_get ops at ≡ Some e → NoneBefore ops completed seats term at → (p : ℕ) → p < e.0 → HasOpReady w p → ⊥
   lowest at e there before p lt r =
       let (op, m) = open_of p r in
       let (k, below, here) = place_below ops at (p, op) (place_lower ops rise at e there (p, op) m lt) in
       none_ready k (p, op) here (before k (p, op) below here) r
 
-  any_of : AnyReady w → (o : ℕ) × HasReady w o
-  any_of (AShard o op s r) = (o, inl (op, s, r))
-  any_of (AFinalize o op results r) = (o, inr (inl (op, results, r)))
-  any_of (ADrop o r) = (o, inr (inr (inl r)))
-  any_of (ADelete d x r) = (d, inr (inr (inr (x, inl r))))
-  any_of (ACleanup d x r) = (d, inr (inr (inr (x, inr r))))
+  is_ready_op : (at : ℕ) (e : ℕ × Op) → slice_get ops at ≡ Some e → (kind : Kind) → ready_of ops completed seats term (take at ops) e ≡ Some kind → HasOpReady w e.0
+  is_ready_op at e there ready.Drop chosen = let (stopped, out) = picked ops completed seats term (take at ops) e (Some ready.Drop) chosen in inr (inr (inl (ready_drop at e there stopped out)))
+  is_ready_op at e there ready.Finalize chosen =
+      let (goes, free, final) = picked ops completed seats term (take at ops) e (Some ready.Finalize) chosen in
+      let (results, done) = some_results e.1.shards (and_true _ _ final).0 in
+      inr (inl (e.1, results, ready_final at e there results goes done final))
+  is_ready_op at e there (ready.Shard i) chosen =
+      let (goes, free) = picked ops completed seats term (take at ops) e (Some (ready.Shard i)) chosen in
+      let (within, here) = place_within (is_free (take at ops)) e.1.shards i free in
+      inl (e.1, here.0, ready_shard at e there here.0 goes (Has-at e.1.shards i here.0 here.1) (first_place (is_free (take at ops)) e.1.shards i here.0 free here.1).0)
 
-  pub nothing : NoneBefore ops completed seats term (length ops) → AnyReady w → ⊥
-  nothing before any =
-      let (o, r) = any_of any in
+  -- the lowest op of which a unit is ready
+  pub lowest_op : (at : ℕ) (kind : Kind) (r : IsReadyAt ops completed seats term at kind) (e : ℕ × Op) → slice_get ops at ≡ Some e → (o : ℕ) → o ≡ e.0 → IsLowest (HasOpReady w) (Some o)
+  lowest_op at kind r e there o is_number =
+      let entry : r.e ≡ e = some_same r.e e (sym r.there ∙ there) in
+      let found : ready_of ops completed seats term (take at ops) e ≡ Some kind = ap (ready_of ops completed seats term (take at ops)) (sym entry) ∙ r.is in
+      subst (λ (n : ℕ). IsLowest (HasOpReady w) (Some n)) (sym is_number) (is_ready_op at e there kind found, lowest at e there r.before)
+
+  pub nothing : NoneBefore ops completed seats term (length ops) → (o : ℕ) → HasOpReady w o → ⊥
+  nothing before o r =
       let (op, m) = open_of o r in
       let (k, here) = place_of ops (o, op) m in
       none_ready k (o, op) here (before k (o, op) (slice_get_within ops k (o, op) here) here) r
@@ -289,6 +322,9 @@ module _ (ops : List (ℕ × Op)) (deletes : List (ℕ × Deletion)) (completed 
     seats = λ k. ap (λ n. fin.get (fin.insert now.seats n s) k) is.plan.next_ticket ∙ seats_put w now is.plan w.next_ticket t s seat k;
     next_op = is.plan.next_op;
     next_ticket = ap suc is.plan.next_ticket;
+    restores = is.plan.restores;
+    restore_count = is.plan.restore_count;
+    readers = is.plan.readers;
   }
 
   ops_is : fin.from_entries {R = nat_cmp} ops ≡ w.ops
@@ -320,6 +356,7 @@ module _ (ops : List (ℕ × Op)) (deletes : List (ℕ × Deletion)) (completed 
     gives_final : (work : CodeWork) → ready_of ops completed seats term (take at ops) e ≡ Some ready.Finalize → IsFinalWork e.1 work → IsGivenBy e at ticket work kinds.Finalize copy
     gives_final (works.Shard uuid shard index place) chosen h = absurd h
     gives_final works.Drop chosen h = absurd h
+    gives_final (works.RestoreShard uuid shard index place) chosen h = absurd h
     gives_final (works.Finalize info shards) chosen h =
         let (goes, free, final) = picked ops completed seats term (take at ops) e (Some ready.Finalize) chosen in (
           (e.1, ready_final at e there (map result_of shards) goes h.0 final, h.1),
@@ -409,6 +446,7 @@ module _ (ops : List (ℕ × Op)) (deletes : List (ℕ × Deletion)) (completed 
       gives_shard : (work : CodeWork) (kind : SeatKind) → IsShardWork e.1 s work → IsSeatOf s kind → IsBaseFor root ops kind copy.base → IsGivenBy e at ticket work kind copy
       gives_shard (works.Finalize info shards) kind h seat base = absurd h
       gives_shard works.Drop kind h seat base = absurd h
+      gives_shard (works.RestoreShard uuid shard index place) kind h seat base = absurd h
       gives_shard (works.Shard uuid shard index place) kinds.Finalize h seat base = absurd seat
       gives_shard (works.Shard uuid shard index place) kinds.Drop h seat base = absurd seat
       gives_shard (works.Shard uuid shard index place) (kinds.Shard own) h seat base =
@@ -431,7 +469,7 @@ module _ (ops : List (ℕ × Op)) (deletes : List (ℕ × Deletion)) (completed 
       → (o : ℕ) → o ≡ e.0 → (work : CodeWork) (seat : SeatKind) (copy : Copied) → IsWorkFor e.1 kind work → IsSeatFor e.1 kind seat → IsBaseFor root ops seat copy.base → count_of copy.safe ≡ safe → root_of copy.root ≡ root
       → (given_list : List (ℕ × Op)) → IfSome (slice_get ops at) (λ (x : ℕ × Op). given_list ≡ set ops at (given_entry seat ticket x))
       → (new : Plan) → new ≡ record now { ops = fin.from_entries given_list; seats = fin.insert now.seats now.next_ticket (seat_of_code (seat_for seat o)); next_ticket = suc now.next_ticket }
-      → NextUnit w (Some (new, record { ticket = ticket; op = o; work = work; copy = copy }))
+      → LowestUnit (HasOpReady w) w (Some (new, record { ticket = ticket; op = o; work = work; copy = copy }))
   next_is at kind r e there rule ticket ticket_is o o_is work seat copy hw hs base safe_is root_is given_list given_is new new_is =
       let entry : r.e ≡ e = some_same r.e e (sym r.there ∙ there) in
       let found : ready_of ops completed seats term (take at ops) e ≡ Some kind = ap (ready_of ops completed seats term (take at ops)) (sym entry) ∙ r.is in
@@ -439,7 +477,7 @@ module _ (ops : List (ℕ × Op)) (deletes : List (ℕ × Deletion)) (completed 
       let list_is : given_list ≡ set ops at (given_entry seat ticket e) = if_some _ (λ (x : ℕ × Op). given_list ≡ set ops at (given_entry seat ticket x)) e there given_is in
       let plan_is : seated seat e at ticket ≡ new =
       sym (new_is ∙ (λ i. record now { ops = fin.from_entries (list_is i); seats = fin.insert now.seats now.next_ticket (seat_of_code (seat_for seat (o_is i))); next_ticket = suc now.next_ticket })) in
-      subst (λ (k : ℕ). NextUnit w (Some (new, record { ticket = ticket; op = k; work = work; copy = copy }))) (sym o_is) (
+      subst (λ (k : ℕ). LowestUnit (HasOpReady w) w (Some (new, record { ticket = ticket; op = k; work = work; copy = copy }))) (sym o_is) (
         record {
           ticket = ticket_is ∙ ap (λ (p : Plan). p.next_ticket) view ∙ is.plan.next_ticket;
           lowest = lowest at e there r.before;

@@ -20,12 +20,12 @@ module _ (w : World) (p : Plan) (is : IsPlanOf w p) (k : ℕ) where
     where
       go : (o : Option Ticket) → IsPlanOf (with_given w k h o) (seat_changed g p k (option_map seat_of o))
       go None = is
-      go (Some t) = record { ops = is.ops; deletes = is.deletes; completed = is.completed; seats = seats_put w p is k (h t) (g (seat_of t)) (keeps t); next_op = is.next_op; next_ticket = is.next_ticket }
+      go (Some t) = record { ops = is.ops; deletes = is.deletes; completed = is.completed; seats = seats_put w p is k (h t) (g (seat_of t)) (keeps t); next_op = is.next_op; next_ticket = is.next_ticket; restores = is.restores; restore_count = is.restore_count; readers = is.readers }
 
   raised_by : (n : ℕ) → w.pending ≡ n → IsPlanOf (raised w k) (seat_changed (seat_raised n) p k (fin.get p.seats k))
   raised_by n e =
       let x = changed (seat_raised n) (λ t. record t { raised = Some w.pending }) (λ t. ap (λ m. seat_raised m (seat_of t)) e) in
-      record { ops = x.ops; deletes = x.deletes; completed = x.completed; seats = x.seats; next_op = x.next_op; next_ticket = x.next_ticket }
+      record { ops = x.ops; deletes = x.deletes; completed = x.completed; seats = x.seats; next_op = x.next_op; next_ticket = x.next_ticket; restores = x.restores; restore_count = x.restore_count; readers = x.readers }
 
   -- ---- its op leaves
 
@@ -41,6 +41,9 @@ module _ (w : World) (p : Plan) (is : IsPlanOf w p) (k : ℕ) where
         seats = seats_put w p is k (record t { out = false }) (seat_ended (seat_of t)) refl;
         next_op = is.next_op;
         next_ticket = is.next_ticket;
+        restores = is.restores;
+        restore_count = is.restore_count;
+        readers = is.readers;
       }
 
   settled_there : (f : Formats) (t : Ticket) (s : Swap) (n : ℕ) → fin.get w.tickets k ≡ Some t → swap f t ≡ Some s → t.raised ≡ Some n → IsPlanOf (settled_of f w k (Some t)) (op_left seat_settled p k (fin.get p.seats k))
@@ -54,6 +57,9 @@ module _ (w : World) (p : Plan) (is : IsPlanOf w p) (k : ℕ) where
         seats = seats_put w p is k (record t { settled = true }) (seat_settled (seat_of t)) refl;
         next_op = is.next_op;
         next_ticket = is.next_ticket;
+        restores = is.restores;
+        restore_count = is.restore_count;
+        readers = is.readers;
       })))
 
   -- ---- its op goes on
@@ -70,6 +76,9 @@ module _ (w : World) (p : Plan) (is : IsPlanOf w p) (k : ℕ) where
         seats = seats_put w p is k (record t { out = false }) (seat_ended (seat_of t)) refl;
         next_op = is.next_op;
         next_ticket = is.next_ticket;
+        restores = is.restores;
+        restore_count = is.restore_count;
+        readers = is.readers;
       }
 
       go : (o : Option Ticket) → IsPlanOf (done_of w k r o) (done_in p k r (option_map seat_of o))
@@ -98,13 +107,16 @@ module _ (w : World) (p : Plan) (is : IsPlanOf w p) (k : ℕ) where
         seats = seats_put w p is k (record t { out = false }) (seat_ended (seat_of t)) refl;
         next_op = is.next_op;
         next_ticket = is.next_ticket;
+        restores = is.restores;
+        restore_count = is.restore_count;
+        readers = is.readers;
       }
 
       fresh : (t : Ticket) → IsPlanOf (after.failed_by w k t (fin.get w.ops t.op)) (failed_by p k (seat_of t) (fin.get p.ops t.op))
       fresh t = subst (λ m. IsPlanOf (after.failed_by w k t (fin.get w.ops t.op)) (failed_by p k (seat_of t) (fin.get m t.op))) (sym is.ops) (inner t (fin.get w.ops t.op))
 
       stale : (t : Ticket) → IsPlanOf (record w { tickets = fin.insert w.tickets k (record t { out = false }) }) (with_seat p k (seat_ended (seat_of t)))
-      stale t = record { ops = is.ops; deletes = is.deletes; completed = is.completed; seats = seats_put w p is k (record t { out = false }) (seat_ended (seat_of t)) refl; next_op = is.next_op; next_ticket = is.next_ticket }
+      stale t = record { ops = is.ops; deletes = is.deletes; completed = is.completed; seats = seats_put w p is k (record t { out = false }) (seat_ended (seat_of t)) refl; next_op = is.next_op; next_ticket = is.next_ticket; restores = is.restores; restore_count = is.restore_count; readers = is.readers }
 
       either : (t : Ticket) (b : Bool) → IsPlanOf (cond b (record w { tickets = fin.insert w.tickets k (record t { out = false }) }) (after.failed_by w k t (fin.get w.ops t.op)))
           (cond b (with_seat p k (seat_ended (seat_of t))) (failed_by p k (seat_of t) (fin.get p.ops t.op)))

@@ -15,10 +15,14 @@ use Rattle.esr_formats.specs.Ids.{number_of}
 use Rattle.esr_formats.specs.Roots.{root_index_of}
 use Rattle.esr_progress.specs.declared.shard.OpenShard.{OpenShard}
 use Rattle.esr_progress.specs.declared.unit.Seat.{Seat as CodeSeat}
-use Rattle.esr_progress.specs.Plan.{Plan, seat_of_code}
+use Rattle.esr_progress.specs.declared.unit.ReaderSeat.{ReaderSeat as CodeReader}
+use Rattle.esr_progress.specs.declared.unit.Slot.{Slot}
+use Rattle.esr_progress.specs.declared.unit.Slot.TheVariants as slots
+use Rattle.esr_progress.specs.Plan.{Plan, seat_of_code, reader_of_code, RestorePlan}
+use Rattle.esr_progress.specs.Seats.{seat_in, reader_in}
 use Rattle.esr_progress.specs.Shards.{work_of_shard, state_of}
 use Rattle.esr_progress.specs.Ops.{IsOpenOp, Within, IsMost, Among, IsDoneAt, later_of}
-use Rattle.esr_progress.specs.Inside.{plan_with, seats_with, numbers_of, AreNumbers, IsProgress}
+use Rattle.esr_progress.specs.Inside.{plan_with, seats_with, readers_with, numbers_of, AreNumbers, IsProgress}
 use Rattle.esr_progress.specs.declared.unit.SeatKind.{SeatKind}
 use Rattle.esr_progress.specs.declared.unit.SeatKind.TheVariants as kinds
 use Rattle.esr_names.specs.declared.blob.ShardId.{ShardId}
@@ -27,7 +31,7 @@ use Rattle.esr_progress.specs.Choice.{AreShards, IsLiveIn, IsBaseFor, given_entr
 use Rattle.esr_progress.proofs.Lists.{Has-mapped, all_member, some_same, none_some}
 use Rattle.esr_progress.proofs.Searches.{left_from}
 use Rattle.esr_progress.proofs.Numbers.{entries_from}
-use Rattle.esr_progress.proofs.SeatMaps.{seats-push}
+use Rattle.esr_progress.proofs.SeatMaps.{slot-push, slot-push_none}
 use Rattle.esr_progress.proofs.Results.{most_more, most_either}
 
 -- what holds of the shards of an open op
@@ -46,31 +50,65 @@ works_rule m places xs h = record {
 
 -- ---- a ticket more
 
-module _ (ops new : List (ℕ × Op)) (deletes kept : List (ℕ × Deletion)) (completed after : List ℕ) (seats more : List CodeSeat) (next : ℕ) (now : Plan) (is : plan_with ops deletes completed seats next ≡ now) (same : kept ≡ deletes) where
-  pub progress_with : IsProgress ops deletes next → numbers_of new ≡ numbers_of (fin.entries now.ops) → IsProgress new kept next
+module _ (ops new : List (ℕ × Op)) (deletes kept : List (ℕ × Deletion)) (completed after : List ℕ) (seats more : List Slot) (next : ℕ) (restores stay : List (ℕ × RestorePlan)) (now : Plan) (is : plan_with ops deletes completed seats next restores ≡ now) (same : kept ≡ deletes) (stays : stay ≡ restores) where
+  pub progress_with : IsProgress ops deletes next restores → numbers_of new ≡ numbers_of (fin.entries now.ops) → IsProgress new kept next stay
   progress_with h e =
       let numbers : numbers_of ops ≡ numbers_of new = sym (e ∙ ap (λ (p : Plan). numbers_of (fin.entries p.ops)) (sym is) ∙ ap numbers_of (entries_from ops h.ops_numbered.rise)) in
       record {
         ops_numbered = subst (λ ns. AreNumbers ns next) numbers h.ops_numbered;
         deletes_numbered = subst (λ (ds : List (ℕ × Deletion)). AreNumbers (numbers_of ds) next) (sym same) h.deletes_numbered;
+        restores_numbered = subst (λ (rs : List (ℕ × RestorePlan)). AreNumbers (numbers_of rs) next) (sym stays) h.restores_numbered;
         apart = λ n a b. h.apart n (subst (λ ns. Has ns n) (sym numbers) a) (subst (λ (ds : List (ℕ × Deletion)). Has (numbers_of ds) n) same b);
         first = h.first;
         most = h.most;
       }
 
-  pub plan_seated : (s : CodeSeat) → after ≡ completed → more ≡ seats ++ s ∷ []
-      → plan_with new kept after more next ≡ record now { ops = fin.from_entries new; seats = fin.insert now.seats now.next_ticket (seat_of_code s); next_ticket = suc now.next_ticket }
+  pub plan_seated : (s : CodeSeat) → after ≡ completed → more ≡ seats ++ slots.Ticket s ∷ []
+      → plan_with new kept after more next stay ≡ record now { ops = fin.from_entries new; seats = fin.insert now.seats now.next_ticket (seat_of_code s); next_ticket = suc now.next_ticket }
   plan_seated s done pushed =
-      let count : suc (length more) ≡ suc (suc (length seats)) = ap (λ (xs : List CodeSeat). suc (length xs)) pushed ∙ omega (arith, length-append seats (s ∷ [])) in
+      let count : suc (length more) ≡ suc (suc (length seats)) = ap (λ (xs : List Slot). suc (length xs)) pushed ∙ omega (arith, length-append seats (slots.Ticket s ∷ [])) in
       (λ i. record {
         ops = fin.from_entries new;
         deletes = fin.from_entries (same i);
         completed = done i;
-        seats = (ap seats_with pushed ∙ seats-push seats s) i;
+        seats = (ap seats_with pushed ∙ slot-push seat_in seats (slots.Ticket s) (seat_of_code s) refl) i;
+        restores = fin.from_entries (stays i);
+        readers = (ap readers_with pushed ∙ slot-push_none reader_in seats (slots.Ticket s) refl) i;
         next_op = next;
         next_ticket = count i;
       })
       ∙ ap (λ (p : Plan). record p { ops = fin.from_entries new; seats = fin.insert p.seats p.next_ticket (seat_of_code s); next_ticket = suc p.next_ticket }) is
+
+-- a restore's ticket more
+module _ (ops kept_ops : List (ℕ × Op)) (deletes kept : List (ℕ × Deletion)) (completed after : List ℕ) (seats more : List Slot) (next : ℕ) (restores new : List (ℕ × RestorePlan)) (now : Plan) (is : plan_with ops deletes completed seats next restores ≡ now)
+    (same_ops : kept_ops ≡ ops) (same : kept ≡ deletes) where
+  pub progress_read : IsProgress ops deletes next restores → numbers_of new ≡ numbers_of (fin.entries now.restores) → IsProgress kept_ops kept next new
+  progress_read h e =
+      let numbers : numbers_of restores ≡ numbers_of new = sym (e ∙ ap (λ (p : Plan). numbers_of (fin.entries p.restores)) (sym is) ∙ ap numbers_of (entries_from restores h.restores_numbered.rise)) in
+      record {
+        ops_numbered = subst (λ (es : List (ℕ × Op)). AreNumbers (numbers_of es) next) (sym same_ops) h.ops_numbered;
+        deletes_numbered = subst (λ (ds : List (ℕ × Deletion)). AreNumbers (numbers_of ds) next) (sym same) h.deletes_numbered;
+        restores_numbered = subst (λ ns. AreNumbers ns next) numbers h.restores_numbered;
+        apart = λ n a b. h.apart n (subst (λ (es : List (ℕ × Op)). Has (numbers_of es) n) same_ops a) (subst (λ (ds : List (ℕ × Deletion)). Has (numbers_of ds) n) same b);
+        first = h.first;
+        most = h.most;
+      }
+
+  pub plan_read : (s : CodeReader) → after ≡ completed → more ≡ seats ++ slots.Reader s ∷ []
+      → plan_with kept_ops kept after more next new ≡ record now { restores = fin.from_entries new; readers = fin.insert now.readers now.next_ticket (reader_of_code s); next_ticket = suc now.next_ticket }
+  plan_read s done pushed =
+      let count : suc (length more) ≡ suc (suc (length seats)) = ap (λ (xs : List Slot). suc (length xs)) pushed ∙ omega (arith, length-append seats (slots.Reader s ∷ [])) in
+      (λ i. record {
+        ops = fin.from_entries (same_ops i);
+        deletes = fin.from_entries (same i);
+        completed = done i;
+        seats = (ap seats_with pushed ∙ slot-push_none seat_in seats (slots.Reader s) refl) i;
+        restores = fin.from_entries new;
+        readers = (ap readers_with pushed ∙ slot-push reader_in seats (slots.Reader s) (reader_of_code s) refl) i;
+        next_op = next;
+        next_ticket = count i;
+      })
+      ∙ ap (λ (p : Plan). record p { restores = fin.from_entries new; readers = fin.insert p.readers p.next_ticket (reader_of_code s); next_ticket = suc p.next_ticket }) is
 
 -- ---- the root's generation
 

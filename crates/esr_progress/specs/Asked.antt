@@ -4,7 +4,7 @@ use Rattle.std.specs.List.{AllByRecursion}
 use Rattle.esr_progress.specs.declared.command.AskedIndex.{AskedIndex as CodeAsked}
 use Rattle.esr_progress.specs.declared.command.Command.{Command}
 use Rattle.esr_progress.specs.declared.command.Command.TheVariants as commands
-use Rattle.esr_core.specs.Entry.{AskedIndex, Asked, Snapshot}
+use Rattle.esr_core.specs.Entry.{AskedIndex, Asked, Snapshot, Restore}
 use Rattle.esr_core.specs.Allowed.{AreDistinct}
 
 abbrev pub asked_index_of : CodeAsked → AskedIndex
@@ -20,3 +20,4 @@ HasShards a = (1 ≤ a.shards) × (a.shards ≤ 1024)
 -- the names of a command's indices are distinct, and each has 1 to 1,024 shards
 abbrev pub IsAskable : Asked → Type 0
 IsAskable (Snapshot name indices moment) = AreDistinct indices × AllByRecursion HasShards indices
+IsAskable (Restore name place) = Unit {0}

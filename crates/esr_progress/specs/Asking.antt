@@ -4,6 +4,9 @@ use Rattle.esr_names.specs.declared.ids.Id.{Id}
 use Rattle.esr_names.specs.declared.index_ref.IndexRef.{IndexRef as CodeRef}
 use Rattle.esr_model.specs.Values.{Bytes, IndexRef, RootSnap, RootData}
 use Rattle.esr_model.specs.Uploads.{same_bytes}
+use Rattle.esr_model.specs.Shelf.{names_uuid}
+use Rattle.esr_core.specs.Restores.{restore_of}
+use Rattle.esr_progress.specs.Plan.{RestorePlan, restore_plan}
 use Rattle.esr_core.specs.World.{Op, Deletion}
 use Rattle.esr_core.specs.Entry.{AskedIndex}
 use Rattle.esr_core.specs.After.{or_else, root_index_id, open_index_id, ref_by, next_by, all_pending}
@@ -21,6 +24,11 @@ use Rattle.esr_progress.specs.declared.shard.OpenShard.{OpenShard}
 abbrev pub open_cleanup : List (ℕ × Deletion) → Option ℕ
 open_cleanup [] = None
 open_cleanup (e ∷ deletes) = if e.1.clean then Some e.0 else open_cleanup deletes
+
+-- the number of the first open delete that names the snapshot
+abbrev pub deleting : List (ℕ × Deletion) → ℕ → Option ℕ
+deleting [] uuid = None
+deleting (e ∷ deletes) uuid = if names_uuid e.1.uuids uuid then Some e.0 else deleting deletes uuid
 
 -- the uuid of a name: of a listed snapshot, of an open op
 abbrev pub snap_uuid : List RootSnap → Bytes → Option ℕ
@@ -65,6 +73,10 @@ shards_from at index first (suc n) = record { at = at; shard = record { index = 
 abbrev pub shards_of : ℕ → List CodeRef → List OpenShard
 shards_of at [] = []
 shards_of at (r ∷ refs) = shards_from at r.id 0 r.shards ++ shards_of (suc at) refs
+
+-- a restore as it begins
+abbrev pub restore_begun : ℕ → Bytes → List IndexRef → RestorePlan
+restore_begun uuid place indices = restore_plan (restore_of uuid place indices)
 
 -- what an op makes as it begins
 abbrev pub op_begun : Making → List AskedIndex → Op

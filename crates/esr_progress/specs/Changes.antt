@@ -1,11 +1,14 @@
 -- What the reports of units change in a plan.
 use Rattle.std.specs.Prelude.{ℕ, Bool, true, false, not, ◌&&◌, ◌==◌, [], ◌∷◌, ◌++◌, Option, Some, None, map, if◌then◌else◌}
+use Rattle.std.specs.Ordering.{nat_cmp}
 use Rattle.std.specs.FinMap as fin
 use Rattle.esr_model.specs.Values.{ShardResult}
-use Rattle.esr_core.specs.World.{Op, Done, marked}
+use Rattle.std.specs.List.{list_any}
+use Rattle.esr_core.specs.World.{Op, Done, GivenUp, marked}
 use Rattle.esr_core.specs.Steps.{completing}
 use Rattle.esr_core.specs.Turns.{fails}
-use Rattle.esr_progress.specs.Plan.{Seat, Plan}
+use Rattle.esr_progress.specs.Plan.{Seat, ReaderSeat, RestorePlan, Plan}
+use Rattle.esr_progress.specs.Restores.{is_waiting}
 use Rattle.esr_progress.specs.Seats.{is_of_shard}
 
 abbrev pub with_seat : Plan → ℕ → Seat → Plan
@@ -42,6 +45,38 @@ seat_raised n s = record s { raised = Some n }
 -- a unit of a master that is none any more
 abbrev pub is_stale_seat : ℕ → Seat → Bool
 is_stale_seat term s = not (is_of_shard s.kind) && not (s.term == term)
+
+-- ---- restores
+
+abbrev pub with_reader : Plan → ℕ → ReaderSeat → Plan
+with_reader p k q = record p { readers = fin.insert p.readers k q }
+
+abbrev pub reader_ended : ReaderSeat → ReaderSeat
+reader_ended q = record q { out = false }
+
+-- what a ticket has is over
+abbrev pub restore_over : ℕ → RestorePlan → RestorePlan
+restore_over k r = record r { shards = map (marked k GivenUp) r.shards }
+
+abbrev pub restore_changed : (RestorePlan → RestorePlan) → Plan → ℕ → Option RestorePlan → Plan
+restore_changed g p o None = p
+restore_changed g p o (Some r) = record p { restores = fin.insert p.restores o (g r) }
+
+-- it leaves where none of its shards waits
+abbrev pub restore_kept : Plan → ℕ → Option RestorePlan → Plan
+restore_kept p o None = p
+restore_kept p o (Some r) = record p { restores = if list_any is_waiting r.shards then p.restores else fin.remove p.restores o }
+
+abbrev pub put_plan : fin.FinMap nat_cmp RestorePlan → ℕ → RestorePlan → fin.FinMap nat_cmp RestorePlan
+put_plan restores o r = if list_any is_waiting r.shards then fin.insert restores o r else fin.remove restores o
+
+abbrev pub read_by : Plan → ℕ → ReaderSeat → Option RestorePlan → Plan
+read_by p k q None = p
+read_by p k q (Some r) = record p { restores = put_plan p.restores q.op (restore_over k r); readers = fin.insert p.readers k (reader_ended q) }
+
+abbrev pub read_in : Plan → ℕ → Option ReaderSeat → Plan
+read_in p k None = p
+read_in p k (Some q) = read_by p k q (fin.get p.restores q.op)
 
 -- ---- by what is kept of the ticket
 

@@ -1,7 +1,10 @@
 -- Which unit of an op is ready, and what is given with it.
-use Rattle.std.specs.Prelude.{◌≡◌, ◌⊎◌, ◌<◌, ℕ, Bool, true, false, not, ◌&&◌, ◌==◌, if◌then◌else◌, List, Option, Some, None, IfSome, map, length, take, position, option_map, slice_get, slice_set, slice_index_or}
+use Rattle.std.specs.Prelude.{◌≡◌, ◌⊎◌, ◌<◌, ℕ, Bool, true, false, not, ◌&&◌, ◌==◌, if◌then◌else◌, List, Option, Some, None, IfSome, map, length, take, position, option_map, slice_get, slice_set, slice_index_or, nat_lt}
 use Rattle.std.specs.List.{list_any}
 use Rattle.esr_names.specs.declared.ids.Id.{Id}
+use Rattle.esr_names.specs.declared.blob.ShardId.{ShardId}
+use Rattle.esr_progress.specs.Plan.{RestorePlan}
+use Rattle.esr_progress.specs.Restores.{is_unread}
 use Rattle.esr_model.specs.Values.{Has, RootData}
 use Rattle.esr_model.specs.Image.{Generation}
 use Rattle.esr_core.specs.World.{Op, ShardWork}
@@ -9,13 +12,12 @@ use Rattle.esr_core.specs.Steps.{given, all_done}
 use Rattle.esr_formats.specs.Ids.{number_of}
 use Rattle.esr_progress.specs.declared.ready.Kind.{Kind}
 use Rattle.esr_progress.specs.declared.ready.Kind.TheVariants as ready
-use Rattle.esr_progress.specs.declared.unit.Seat.{Seat as CodeSeat}
+use Rattle.esr_progress.specs.declared.unit.Slot.{Slot}
 use Rattle.esr_progress.specs.declared.unit.SeatKind.{SeatKind}
 use Rattle.esr_progress.specs.declared.unit.SeatKind.TheVariants as kinds
 use Rattle.esr_progress.specs.declared.unit.Work.{Work}
 use Rattle.esr_progress.specs.declared.unit.Work.TheVariants as works
-use Rattle.esr_progress.specs.Plan.{seat_of_code}
-use Rattle.esr_progress.specs.Seats.{is_swap_out, is_unit_out}
+use Rattle.esr_progress.specs.Seats.{seat_in, holds, is_swap_out, is_unit_out}
 use Rattle.esr_progress.specs.Ops.{has_stopped, is_free, IsDoneAt, Among, IsMost, IsShardWork, IsFinalWork}
 
 -- ---- which
@@ -32,37 +34,37 @@ is_first_at ops completed (Some i) = not (list_any (goes_in ops) (take i complet
 abbrev pub is_earliest : List (ℕ × Op) → List ℕ → ℕ → Bool
 is_earliest ops completed number = is_first_at ops completed (position (λ n. n == number) completed)
 
-abbrev pub is_out_of : List CodeSeat → ℕ → ℕ → Bool
-is_out_of seats term number = list_any (λ s. is_unit_out term number (seat_of_code s)) seats
+abbrev pub is_out_of : List Slot → ℕ → ℕ → Bool
+is_out_of seats term number = list_any (λ s. holds (is_unit_out term number) (seat_in s)) seats
 
-abbrev pub is_swapping : List CodeSeat → ℕ → Bool
-is_swapping seats term = list_any (λ s. is_swap_out term (seat_of_code s)) seats
+abbrev pub is_swapping : List Slot → ℕ → Bool
+is_swapping seats term = list_any (λ s. holds (is_swap_out term) (seat_in s)) seats
 
 -- by the place of its first free shard, and whether it can be finalized
 abbrev pub ready_by : Option ℕ → Bool → Option Kind
 ready_by (Some i) final = Some (ready.Shard i)
 ready_by None final = if final then Some ready.Finalize else None
 
-abbrev pub is_final : List (ℕ × Op) → List ℕ → List CodeSeat → ℕ → ℕ × Op → Bool
+abbrev pub is_final : List (ℕ × Op) → List ℕ → List Slot → ℕ → ℕ × Op → Bool
 is_final ops completed seats term e = all_done e.1.shards && (not (is_swapping seats term) && is_earliest ops completed e.0)
 
 -- the unit of an op that is ready
-abbrev pub ready_of : List (ℕ × Op) → List ℕ → List CodeSeat → ℕ → List (ℕ × Op) → ℕ × Op → Option Kind
+abbrev pub ready_of : List (ℕ × Op) → List ℕ → List Slot → ℕ → List (ℕ × Op) → ℕ × Op → Option Kind
 ready_of ops completed seats term before e =
     if has_stopped e.1 then (if is_out_of seats term e.0 then None else Some ready.Drop)
     else ready_by (position (is_free before) e.1.shards) (is_final ops completed seats term e)
 
 -- the op at the place, and no unit of those before it is ready
-abbrev pub NoneBefore : List (ℕ × Op) → List ℕ → List CodeSeat → ℕ → ℕ → Type 0
+abbrev pub NoneBefore : List (ℕ × Op) → List ℕ → List Slot → ℕ → ℕ → Type 0
 NoneBefore ops completed seats term at = (k : ℕ) (e : ℕ × Op) → k < at → slice_get ops k ≡ Some e → ready_of ops completed seats term (take k ops) e ≡ None
 
-pub record IsReadyAt (ops : List (ℕ × Op)) (completed : List ℕ) (seats : List CodeSeat) (term at : ℕ) (kind : Kind) : Type 0 where
+pub record IsReadyAt (ops : List (ℕ × Op)) (completed : List ℕ) (seats : List Slot) (term at : ℕ) (kind : Kind) : Type 0 where
   pub e : ℕ × Op
   pub there : slice_get ops at ≡ Some e
   pub is : ready_of ops completed seats term (take at ops) e ≡ Some kind
   pub before : NoneBefore ops completed seats term at
 
-abbrev pub IsFirstReady : List (ℕ × Op) → List ℕ → List CodeSeat → ℕ → Option (ℕ × Kind) → Type 0
+abbrev pub IsFirstReady : List (ℕ × Op) → List ℕ → List Slot → ℕ → Option (ℕ × Kind) → Type 0
 IsFirstReady ops completed seats term None = NoneBefore ops completed seats term (length ops)
 IsFirstReady ops completed seats term (Some (at, kind)) = IsReadyAt ops completed seats term at kind
 
@@ -105,6 +107,32 @@ abbrev pub given_entry : SeatKind → ℕ → ℕ × Op → ℕ × Op
 given_entry (kinds.Shard shard) ticket e = (e.0, record e.1 { shards = map (given ticket shard.index.number shard.number) e.1.shards })
 given_entry kinds.Finalize ticket e = e
 given_entry kinds.Drop ticket e = e
+
+-- ---- restores
+
+-- no shard of the restores before the place is unread
+abbrev pub NoneUnread : List (ℕ × RestorePlan) → ℕ → Type 0
+NoneUnread restores at = (k : ℕ) (e : ℕ × RestorePlan) → k < at → slice_get restores k ≡ Some e → position is_unread e.1.shards ≡ None
+
+pub record IsUnreadAt (restores : List (ℕ × RestorePlan)) (at i : ℕ) : Type 0 where
+  pub e : ℕ × RestorePlan
+  pub there : slice_get restores at ≡ Some e
+  pub is : position is_unread e.1.shards ≡ Some i
+  pub before : NoneUnread restores at
+
+abbrev pub IsFirstUnread : List (ℕ × RestorePlan) → Option (ℕ × ℕ) → Type 0
+IsFirstUnread restores None = NoneUnread restores (length restores)
+IsFirstUnread restores (Some (at, i)) = IsUnreadAt restores at i
+
+-- the restore, with the shard given to the ticket
+abbrev pub given_restore : ShardId → ℕ → ℕ × RestorePlan → ℕ × RestorePlan
+given_restore shard ticket e = (e.0, record e.1 { shards = map (given ticket shard.index.number shard.number) e.1.shards })
+
+-- a restore comes before an op
+abbrev pub is_before : Option ℕ → Option ℕ → Bool
+is_before None op = false
+is_before (Some r) None = true
+is_before (Some r) (Some o) = nat_lt r o
 
 -- what holds of the shards of every open op: their numbers are of the layout, and those of one id and number are equally far
 pub record AreShards (shards : List ShardWork) : Type 0 where

@@ -1,20 +1,41 @@
 -- The plan that a list of ops is, and what holds of each such list.
-use Rattle.std.specs.Prelude.{◌<◌, ◌≤◌, ◌^◌, ℕ, suc, List, [], ◌∷◌, map, length}
-use Rattle.std.specs.List.{enumerate_from}
+use Rattle.std.specs.Prelude.{◌<◌, ◌≤◌, ◌^◌, ℕ, suc, List, [], ◌∷◌, Option, Some, None, map, length}
 use Rattle.std.specs.Ordering.{nat_cmp}
 use Rattle.std.specs.FinMap as fin
 use Rattle.esr_model.specs.Values.{Has}
 use Rattle.esr_core.specs.World.{Op, Deletion}
-use Rattle.esr_progress.specs.declared.unit.Seat.{Seat as CodeSeat}
-use Rattle.esr_progress.specs.Plan.{Plan, Seat, seat_of_code}
+use Rattle.esr_progress.specs.declared.unit.Slot.{Slot}
+use Rattle.esr_progress.specs.Plan.{Plan, Seat, ReaderSeat, RestorePlan}
+use Rattle.esr_progress.specs.Seats.{seat_in, reader_in}
 
--- tickets are numbered from 1 on
-abbrev pub seats_with : List CodeSeat → fin.FinMap nat_cmp Seat
-seats_with seats = fin.from_entries (enumerate_from 1 (map seat_of_code seats))
+-- what f tells of each, by its number
+abbrev pub slot_entry : {B : Type 0} → Option B → ℕ → List (ℕ × B) → List (ℕ × B)
+slot_entry None n rest = rest
+slot_entry (Some x) n rest = (n, x) ∷ rest
 
-abbrev pub plan_with : List (ℕ × Op) → List (ℕ × Deletion) → List ℕ → List CodeSeat → ℕ → Plan
-plan_with ops deletes completed seats next_op =
-    record { ops = fin.from_entries ops; deletes = fin.from_entries deletes; completed = completed; seats = seats_with seats; next_op = next_op; next_ticket = suc (length seats) }
+abbrev pub slot_entries : {A B : Type 0} → (A → Option B) → ℕ → List A → List (ℕ × B)
+slot_entries f n [] = []
+slot_entries f n (s ∷ slots) = slot_entry (f s) n (slot_entries f (suc n) slots)
+
+-- tickets are numbered from 1 on, restores' among them
+abbrev pub seats_with : List Slot → fin.FinMap nat_cmp Seat
+seats_with slots = fin.from_entries (slot_entries seat_in 1 slots)
+
+abbrev pub readers_with : List Slot → fin.FinMap nat_cmp ReaderSeat
+readers_with slots = fin.from_entries (slot_entries reader_in 1 slots)
+
+abbrev pub plan_with : List (ℕ × Op) → List (ℕ × Deletion) → List ℕ → List Slot → ℕ → List (ℕ × RestorePlan) → Plan
+plan_with ops deletes completed slots next_op restores =
+    record {
+      ops = fin.from_entries ops;
+      deletes = fin.from_entries deletes;
+      completed = completed;
+      seats = seats_with slots;
+      restores = fin.from_entries restores;
+      readers = readers_with slots;
+      next_op = next_op;
+      next_ticket = suc (length slots);
+    }
 
 abbrev pub numbers_of : {A : Type 0} → List (ℕ × A) → List ℕ
 numbers_of {A} entries = map (λ (e : ℕ × A). e.0) entries
@@ -30,9 +51,10 @@ pub record AreNumbers (numbers : List ℕ) (next : ℕ) : Type 0 where
   pub below : (n : ℕ) → Has numbers n → n < next
 
 -- what holds of every list of ops
-pub record IsProgress (ops : List (ℕ × Op)) (deletes : List (ℕ × Deletion)) (next_op : ℕ) : Type 0 where
+pub record IsProgress (ops : List (ℕ × Op)) (deletes : List (ℕ × Deletion)) (next_op : ℕ) (restores : List (ℕ × RestorePlan)) : Type 0 where
   pub ops_numbered : AreNumbers (numbers_of ops) next_op
   pub deletes_numbered : AreNumbers (numbers_of deletes) next_op
+  pub restores_numbered : AreNumbers (numbers_of restores) next_op
   pub apart : (n : ℕ) → Has (numbers_of ops) n → Has (numbers_of deletes) n → ⊥
   pub first : 1 ≤ next_op
   pub most : next_op ≤ 2 ^ 62

@@ -3,6 +3,7 @@ pub mod Shards
 pub mod Ops
 pub mod Deletes
 pub mod Plan
+pub mod Restores
 pub mod Seats
 pub mod Codes
 pub mod Inside

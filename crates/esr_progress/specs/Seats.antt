@@ -1,13 +1,34 @@
 -- Tests on what is kept of tickets.
-use Rattle.std.specs.Prelude.{ℕ, zero, suc, Bool, true, false, not, ◌&&◌, ◌||◌, ◌==◌, List, Option, None, slice_get}
+use Rattle.std.specs.Prelude.{ℕ, zero, suc, Bool, true, false, not, ◌&&◌, ◌||◌, ◌==◌, List, Option, Some, None, slice_get}
 use Rattle.esr_progress.specs.declared.unit.SeatKind.{SeatKind}
 use Rattle.esr_progress.specs.declared.unit.SeatKind.TheVariants as kinds
-use Rattle.esr_progress.specs.Plan.{UnitKind, OfShard, OfFinalize, OfDelete, OfDrop, Seat}
+use Rattle.esr_progress.specs.declared.unit.Slot.{Slot}
+use Rattle.esr_progress.specs.declared.unit.Slot.TheVariants as slots
+use Rattle.esr_progress.specs.Plan.{UnitKind, OfShard, OfFinalize, OfDelete, OfDrop, Seat, seat_of_code, ReaderSeat, reader_of_code}
 
 -- tickets are numbered from 1 on
 abbrev pub seat_at : {A : Type 0} → List A → ℕ → Option A
 seat_at seats zero = None
 seat_at seats (suc k) = slice_get seats k
+
+-- what is kept under a number is of a ticket, or of a restore's
+abbrev pub seat_in : Slot → Option Seat
+seat_in (slots.Ticket s) = Some (seat_of_code s)
+seat_in (slots.Reader q) = None
+
+abbrev pub reader_in : Slot → Option ReaderSeat
+reader_in (slots.Ticket s) = None
+reader_in (slots.Reader q) = Some (reader_of_code q)
+
+-- what f tells of it, where it is there
+abbrev pub told_in : {A B : Type 0} → (A → Option B) → Option A → Option B
+told_in f None = None
+told_in f (Some x) = f x
+
+-- it is there, and p holds of it
+abbrev pub holds : {A : Type 0} → (A → Bool) → Option A → Bool
+holds p None = false
+holds p (Some x) = p x
 
 abbrev pub is_master : UnitKind → Bool
 is_master (OfShard index number) = false

@@ -25,8 +25,8 @@ use esr_root::{RootData, RootIndex, RootSnap};
 use esr_seq::{Seq, Text};
 use std::alloc::{AllocError, Global};
 
-/// The most ops and deletes that are open at once.
-const LIMIT: u64 = 1000;
+/// The most ops and deletes that are open at once, and the most restores.
+pub(crate) const LIMIT: u64 = 1000;
 
 impl Progress {
     /// The list with a command more, as the next op: its uuid is the next id, and each index whose name neither the root nor an
@@ -152,7 +152,7 @@ fn name_user(root: &RootData, ops: &[OpenOp], name: &SnapName) -> Option<Id>
     }
 }
 
-fn snap_uuid(snaps: &[RootSnap], name: &SnapName) -> Option<Id>
+pub(crate) fn snap_uuid(snaps: &[RootSnap], name: &SnapName) -> Option<Id>
     ensures { option_map number_of result ≡ snap_uuid (map root_snap_of snaps.now) name.now }
 {
     for snap in snaps {
@@ -277,7 +277,7 @@ fn places(alloc: Global, asked: &[AskedIndex]) -> Result<Seq<Text>, AllocError>
 }
 
 /// The shards of each index, by their numbers.
-fn shards(alloc: Global, indices: &[IndexRef]) -> Result<Vec<OpenShard>, AllocError>
+pub(crate) fn shards(alloc: Global, indices: &[IndexRef]) -> Result<Vec<OpenShard>, AllocError>
     ensures { IfOk result (λ v. v.items ≡ shards_of 0 indices.now) }
 {
     let mut shards = Vec::new(alloc);

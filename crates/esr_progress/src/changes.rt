@@ -1,15 +1,16 @@
 //! The changes of which the reports of units are made.
-ghost use Rattle.std.specs.Prelude.{◌≡◌, true, option_map, is_some, OnOk};
+ghost use Rattle.std.specs.Prelude.{◌≡◌, true, not, option_map, is_some, OnOk};
 ghost use Rattle.std.specs.FinMap as fin;
 ghost use Rattle.esr_core.specs.Steps.{all_done};
 ghost use Rattle.esr_model.specs.Values.{ShardResult as Outcome};
 ghost use Rattle.esr_results.specs.Results.{result_of};
-ghost use Rattle.esr_progress.specs.Plan.{seat_of_code};
-ghost use Rattle.esr_progress.specs.Changes.{with_seat, without_op, with_completed, op_changed, op_marked, op_failed, seat_ended, seat_changed, seat_settled, seat_raised, op_left, done_in, failed_by, failed_in, is_stale_seat};
+ghost use Rattle.esr_progress.specs.Plan.{seat_of_code, reader_of_code};
+ghost use Rattle.esr_progress.specs.Changes.{with_seat, without_op, with_completed, op_changed, op_marked, op_failed, seat_ended, seat_changed, seat_settled, seat_raised, op_left, done_in, failed_by, failed_in, is_stale_seat, reader_ended, with_reader, restore_changed, restore_over, restore_kept, read_by, read_in};
 
-use crate::progress::place;
+use crate::progress::{place, restore_place};
 use crate::shard::ShardState;
-use crate::{Progress, Seat};
+use crate::unit::Slot;
+use crate::{Progress, ReaderSeat, Seat};
 use esr_results::ShardResult;
 use std::alloc::AllocError;
 
@@ -29,13 +30,89 @@ impl Seat {
     }
 }
 
+impl ReaderSeat {
+    /// The ticket has ended.
+    pub(crate) fn ended(self) -> ReaderSeat
+        ensures { reader_of_code result ≡ reader_ended (reader_of_code self) }
+    {
+        ReaderSeat { out: false, ..self }
+    }
+}
+
 impl Progress {
+    /// Keeps this of a restore's ticket.
+    pub(crate) fn put_reader(&mut self, ticket: u64, reader: ReaderSeat)
+        requires { is_some (fin.get self.old.readers ticket) ≡ true }
+        ensures { self.new ≡ with_reader self.old ticket (reader_of_code reader) }
+    {
+        self.seats[ticket as usize - 1] = Slot::Reader(reader);
+    }
+
+    /// What a ticket has of a restore is over.
+    fn end_read(&mut self, number: u64, ticket: u64)
+        ensures { self.new ≡ restore_changed (restore_over ticket) self.old number (fin.get self.old.restores number) }
+    {
+        if let Some(at) = restore_place(&self.restores, number) {
+            self.restores[at].end(ticket);
+        }
+    }
+
+    /// A restore leaves where none of its shards waits.
+    fn leave(&mut self, number: u64)
+        ensures { self.new ≡ restore_kept self.old number (fin.get self.old.restores number) }
+    {
+        let Some(at) = restore_place(&self.restores, number) else {
+            return;
+        };
+        if self.restores[at].waits() {
+            return;
+        }
+        self.restores.retain(|restore| restore.number() != number);
+    }
+
+    /// Whether a restore of this number is open.
+    fn has_restore(&self, number: u64) -> bool
+        ensures { result ≡ is_some (fin.get self.now.restores number) }
+    {
+        restore_place(&self.restores, number).is_some()
+    }
+
+    /// The ticket of a restore ends, where the restore is open.
+    pub(crate) fn end_reader(&mut self, ticket: u64)
+        ensures { self.new ≡ read_in self.old ticket (fin.get self.old.readers ticket) }
+    {
+        let Some(reader) = self.reader(ticket) else {
+            return;
+        };
+        self.end_open(ticket, reader);
+    }
+
+    /// Whether no restore of this number is open.
+    fn lacks_restore(&self, number: u64) -> bool
+        ensures { result ≡ not (is_some (fin.get self.now.restores number)) }
+    {
+        !self.has_restore(number)
+    }
+
+    /// What a ticket has of its restore is over, where that is open, and the ticket ends.
+    fn end_open(&mut self, ticket: u64, reader: ReaderSeat)
+        requires { is_some (fin.get self.old.readers ticket) ≡ true }
+        ensures { self.new ≡ read_by self.old ticket (reader_of_code reader) (fin.get self.old.restores reader.op) }
+    {
+        if self.lacks_restore(reader.op) {
+            return;
+        }
+        self.put_reader(ticket, reader.ended());
+        self.end_read(reader.op, ticket);
+        self.leave(reader.op);
+    }
+
     /// Keeps this of a ticket.
     pub(crate) fn put_seat(&mut self, ticket: u64, seat: Seat)
         requires { is_some (fin.get self.old.seats ticket) ≡ true }
         ensures { self.new ≡ with_seat self.old ticket (seat_of_code seat) }
     {
-        self.seats[ticket as usize - 1] = seat;
+        self.seats[ticket as usize - 1] = Slot::Ticket(seat);
     }
 
     /// An op leaves, or a delete.

@@ -1,10 +1,13 @@
 //! An open delete, or a cleanup.
-ghost use Rattle.std.specs.Prelude.{◌≡◌, IfOk};
+ghost use Rattle.std.specs.Prelude.{◌≡◌, ◌==◌, map, IfOk};
+ghost use Rattle.std.specs.List.{list_any};
+ghost use Rattle.esr_model.specs.Shelf.{names_uuid};
+ghost use Rattle.esr_formats.specs.Ids.{number_of};
 ghost use Rattle.esr_core.specs.World.{deletion_work};
 ghost use Rattle.esr_formats.specs.Clusters.{op_of};
 ghost use Rattle.esr_record.specs.Op.{IsWork};
 
-use esr_names::Ids;
+use esr_names::{Id, Ids};
 use esr_record::{OpWork, RecordOp};
 use std::alloc::{AllocError, Global};
 use std::marker::Model;
@@ -45,6 +48,13 @@ impl OpenDelete {
         self.clean
     }
 
+    /// Whether it names the snapshot with this uuid.
+    pub(crate) fn names(&self, uuid: Id) -> bool
+        ensures { result ≡ names_uuid self.now.1.uuids uuid.number }
+    {
+        names(self.uuids.as_slice(), uuid)
+    }
+
     /// The op as the cluster record tells it.
     pub(crate) fn record_op(&self, alloc: Global) -> Result<RecordOp, AllocError>
         ensures told { IfOk result (λ o. op_of o ≡ (self.now.0, deletion_work self.now.1)) }
@@ -74,4 +84,18 @@ impl OpenDelete {
             failed: self.failed,
         })
     }
+}
+
+/// Whether an id is among them.
+fn are_with(uuids: &[Id], uuid: Id) -> bool
+    ensures { result ≡ list_any (λ id. id.number == uuid.number) uuids.now }
+{
+    uuids.iter().any(|id| *id == uuid)
+}
+
+/// The same, as a delete names snapshots.
+fn names(uuids: &[Id], uuid: Id) -> bool
+    ensures { result ≡ names_uuid (map number_of uuids.now) uuid.number }
+{
+    are_with(uuids, uuid)
 }

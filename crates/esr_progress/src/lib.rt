@@ -10,6 +10,8 @@ mod progress;
 mod ready;
 mod refusal;
 mod reports;
+mod restore;
+mod restoring;
 mod seats;
 mod shard;
 #[cfg(test)]
@@ -21,4 +23,5 @@ pub use delete::OpenDelete;
 pub use open_op::OpenOp;
 pub use progress::Progress;
 pub use refusal::Refusal;
-pub use unit::{Copied, ReadyUnit, Seat, SeatKind, Work};
+pub use restore::OpenRestore;
+pub use unit::{Copied, ReaderSeat, ReadyUnit, Seat, SeatKind, Work};

@@ -2,19 +2,21 @@
 ghost use Rattle.std.specs.Prelude.{◌≡◌, ◌==◌, IfOk, position};
 ghost use Rattle.esr_progress.specs.Plan.{no_plan};
 
-use crate::{OpenDelete, OpenOp, Seat};
+use crate::unit::Slot;
+use crate::{OpenDelete, OpenOp, OpenRestore};
 use std::alloc::{AllocError, Global};
 use std::marker::Model;
 
-/// The open ops and deletes by number, the numbers of ops in the order in which they completed, and what is kept of each
-/// ticket from 1 on.
+/// The open ops, deletes and restores by number, the numbers of ops in the order in which they completed, and what is kept of
+/// each ticket from 1 on.
 #[derive(Debug, Drop)]
 pub struct Progress {
     pub(crate) ops: Vec<OpenOp>,
     pub(crate) deletes: Vec<OpenDelete>,
     pub(crate) completed: Vec<u64>,
-    pub(crate) seats: Vec<Seat>,
+    pub(crate) seats: Vec<Slot>,
     pub(crate) next_op: u64,
+    pub(crate) restores: Vec<OpenRestore>,
 }
 
 impl Model for Progress {
@@ -27,9 +29,9 @@ impl Model for Progress {
 
     ghost use Rattle.esr_progress.specs.Inside.{plan_with, IsProgress};
 
-    ghost view = { λ a. plan_with a.ops.items a.deletes.items a.completed.items a.seats.items a.next_op };
+    ghost view = { λ a. plan_with a.ops.items a.deletes.items a.completed.items a.seats.items a.next_op a.restores.items };
 
-    ghost invariant = { λ a. IsProgress a.ops.items a.deletes.items a.next_op };
+    ghost invariant = { λ a. IsProgress a.ops.items a.deletes.items a.next_op a.restores.items };
 }
 
 impl Progress {
@@ -43,6 +45,7 @@ impl Progress {
             completed: Vec::new(alloc),
             seats: Vec::new(alloc),
             next_op: 1,
+            restores: Vec::new(alloc),
         }
     }
 
@@ -55,12 +58,14 @@ impl Progress {
             ops.push(op.try_clone(alloc)?)?;
         }
         let deletes = copy_deletes(alloc, &self.deletes)?;
+        let restores = copy_restores(alloc, &self.restores)?;
         Ok(Progress {
             ops,
             deletes,
             completed: Vec::from_slice(alloc, self.completed.as_slice())?,
             seats: Vec::from_slice(alloc, self.seats.as_slice())?,
             next_op: self.next_op,
+            restores,
         })
     }
 }
@@ -76,6 +81,28 @@ pub(crate) fn copy_deletes(
         copy.push(delete.try_clone(alloc)?)?;
     }
     Ok(copy)
+}
+
+pub(crate) fn copy_restores(
+    alloc: Global,
+    restores: &[OpenRestore],
+) -> Result<Vec<OpenRestore>, AllocError>
+    ensures { IfOk result (λ v. v.items ≡ restores.now) }
+{
+    let mut copy = Vec::with_capacity(alloc, restores.len())?;
+    for restore in restores {
+        copy.push(restore.try_clone(alloc)?)?;
+    }
+    Ok(copy)
+}
+
+/// Where the restore of a number stands.
+pub(crate) fn restore_place(restores: &[OpenRestore], number: u64) -> Option<usize>
+    ensures { result ≡ position (λ e. e.0 == number) restores.now }
+{
+    restores
+        .iter()
+        .position(|restore| restore.number() == number)
 }
 
 /// Where the op of a number stands.

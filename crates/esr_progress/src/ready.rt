@@ -7,16 +7,17 @@ ghost use Rattle.esr_core.specs.World.{World};
 ghost use Rattle.esr_formats.specs.Ids.{number_of};
 ghost use Rattle.esr_formats.specs.Roots.{root_of};
 ghost use Rattle.esr_formats.specs.Clusters.{count_of};
-ghost use Rattle.esr_progress.specs.Plan.{IsGivenIn, seat_of_code};
+ghost use Rattle.esr_progress.specs.Plan.{IsGivenIn, IsPlanOf, seat_of_code, reader_of_code};
 ghost use Rattle.esr_progress.specs.Inside.{numbers_of};
 ghost use Rattle.esr_progress.specs.Ops.{IsMost, Among, IsDoneAt};
-ghost use Rattle.esr_progress.specs.Units.{NextUnit};
-ghost use Rattle.esr_progress.specs.Choice.{goes_in, is_earliest, ready_of, IsFirstReady, IsPossible, IsWorkFor, IsSeatFor, IsBaseFor, given_entry};
+ghost use Rattle.esr_progress.specs.Units.{NextUnit, HasOpReady, HasUnread, IsLowest, LowestUnit};
+ghost use Rattle.esr_progress.specs.Choice.{goes_in, is_earliest, ready_of, IsFirstReady, IsPossible, IsWorkFor, IsSeatFor, IsBaseFor, given_entry, IsFirstUnread, given_restore, is_before};
 
 use crate::open_op::later;
-use crate::progress::copy_deletes;
+use crate::progress::{copy_deletes, copy_restores};
 use crate::seats::{swap_is_out, unit_is_out};
-use crate::{Copied, OpenOp, Progress, ReadyUnit, Seat, SeatKind, Work};
+use crate::unit::Slot;
+use crate::{Copied, OpenOp, OpenRestore, Progress, ReaderSeat, ReadyUnit, Seat, SeatKind, Work};
 use esr_names::{Id, ShardId};
 use esr_root::RootData;
 use std::alloc::{AllocError, Global};
@@ -41,6 +42,103 @@ impl Progress {
         requires no_delete { self.now.deletes ≡ fin.empty }
         requires room { self.now.next_ticket < 2 ^ 62 }
         ensures { IfOk result (λ o. (w : World) → IsGivenIn self.now (root_of root.now) (count_of safe) term w → NextUnit w o) }
+    {
+        if comes_first(self.unread_restore(), self.ready_op(term)) {
+            return self.restore_unit(alloc, root, safe);
+        }
+        self.op_unit(alloc, root, safe, term)
+    }
+
+    /// The number of the lowest op of which a unit is ready.
+    fn ready_op(&self, term: u64) -> Option<u64>
+        requires no_delete { self.now.deletes ≡ fin.empty }
+        ensures { (w : World) → IsPlanOf w self.now → w.term ≡ term → IsLowest (HasOpReady w) result }
+    {
+        let Some((at, _kind)) = find_ready(&self.ops, &self.completed, &self.seats, term) else {
+            return None;
+        };
+        Some(self.ops[at].number())
+    }
+
+    /// The number of the lowest restore of which a shard is unread.
+    fn unread_restore(&self) -> Option<u64>
+        ensures { (w : World) → IsPlanOf w self.now → IsLowest (HasUnread w) result }
+    {
+        let Some((at, _i)) = find_unread(&self.restores) else {
+            return None;
+        };
+        Some(self.restores[at].number())
+    }
+
+    /// The first unread shard of the lowest restore.
+    fn restore_unit(
+        &self,
+        alloc: Global,
+        root: &RootData,
+        safe: i64,
+    ) -> Result<Option<(Progress, ReadyUnit)>, AllocError>
+        requires room { self.now.next_ticket < 2 ^ 62 }
+        ensures { IfOk result (λ o. (w : World) (term : ℕ) → IsGivenIn self.now (root_of root.now) (count_of safe) term w → LowestUnit (HasUnread w) w o) }
+    {
+        let Some((at, i)) = find_unread(&self.restores) else {
+            return Ok(None);
+        };
+        let restore = &self.restores[at];
+        restore.rule();
+        let shard = restore.shard(i);
+        let ticket = self.seats.len() as u64 + 1;
+        let unit = ReadyUnit {
+            ticket,
+            op: restore.number(),
+            work: restore.work(alloc, i)?,
+            copy: Copied {
+                safe,
+                root: root.try_clone(alloc)?,
+                base: None,
+            },
+        };
+        let restores = given_restores(alloc, &self.restores, at, shard, ticket)?;
+        Ok(Some((self.with_reader(alloc, restores, unit.op, shard)?, unit)))
+    }
+
+    /// A copy with these restores, of which one ticket more is out.
+    fn with_reader(
+        &self,
+        alloc: Global,
+        restores: Vec<OpenRestore>,
+        op: u64,
+        shard: ShardId,
+    ) -> Result<Progress, AllocError>
+        requires { numbers_of restores.items ≡ numbers_of (fin.entries self.now.restores) }
+        ensures { IfOk result (λ p. p ≡ record self.now { restores = fin.from_entries restores.items; readers = fin.insert self.now.readers self.now.next_ticket (reader_of_code (record { op = op; shard = shard; out = true })); next_ticket = suc self.now.next_ticket }) }
+    {
+        let mut seats = Vec::from_slice(alloc, self.seats.as_slice())?;
+        seats.push(Slot::Reader(ReaderSeat {
+            op,
+            shard,
+            out: true,
+        }))?;
+        Ok(Progress {
+            ops: copy_ops(alloc, &self.ops)?,
+            deletes: copy_deletes(alloc, &self.deletes)?,
+            completed: Vec::from_slice(alloc, self.completed.as_slice())?,
+            seats,
+            next_op: self.next_op,
+            restores,
+        })
+    }
+
+    /// The first ready unit of the lowest op that is no restore.
+    fn op_unit(
+        &self,
+        alloc: Global,
+        root: &RootData,
+        safe: i64,
+        term: u64,
+    ) -> Result<Option<(Progress, ReadyUnit)>, AllocError>
+        requires no_delete { self.now.deletes ≡ fin.empty }
+        requires room { self.now.next_ticket < 2 ^ 62 }
+        ensures { IfOk result (λ o. (w : World) → IsGivenIn self.now (root_of root.now) (count_of safe) term w → LowestUnit (HasOpReady w) w o) }
     {
         let Some((at, kind)) = find_ready(&self.ops, &self.completed, &self.seats, term) else {
             return Ok(None);
@@ -76,26 +174,66 @@ impl Progress {
         ensures { IfOk result (λ p. p ≡ record self.now { ops = fin.from_entries ops.items; seats = fin.insert self.now.seats self.now.next_ticket (seat_of_code (record { kind = kind; op = op; term = term; raised = None; settled = false; out = true })); next_ticket = suc self.now.next_ticket }) }
     {
         let mut seats = Vec::from_slice(alloc, self.seats.as_slice())?;
-        seats.push(Seat {
+        seats.push(Slot::Ticket(Seat {
             kind,
             op,
             term,
             raised: None,
             settled: false,
             out: true,
-        })?;
+        }))?;
         Ok(Progress {
             ops,
             deletes: copy_deletes(alloc, &self.deletes)?,
             completed: Vec::from_slice(alloc, self.completed.as_slice())?,
             seats,
             next_op: self.next_op,
+            restores: copy_restores(alloc, &self.restores)?,
         })
     }
 }
 
+/// Whether a restore comes before an op, by their numbers, where both are there.
+fn comes_first(restore: Option<u64>, op: Option<u64>) -> bool
+    ensures { result ≡ is_before restore op }
+{
+    match (restore, op) {
+        (None, _) => false,
+        (Some(_), None) => true,
+        (Some(restore), Some(op)) => restore < op,
+    }
+}
+
+/// The first restore with an unread shard, by its place, and the place of that shard.
+fn find_unread(restores: &[OpenRestore]) -> Option<(usize, usize)>
+    ensures { IsFirstUnread restores.now result }
+{
+    for (at, restore) in restores.iter().enumerate() {
+        if let Some(i) = restore.first_unread() {
+            return Some((at, i));
+        }
+    }
+    None
+}
+
+/// A copy of the restores, in which the shard of the one at a place is given to the ticket.
+fn given_restores(
+    alloc: Global,
+    restores: &[OpenRestore],
+    at: usize,
+    shard: ShardId,
+    ticket: u64,
+) -> Result<Vec<OpenRestore>, AllocError>
+    requires { at < length restores.now }
+    ensures { IfOk result (λ v. IfSome (slice_get restores.now at) (λ e. v.items ≡ slice_set restores.now at (given_restore shard ticket e))) }
+{
+    let mut copy = copy_restores(alloc, restores)?;
+    copy[at].give(shard, ticket);
+    Ok(copy)
+}
+
 /// The first op with a ready unit, by its place, and which unit that is.
-fn find_ready(ops: &[OpenOp], completed: &[u64], seats: &[Seat], term: u64) -> Option<(usize, Kind)>
+fn find_ready(ops: &[OpenOp], completed: &[u64], seats: &[Slot], term: u64) -> Option<(usize, Kind)>
     ensures { IsFirstReady ops.now completed.now seats.now term result }
 {
     for (at, op) in ops.iter().enumerate() {
@@ -110,7 +248,7 @@ fn find_ready(ops: &[OpenOp], completed: &[u64], seats: &[Seat], term: u64) -> O
 fn ready_of(
     ops: &[OpenOp],
     completed: &[u64],
-    seats: &[Seat],
+    seats: &[Slot],
     term: u64,
     before: &[OpenOp],
     op: &OpenOp,

@@ -14,6 +14,10 @@ pub enum Refusal {
     TooMany { limit: u64 },
     /// The term has too few ids left from this one on.
     IdsSpent { next: Id },
+    /// No snapshot of this name is listed.
+    NoSnapshot,
+    /// This open delete names the snapshot.
+    BeingDeleted { op: u64 },
 }
 
 impl From<AllocError> for Refusal {

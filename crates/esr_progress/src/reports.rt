@@ -2,13 +2,14 @@
 ghost use Rattle.std.specs.Prelude.{◌≡◌, ℕ, false, Some, map, option_map, IfOk};
 ghost use Rattle.std.specs.FinMap as fin;
 ghost use Rattle.esr_model.specs.Values.{Formats};
-ghost use Rattle.esr_core.specs.World.{World, Ticket, Swap, swap, record_ops};
-ghost use Rattle.esr_core.specs.After.{change, raised, settled_of, done_of, failed_of, dropped_of};
+ghost use Rattle.esr_core.specs.World.{World, ReadState, Ticket, Swap, swap, record_ops};
+ghost use Rattle.esr_core.specs.After.{change, raised, settled_of, done_of, failed_of, dropped_of, read_over};
+ghost use Rattle.esr_core.specs.Restores.{waits};
 ghost use Rattle.esr_formats.specs.Clusters.{op_of};
 ghost use Rattle.esr_results.specs.Results.{result_of};
-ghost use Rattle.esr_progress.specs.Plan.{seat_of_code, IsPlanOf};
+ghost use Rattle.esr_progress.specs.Plan.{seat_of_code, reader_of_code, IsPlanOf};
 
-use crate::{Progress, Seat};
+use crate::{Progress, ReaderSeat, Seat};
 use esr_record::RecordOps;
 use esr_results::ShardResult;
 use std::alloc::{AllocError, Global};
@@ -18,7 +19,20 @@ impl Progress {
     pub fn seat(&self, ticket: u64) -> Option<Seat>
         ensures { option_map seat_of_code result ≡ fin.get self.now.seats ticket }
     {
-        crate::seats::seat_at(&self.seats, ticket)
+        match crate::seats::slot_at(&self.seats, ticket) {
+            Some(slot) => slot.seat(),
+            None => None,
+        }
+    }
+
+    /// What is kept of a restore's ticket.
+    pub fn reader(&self, ticket: u64) -> Option<ReaderSeat>
+        ensures { option_map reader_of_code result ≡ fin.get self.now.readers ticket }
+    {
+        match crate::seats::slot_at(&self.seats, ticket) {
+            Some(slot) => slot.reader(),
+            None => None,
+        }
     }
 
     /// The ops as the cluster record tells them.
@@ -53,6 +67,15 @@ impl Progress {
     {
         let mut copy = self.copy(alloc)?;
         copy.fail(term, ticket);
+        Ok(copy)
+    }
+
+    /// The list after a restore's ticket ended: its shard is restored, or failed. The restore leaves with its last shard.
+    pub fn shard_read(&self, alloc: Global, ticket: u64) -> Result<Progress, AllocError>
+        ensures { IfOk result (λ p. (w : World) (state : ReadState) → waits state ≡ false → IsPlanOf w self.now → IsPlanOf (read_over w ticket state (fin.get w.readers ticket)) p) }
+    {
+        let mut copy = self.copy(alloc)?;
+        copy.end_reader(ticket);
         Ok(copy)
     }
 

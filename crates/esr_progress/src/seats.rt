@@ -1,35 +1,78 @@
 //! What is kept of tickets.
-ghost use Rattle.std.specs.Prelude.{◌≡◌};
+ghost use Rattle.std.specs.Prelude.{◌≡◌, option_map};
 ghost use Rattle.std.specs.List.{list_any};
-ghost use Rattle.esr_progress.specs.Plan.{seat_of_code};
-ghost use Rattle.esr_progress.specs.Seats.{seat_at, is_swap_out, is_unit_out};
+ghost use Rattle.esr_progress.specs.Plan.{seat_of_code, reader_of_code};
+ghost use Rattle.esr_progress.specs.Seats.{seat_at, seat_in, reader_in, holds, is_swap_out, is_unit_out};
 
-use crate::{Seat, SeatKind};
+use crate::unit::Slot;
+use crate::{ReaderSeat, Seat, SeatKind};
 
-/// What is kept of a ticket: they are numbered from 1 on.
-pub(crate) fn seat_at(seats: &[Seat], ticket: u64) -> Option<Seat>
-    ensures { result ≡ seat_at seats.now ticket }
+impl Slot {
+    /// What is kept of a ticket.
+    pub(crate) fn seat(self) -> Option<Seat>
+        ensures { option_map seat_of_code result ≡ seat_in self }
+    {
+        match self {
+            Slot::Ticket(seat) => Some(seat),
+            Slot::Reader(_) => None,
+        }
+    }
+
+    /// What is kept of a restore's ticket.
+    pub(crate) fn reader(self) -> Option<ReaderSeat>
+        ensures { option_map reader_of_code result ≡ reader_in self }
+    {
+        match self {
+            Slot::Ticket(_) => None,
+            Slot::Reader(reader) => Some(reader),
+        }
+    }
+
+    /// Whether it is a swap of the term that is out.
+    fn is_swap_out(&self, term: u64) -> bool
+        ensures { result ≡ holds (is_swap_out term) (seat_in self.now) }
+    {
+        match self {
+            Slot::Ticket(seat) => {
+                seat.out && !seat.settled && seat.term == term && seat.kind == SeatKind::Finalize
+            }
+            Slot::Reader(_) => false,
+        }
+    }
+
+    /// Whether it is a unit of the op that is out: a shard's of any term, another's of this one.
+    fn is_unit_out(&self, term: u64, op: u64) -> bool
+        ensures { result ≡ holds (is_unit_out term op) (seat_in self.now) }
+    {
+        match self {
+            Slot::Ticket(seat) => {
+                seat.out && seat.op == op && (seat.kind.is_of_shard() || seat.term == term)
+            }
+            Slot::Reader(_) => false,
+        }
+    }
+}
+
+/// What is kept under a number: they begin with 1.
+pub(crate) fn slot_at(slots: &[Slot], ticket: u64) -> Option<Slot>
+    ensures { result ≡ seat_at slots.now ticket }
 {
     if ticket == 0 {
         return None;
     }
-    seats.get(ticket as usize - 1).copied()
+    slots.get(ticket as usize - 1).copied()
 }
 
 /// Whether a swap of the term is out.
-pub(crate) fn swap_is_out(seats: &[Seat], term: u64) -> bool
-    ensures { result ≡ list_any (λ s. is_swap_out term (seat_of_code s)) seats.now }
+pub(crate) fn swap_is_out(slots: &[Slot], term: u64) -> bool
+    ensures { result ≡ list_any (λ s. holds (is_swap_out term) (seat_in s)) slots.now }
 {
-    seats.iter().any(|seat| {
-        seat.out && !seat.settled && seat.term == term && seat.kind == SeatKind::Finalize
-    })
+    slots.iter().any(|slot| slot.is_swap_out(term))
 }
 
-/// Whether a unit of the op is out: a shard's of any term, another's of this one.
-pub(crate) fn unit_is_out(seats: &[Seat], term: u64, op: u64) -> bool
-    ensures { result ≡ list_any (λ s. is_unit_out term op (seat_of_code s)) seats.now }
+/// Whether a unit of the op is out.
+pub(crate) fn unit_is_out(slots: &[Slot], term: u64, op: u64) -> bool
+    ensures { result ≡ list_any (λ s. holds (is_unit_out term op) (seat_in s)) slots.now }
 {
-    seats.iter().any(|seat| {
-        seat.out && seat.op == op && (seat.kind.is_of_shard() || seat.term == term)
-    })
+    slots.iter().any(|slot| slot.is_unit_out(term, op))
 }

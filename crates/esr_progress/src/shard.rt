@@ -164,6 +164,20 @@ pub(crate) fn first_free(shards: &[OpenShard], ops: &[OpenOp]) -> Option<usize>
     shards.iter().position(|open| open.state.is_pending() && !wait_on(ops, open.shard))
 }
 
+/// The place of the first that is pending.
+pub(crate) fn first_unread(shards: &[OpenShard]) -> Option<usize>
+    ensures { result ≡ position (λ s. is_pending (state_of s.state)) shards.now }
+{
+    shards.iter().position(|open| open.state.is_pending())
+}
+
+/// Whether one is pending or out.
+pub(crate) fn any_waits(shards: &[OpenShard]) -> bool
+    ensures { result ≡ list_any (λ s. waits (state_of s.state)) shards.now }
+{
+    shards.iter().any(|open| open.state.waits())
+}
+
 /// Gives those of this id and number to a ticket.
 pub(crate) fn give(shards: &mut Vec<OpenShard>, shard: ShardId, ticket: u64)
     ensures { shards.new.items ≡ map (given_open ticket shard) shards.old.items }

@@ -80,3 +80,12 @@ fn a_command_beside_a_thousand_open_ops_is_refused(rt: HostRuntime) -> Result<()
     );
     Ok(())
 }
+
+#[test]
+fn a_name_that_is_not_listed_is_not_restored(rt: HostRuntime) -> Result<(), Fail> {
+    let root = RootData::new(rt.alloc());
+    let list = Progress::new(rt.alloc());
+    let name = SnapName::new(rt.alloc(), "s1")?;
+    assert_eq!(rt; list.restorable(&root, &name), Err(Refusal::NoSnapshot));
+    Ok(())
+}

@@ -26,6 +26,13 @@ pub enum Work {
     },
     /// Takes away an op that failed.
     Drop,
+    /// Restores the files of a shard of the snapshot `uuid`.
+    RestoreShard {
+        uuid: Id,
+        shard: ShardId,
+        index: IndexName,
+        place: Text,
+    },
 }
 
 /// What a unit may rely on, copied as it was given: the safe root with its generation (-1: none), and the largest live
@@ -64,6 +71,21 @@ pub struct Seat {
     pub raised: Option<u64>,
     pub settled: bool,
     pub out: bool,
+}
+
+/// What is kept of a restore's ticket: its op, its shard, and whether it is out. It belongs to no term.
+#[derive(Clone, Copy, Debug, PartialEq, Eq)]
+pub struct ReaderSeat {
+    pub op: u64,
+    pub shard: ShardId,
+    pub out: bool,
+}
+
+/// What is kept under a number: of a ticket, or of a restore's.
+#[derive(Clone, Copy, Debug, PartialEq, Eq)]
+pub(crate) enum Slot {
+    Ticket(Seat),
+    Reader(ReaderSeat),
 }
 
 impl SeatKind {

@@ -8,7 +8,7 @@ use Rattle.esr_model.specs.Values.{Bytes, Has, ShardFiles, Formats, Kind}
 use Rattle.esr_model.specs.Image.{Image}
 use Rattle.esr_core.specs.World.{World, Shard, Ticket}
 use Rattle.esr_core.specs.Steps.{IsOut}
-use Rattle.esr_core.specs.Entry.{Why, OfDepot, OfSource, OfChange, OfDamage, Step, FetchStep, FailedStep, Reply, WasAbsent, HasEnded, Moment}
+use Rattle.esr_core.specs.Entry.{Asked, Snapshot, Restore, Why, OfDepot, OfSource, OfChange, OfDamage, OfTaken, OfIdsSpent, OfGenerationsSpent, OfTarget, OfPrint, OfDisagreement, Step, FetchStep, FailedStep, Refusal, NameTaken, IdsSpent, GenerationsSpent, Reply, WasAbsent, HasEnded, Refused, Moment}
 use Rattle.esr_core.specs.Allowed as allowed
 use Rattle.esr_core.specs.Allowed.{Told, Fetches, Fails, Allows, Allowed}
 use Rattle.esr_formats.specs.Formats.{formats}
@@ -20,12 +20,14 @@ use Rattle.esr_desk.specs.declared.fault.By.{By}
 use Rattle.esr_desk.specs.declared.fault.By.TheVariants as by
 use Rattle.esr_desk.specs.Start.{Start, formats_of, world_of, or_no_ticket, ticket_of}
 use Rattle.esr_desk.specs.Damage.{IsBase, BaseFault, WasMissing, IsBad}
-use Rattle.esr_desk.specs.Shown.{Counts, DepotShown, SourceShown, ReadShown, IsShown, IsUntold, HadFault, AreShown}
-use Rattle.esr_quiet.specs.Smooth.{IsSmooth, NoneFailed}
+use Rattle.esr_desk.specs.Shown.{Counts, DepotShown, SourceShown, ReadShown, StepShown, IsShown, IsUntold, HadFault, HadRefusal, AreShown}
+use Rattle.esr_quiet.specs.Refusals.{IsByRule}
+use Rattle.esr_quiet.specs.Smooth.{IsSpent, IsSmooth, NoneFailed}
 use Rattle.esr_quiet.specs.Prefixes.{Prefixes}
 use Rattle.esr_quiet.proofs.Prefixes.{told_at, place_of, has_front, has_at}
 use Rattle.esr_quiet.proofs.Passing.{quiet_at, legal_at}
 use Rattle.esr_quiet.proofs.Bases.{is_there, does_read, not_ahead}
+use Rattle.esr_quiet.proofs.Rules.{by_rule}
 
 -- ---- what a step tells
 
@@ -124,12 +126,38 @@ module _ (s : Start) (log : List Moment) (smooth : IsSmooth s log) (prefixes : P
   damage : (front back : List Moment) → log ≡ front ++ back → (who : ℕ) → IsOut (world_of s front) who (ticket_of s front who) → (name : BlobName) → IsBase (ticket_of s front who) name → BaseFault s front who name → ⊥
   damage front back is who out name base h = elim h [ inl m ↦ missing front back is who name m | inr b ↦ bad front back is who (ticket_of s front who) out name base b.0 (b.1 smooth.tells) b.2 ]
 
+  step_shown : {S F H T : Type 0} (b : By S F H T) (shown : Type 0) → StepShown b shown → shown
+  step_shown (by.Object object) shown h = absurd h
+  step_shown by.Entry shown h = h
+  step_shown by.Nothing shown h = absurd h
+
+  had : (front back : List Moment) → log ≡ front ++ back → (who : ℕ) (refusal : Refusal) (h : HadRefusal front who refusal) → Has log h.moment
+  had front back is who refusal h = subst (λ (l : List Moment). Has l h.moment) (sym is) (has_front front back h.moment (subst (λ (l : List Moment). Has l h.moment) (sym h.is) (has_at h.front h.back h.moment)))
+
+  no_rule : (command : Asked) (name : BlobName) → IsByRule command (NameTaken name) → ⊥
+  no_rule (Snapshot of indices time) name h = h
+  no_rule (Restore of place) name h = h
+
+  -- no name is taken
+  untaken : (front back : List Moment) → log ≡ front ++ back → (who : ℕ) (name : BlobName) → HadRefusal front who (NameTaken name) → ⊥
+  untaken front back is who name h = let x = by_rule s log smooth prefixes h.moment (NameTaken name) (had front back is who (NameTaken name) h) h.reply in no_rule x.0.0 name x.1
+
+  -- and no number is spent
+  unspent : (front back : List Moment) → log ≡ front ++ back → (who : ℕ) (refusal : Refusal) → IsSpent (Refused refusal) → HadRefusal front who refusal → ⊥
+  unspent front back is who refusal spent h = smooth.unspent h.moment (had front back is who refusal h) (subst IsSpent (sym h.reply) spent)
+
   -- no cause is shown
   shows : {S F H T : Type 0} (c : Counts S F H T) (front back : List Moment) → log ≡ front ++ back → (who : ℕ) → IsOut (world_of s front) who (ticket_of s front who) → (why : Why) (b : By S F H T) → IsShown c s front who why b → ⊥
   shows c front back is who out OfDepot b h = depot c front who (λ m has. subst (λ (l : List Moment). Has l m) (sym is) (has_front front back m has)) b h
   shows c front back is who out OfSource b h = source c (ticket_of s front who) ((quiet_at s log smooth front back is).tickets who (ticket_of s front who) out.there).steady b h
   shows c front back is who out (OfChange first_len first_digest second_len second_digest) b h = untold (ticket_of s front who) (read_shown b _ h).1
   shows c front back is who out (OfDamage name) b h = let x = read_shown b _ h in damage front back is who out name x.0 x.1
+  shows c front back is who out (OfTaken name) b h = untaken front back is who name (step_shown b _ h)
+  shows c front back is who out (OfIdsSpent next) b h = unspent front back is who (IdsSpent next) tt (step_shown b _ h)
+  shows c front back is who out (OfGenerationsSpent pending) b h = unspent front back is who (GenerationsSpent pending) tt (step_shown b _ h)
+  shows c front back is who out OfTarget b h = h
+  shows c front back is who out (OfPrint name stated_len stated_digest found_len found_digest) b h = h
+  shows c front back is who out (OfDisagreement name other) b h = h
 
   pub none_failed : {S F H T : Type 0} (c : Counts S F H T) (faults : List (Fault S F H T)) → AreShown c s log faults → NoneFailed log
   none_failed c faults shown m why has step reply =

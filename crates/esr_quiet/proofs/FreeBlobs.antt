@@ -7,6 +7,7 @@ use Rattle.esr_model.specs.Shelf.{Shelved}
 use Rattle.esr_model.specs.Image.{IsStored, Blobs, At, Present, Reads, IndexStands}
 use Rattle.esr_core.specs.World.{World, Op, ShardWork, Pending, Work, Shard, Finalize, Deleting, Drop, Ticket, Swap, swap, swap_of, HeldIn}
 use Rattle.esr_core.specs.Generations.{Base, ShardLaw}
+use Rattle.esr_core.specs.Restores.{IsTestOf}
 use Rattle.esr_core.specs.Steps.{IsOut, SwapCommits, ShardCommits, MayCommit}
 use Rattle.esr_core.specs.Ids.{Law}
 use Rattle.esr_core.proofs.Adds.{at_was}
@@ -17,7 +18,7 @@ use Rattle.esr_core.proofs.SettleShards.{of_swap}
 use Rattle.esr_core.proofs.Take.{Kinds, IsSnap, IsMeta, IsIndex, kinds}
 use Rattle.esr_quiet.specs.Free.{IsInUse}
 use Rattle.esr_quiet.proofs.FreeFrame.{IsFree, Follows}
-use Rattle.esr_quiet.proofs.FreeNames.{one_place}
+use Rattle.esr_quiet.proofs.FreeNames.{one_place, commits_no_test}
 use Rattle.esr_quiet.proofs.FreeParts.{own_put}
 
 -- ---- generations in use
@@ -60,6 +61,16 @@ module _ (f : Formats) (w : World) (shelf : List Shelved) (law : Law f w shelf) 
   -- what some shard's ticket may commit it commits as a shard's
   as_shard : (u : Ticket) → ShardCommits u name → ShardCommits t name
   as_shard u c = elim may [ inl h ↦ absurd (no_swap h.0 h.1 h.2 u c) | inr h ↦ h.1 ]
+
+  -- and no test blob
+  no_test : (id : ℕ) → IsTestOf id name → ⊥
+  no_test id test = elim may [
+    | inl h ↦ elim h.2 [
+      | inl own ↦ ((law.lawful.sound.rooted.tickets k t out.there).shape h.0 h.1).no_test id name bytes own test
+      | inr r ↦ subst (IsTestOf id) r.1 test
+    ]
+    | inr h ↦ commits_no_test t name h.1 id test
+  ]
 
   -- and a root as the one that it raised
   as_root : (n : ℕ) → name ≡ Root n → t.raised ≡ Some n
@@ -161,6 +172,7 @@ module _ (f : Formats) (w : World) (shelf : List Shelved) (law : Law f w shelf) 
           unlisted = λ o op s g held list there m waits used reads in_list.
               let was = used_was s.ref.id s.number g used in
               l.free.unlisted o op s g held list there m waits was (reads_was s.ref.id s.number g held was reads) in_list;
+          tests = λ id m drawn test p. elim (at_old m p.0 p.1) [ inl is ↦ absurd (no_test f w shelf law l k t out name bytes may id (subst (IsTestOf id) is test)) | inr old ↦ l.free.tests id m drawn test (p.0, old) ];
         };
         no_deletes = λ j u uuids plan e work. elim (was_in w.tickets k v j u e) [
           | inl x ↦ l.no_deletes k t uuids plan out.there (sym like.work ∙ ap (λ (y : Ticket). y.work) x.1 ∙ work)

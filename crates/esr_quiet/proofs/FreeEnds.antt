@@ -22,7 +22,7 @@ use Rattle.esr_core.proofs.Results.{done_same, found_done}
 use Rattle.esr_core.proofs.SettleShards.{of_swap}
 use Rattle.esr_core.proofs.Staging.{larger_is}
 use Rattle.esr_quiet.proofs.FreeFrame.{IsFree, ListsDone, Waited, framed}
-use Rattle.esr_quiet.proofs.FreeParts.{follows_same, came_put, own_put, WaitedBy, waited_as, waited_map, live_left}
+use Rattle.esr_quiet.proofs.FreeParts.{tests_was, follows_same, came_put, own_put, WaitedBy, waited_as, waited_map, live_left}
 
 -- ---- a shard is done
 
@@ -138,7 +138,7 @@ module _ (f : Formats) (size : ℕ) (w : World) (shelf : List Shelved) (law : La
       (came_put f w k t (record t { out = false }) out.there (follows_same f w t (record t { out = false }) refl refl (λ e. absurd (true≢false (sym e))) (λ name h. h) refl refl refl refl))
       (own_put w.tickets l.free.own_root k t (record t { out = false }) out.there refl)
       (λ p q s e m waits. inl (waited_map w t.op op op_now (marked k (Done r)) op_there refl refl (λ x x_there x_waits. marked_waits k r x x_waits) p q s e m waits))
-      live_done back
+      live_done back (tests_was f w l blobs back)
 
 -- ---- a settle
 

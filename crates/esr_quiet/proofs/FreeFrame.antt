@@ -1,4 +1,4 @@
--- Where a step adds no blob, what is free stays free.
+-- Where a step adds no blob but a test blob, what is free stays free.
 use Rattle.std.proofs.Common.{◌≡◌, ◌≢◌, ◌⊎◌, ℕ, List, true, Option, Some, None, refl, sym, ◌∙◌, subst, inl, inr}
 use Rattle.std.specs.Ordering.{nat_cmp}
 use Rattle.std.specs.FinMap.{FinMap}
@@ -9,9 +9,11 @@ use Rattle.esr_model.specs.Image.{At, Present, Reads}
 use Rattle.esr_core.specs.World.{World, Op, ShardWork, Pending, Shard, Deleting, Ticket, Swap}
 use Rattle.esr_core.specs.Generations.{IsLive}
 use Rattle.esr_core.specs.Ready.{Waits}
+use Rattle.esr_core.specs.Restores.{IsTestOf}
 use Rattle.esr_core.specs.Steps.{ShardCommits}
 use Rattle.esr_core.proofs.Reading.{none_some}
-use Rattle.esr_quiet.specs.Free.{IsInUse, Free}
+use Rattle.esr_quiet.specs.Free.{IsInUse, AreOwnTests, Free}
+use Rattle.esr_quiet.proofs.FreeNames.{commits_no_test}
 
 -- no ticket is that of a delete
 abbrev pub NoDeletes : World → Type 0
@@ -72,33 +74,33 @@ module _ (f : Formats) (w v : World) (l : IsFree f w)
     (tickets : (k : ℕ) (t : Ticket) → fin.get v.tickets k ≡ Some t → Came f w k t) (own : OwnRoots v.tickets)
     (ops : (o : ℕ) (op : Op) (s : ShardWork) → fin.get v.ops o ≡ Some op → Has op.shards s → Waits s.state → Waited w op s ⊎ IsNewShard f w op s)
     (live : (index number g : ℕ) → IsLive v.root v.ops index number g → IsLive w.root w.ops index number g ⊎ ListsDone f w v index number g)
-    (blobs : (name : BlobName) (b : Bytes) → At f v.blobs name b → At f w.blobs name b) where
-  was : (name : BlobName) → Present f v.blobs name → Present f w.blobs name
-  was name p = (p.0, blobs name p.0 p.1)
+    (blobs : (name : BlobName) (b : Bytes) → ((id : ℕ) → IsTestOf id name → ⊥) → At f v.blobs name b → At f w.blobs name b) (tests : AreOwnTests f v.blobs v.caller) where
+  was : (name : BlobName) → ((id : ℕ) → IsTestOf id name → ⊥) → Present f v.blobs name → Present f w.blobs name
+  was name no_test p = (p.0, blobs name p.0 no_test p.1)
 
-  reads_was : (name : BlobName) (held : ShardFiles) → Reads (At f v.blobs) name f.shard_index held → Reads (At f w.blobs) name f.shard_index held
-  reads_was name held r = record { bytes = r.bytes; there = blobs name r.bytes r.there; reads = r.reads }
+  reads_was : (i n g : ℕ) (held : ShardFiles) → Reads (At f v.blobs) (ShardIndex i n g) f.shard_index held → Reads (At f w.blobs) (ShardIndex i n g) f.shard_index held
+  reads_was i n g held r = record { bytes = r.bytes; there = blobs (ShardIndex i n g) r.bytes (λ id test. test) r.there; reads = r.reads }
 
   shards_on : (k : ℕ) (t : Ticket) (name : BlobName) → fin.get v.tickets k ≡ Some t → t.out ≡ true → ShardCommits t name → Present f v.blobs name → Has t.noted name
   shards_on k t name there out commits p = elim (tickets k t there) [
     | inl h ↦ elim (h.2.commits name commits) [
-      | inl c ↦ h.2.noted name (l.free.shards k h.0 name h.1 (h.2.out out) c (was name p))
-      | inr none ↦ absurd (none (was name p))
+      | inl c ↦ h.2.noted name (l.free.shards k h.0 name h.1 (h.2.out out) c (was name (commits_no_test t name commits) p))
+      | inr none ↦ absurd (none (was name (commits_no_test t name commits) p))
     ]
-    | inr new ↦ absurd (new.commits name commits (was name p))
+    | inr new ↦ absurd (new.commits name commits (was name (commits_no_test t name commits) p))
   ]
 
   pending_on : (o : ℕ) (op : Op) (s : ShardWork) → fin.get v.ops o ≡ Some op → Has op.shards s → s.state ≡ Pending → Present f v.blobs (ShardSnap s.ref.id s.number op.uuid) → ⊥
   pending_on o op s there m state p = elim (ops o op s there m (subst Waits (sym state) tt)) [
-    | inl h ↦ l.free.pending h.number h.old h.z h.there h.z_there (h.pending state) (subst (λ name. Present f w.blobs name) (λ j. ShardSnap (sym h.index j) (sym h.shard j) (sym h.uuid j)) (was (ShardSnap s.ref.id s.number op.uuid) p))
-    | inr h ↦ h.absent (was (ShardSnap s.ref.id s.number op.uuid) p)
+    | inl h ↦ l.free.pending h.number h.old h.z h.there h.z_there (h.pending state) (subst (λ name. Present f w.blobs name) (λ j. ShardSnap (sym h.index j) (sym h.shard j) (sym h.uuid j)) (was (ShardSnap s.ref.id s.number op.uuid) (λ id test. test) p))
+    | inr h ↦ h.absent (was (ShardSnap s.ref.id s.number op.uuid) (λ id test. test) p)
   ]
 
   roots_on : (k n : ℕ) (t : Ticket) → fin.get v.tickets k ≡ Some t → t.raised ≡ Some n → Present f v.blobs (Root n) → Has t.noted (Root n)
   roots_on k n t there raised p = elim (tickets k t there) [
     | inl h ↦ elim (h.2.raised n raised) [
-      | inl r ↦ h.2.noted (Root n) (l.free.roots k n h.0 h.1 r (was (Root n) p))
-      | inr none ↦ absurd (none (was (Root n) p))
+      | inl r ↦ h.2.noted (Root n) (l.free.roots k n h.0 h.1 r (was (Root n) (λ id test. test) p))
+      | inr none ↦ absurd (none (was (Root n) (λ id test. test) p))
     ]
     | inr new ↦ absurd (none_some n (sym new.unraised ∙ raised))
   ]
@@ -116,21 +118,30 @@ module _ (f : Formats) (w v : World) (l : IsFree f w)
   unlisted_on : (o : ℕ) (op : Op) (s : ShardWork) (g : ℕ) (held : ShardFiles) (list : SnapList) → fin.get v.ops o ≡ Some op → Has op.shards s → Waits s.state → IsInUse v s.ref.id s.number g
       → Reads (At f v.blobs) (ShardIndex s.ref.id s.number g) f.shard_index held → Has held.snapshots list → list.uuid ≢ op.uuid
   unlisted_on o op s g held list there m waits (inl h) reads in_list = elim (live s.ref.id s.number g h) [
-    | inl old ↦ unlisted_by op s g held list (ops o op s there m waits) (inl old) (reads_was (ShardIndex s.ref.id s.number g) held reads) in_list
-    | inr done ↦ done o op s held list there m waits refl refl (reads_was (ShardIndex s.ref.id s.number g) held reads) in_list
+    | inl old ↦ unlisted_by op s g held list (ops o op s there m waits) (inl old) (reads_was s.ref.id s.number g held reads) in_list
+    | inr done ↦ done o op s held list there m waits refl refl (reads_was s.ref.id s.number g held reads) in_list
   ]
   unlisted_on o op s g held list there m waits (inr b) reads in_list =
       unlisted_by op s g held list (ops o op s there m waits) (elim (tickets b.ticket b.t b.there) [
         | inl h ↦ inr (record { ticket = b.ticket; t = h.0; there = h.1; out = h.2.out b.out; work = sym h.2.work ∙ b.work; base_is = sym h.2.base ∙ b.base_is })
         | inr new ↦ inl (new.base s.ref.id s.number g b.work b.base_is)
-      ]) (reads_was (ShardIndex s.ref.id s.number g) held reads) in_list
+      ]) (reads_was s.ref.id s.number g held reads) in_list
 
-  pub framed : IsFree f v
-  framed =
+  -- also where test blobs are added
+  pub framed_aside : IsFree f v
+  framed_aside =
       record {
-        free = record { shards = shards_on; pending = pending_on; roots = roots_on; own_root = own; unlisted = unlisted_on };
+        free = record { shards = shards_on; pending = pending_on; roots = roots_on; own_root = own; unlisted = unlisted_on; tests = tests };
         no_deletes = λ k t uuids plan there work. elim (tickets k t there) [
           | inl h ↦ l.no_deletes k h.0 uuids plan h.1 (sym h.2.work ∙ work)
           | inr new ↦ new.no_delete uuids plan work
         ];
       }
+
+module _ (f : Formats) (w v : World) (l : IsFree f w)
+    (tickets : (k : ℕ) (t : Ticket) → fin.get v.tickets k ≡ Some t → Came f w k t) (own : OwnRoots v.tickets)
+    (ops : (o : ℕ) (op : Op) (s : ShardWork) → fin.get v.ops o ≡ Some op → Has op.shards s → Waits s.state → Waited w op s ⊎ IsNewShard f w op s)
+    (live : (index number g : ℕ) → IsLive v.root v.ops index number g → IsLive w.root w.ops index number g ⊎ ListsDone f w v index number g)
+    (blobs : (name : BlobName) (b : Bytes) → At f v.blobs name b → At f w.blobs name b) (tests : AreOwnTests f v.blobs v.caller) where
+  pub framed : IsFree f v
+  framed = framed_aside f w v l tickets own ops live (λ name b no_test h. blobs name b h) tests

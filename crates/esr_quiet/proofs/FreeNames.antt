@@ -1,8 +1,9 @@
--- The names that a shard's ticket may commit.
+-- The names that a shard's ticket may commit, and those of test blobs.
 use Rattle.std.proofs.Common.{◌≡◌, ◌⊎◌, ℕ, ◌+◌, ◌<◌, ◌≤◌, sym, ◌∙◌, subst, inl, inr, arith}
 use Rattle.esr_model.specs.Names.{BlobName, Root, Latest, Snap, Meta, IndexMeta, ShardSnap, ShardIndex, File, Part, TestMaster, TestNode}
 use Rattle.esr_model.specs.Kept.{IdsBelow}
 use Rattle.esr_core.specs.World.{Shard, Ticket}
+use Rattle.esr_core.specs.Restores.{IsTestOf}
 use Rattle.esr_core.specs.Steps.{Drew, ShardCommits}
 
 drew_same : (t v : Ticket) (id : ℕ) → v.first ≡ t.first → v.drawn ≡ t.drawn → Drew v id → Drew t id
@@ -66,3 +67,31 @@ drawn_new t first n (File i k x) h = inr (λ b. let a : first ≤ x = h.1.from i
 drawn_new t first n (Part i k x p) h = inr (λ b. let a : first ≤ x = h.1.from in let c : x < first = b.1 in omega (arith, a, c))
 drawn_new t first n (TestMaster x) h = absurd h
 drawn_new t first n (TestNode x m) h = absurd h
+
+-- none is a test blob
+pub commits_no_test : (t : Ticket) (name : BlobName) → ShardCommits t name → (id : ℕ) → IsTestOf id name → ⊥
+commits_no_test t (Root n) h id test = h
+commits_no_test t Latest h id test = h
+commits_no_test t (Snap u) h id test = h
+commits_no_test t (Meta u) h id test = h
+commits_no_test t (IndexMeta i u) h id test = h
+commits_no_test t (ShardSnap i k u) h id test = test
+commits_no_test t (ShardIndex i k g) h id test = test
+commits_no_test t (File i k x) h id test = test
+commits_no_test t (Part i k x p) h id test = test
+commits_no_test t (TestMaster u) h id test = h
+commits_no_test t (TestNode u n) h id test = h
+
+-- the id of a test blob that is there is below the next one
+pub test_id_below : (id : ℕ) (name : BlobName) (next : ℕ) → IsTestOf id name → IdsBelow name next → id < next
+test_id_below id (Root n) next test below = absurd test
+test_id_below id Latest next test below = absurd test
+test_id_below id (Snap u) next test below = absurd test
+test_id_below id (Meta u) next test below = absurd test
+test_id_below id (IndexMeta i u) next test below = absurd test
+test_id_below id (ShardSnap i k u) next test below = absurd test
+test_id_below id (ShardIndex i k g) next test below = absurd test
+test_id_below id (File i k x) next test below = absurd test
+test_id_below id (Part i k x p) next test below = absurd test
+test_id_below id (TestMaster u) next test below = subst (λ x. x < next) test below
+test_id_below id (TestNode u n) next test below = subst (λ x. x < next) test below

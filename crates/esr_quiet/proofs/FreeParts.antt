@@ -5,21 +5,32 @@ use Rattle.std.specs.FinMap.{FinMap}
 use Rattle.std.specs.FinMap as fin
 use Rattle.esr_model.specs.Names.{BlobName}
 use Rattle.esr_model.specs.Values.{Bytes, Has, IndexRef, RootData, Formats}
-use Rattle.esr_model.specs.Image.{Image, At}
-use Rattle.esr_core.specs.World.{World, Op, ShardWork, Pending, Ticket}
+use Rattle.esr_model.specs.Image.{Image, Blobs, At}
+use Rattle.esr_core.specs.World.{World, Op, ShardWork, Pending, Ticket, Caller}
 use Rattle.esr_core.specs.Generations.{DoneAt, IsLive}
 use Rattle.esr_core.specs.Ready.{Waits}
 use Rattle.esr_core.specs.Allowed.{SameBlobs}
 use Rattle.esr_core.specs.After.{blobs_in}
 use Rattle.esr_core.proofs.Queues.{was_in, left_in}
 use Rattle.esr_core.proofs.Reading.{none_some, Has-mapped}
-use Rattle.esr_quiet.proofs.FreeFrame.{OwnRoots, Follows, IsNewTicket, Came, Waited}
+use Rattle.esr_quiet.specs.Free.{AreOwnTests}
+use Rattle.esr_quiet.proofs.FreeFrame.{IsFree, OwnRoots, Follows, IsNewTicket, Came, Waited}
 use Rattle.esr_quiet.proofs.FreeNames.{commits_same}
 
 -- the blobs after a step that leaves them
 pub at_same : (f : Formats) (w : World) (image : Option Image) → SameBlobs w image → (name : BlobName) (b : Bytes) → At f (blobs_in image w.blobs) name b → At f w.blobs name b
 at_same f w None same name b h = h
 at_same f w (Some i) same name b h = subst (λ x. At f x name b) same h
+
+-- ---- test blobs
+
+-- what is there was there
+pub tests_was : (f : Formats) (w : World) → IsFree f w → (blobs : Blobs) → ((name : BlobName) (b : Bytes) → At f blobs name b → At f w.blobs name b) → AreOwnTests f blobs w.caller
+tests_was f w l blobs back id name drawn test p = l.free.tests id name drawn test (p.0, back name p.0 p.1)
+
+-- no verification is open
+pub tests_none : (f : Formats) (blobs : Blobs) (caller : Caller) → caller.drawn ≡ None → AreOwnTests f blobs caller
+tests_none f blobs caller none id name drawn test p = absurd (none_some id (sym none ∙ drawn))
 
 -- ---- tickets
 

@@ -1,14 +1,16 @@
 -- Tickets are numbered from one on.
-use Rattle.std.proofs.Common.{◌≡◌, ◌≢◌, ℕ, suc, ◌≤◌, Bool, true, false, List, [], ◌∷◌, ◌++◌, Option, Some, None, refl, sym, ap, ◌∙◌, subst, inl, inr, arith}
+use Rattle.std.proofs.Common.{◌≡◌, ℕ, zero, suc, ◌≤◌, Bool, true, false, List, [], ◌∷◌, Option, Some, None, refl, sym, ap, ◌∙◌, arith}
 use Rattle.std.specs.Prelude.{if◌then◌else◌}
 use Rattle.std.specs.FinMap as fin
-use Rattle.esr_model.specs.Values.{ShardResult, Formats}
+use Rattle.esr_model.specs.Names.{BlobName}
+use Rattle.esr_model.specs.Values.{Bytes, ShardResult, Formats}
 use Rattle.esr_model.specs.Image.{Image}
-use Rattle.esr_core.specs.World.{World, Op, ShardWork, Drop, Swap, Ticket, swap, record_of}
+use Rattle.esr_core.specs.World.{World, Op, ShardWork, Drop, Swap, Ticket, ReadState, Restored, NotRestored, RestoreShard, Restoring, Reader, swap, record_of}
+use Rattle.esr_core.specs.Restores.{restore_shard}
 use Rattle.esr_core.specs.Steps.{noting, shard_ticket, final_ticket}
 use Rattle.esr_core.specs.Turns.{plain_ticket}
-use Rattle.esr_core.specs.Entry.{Asked, Snapshot, Given, GivenShard, GivenFinalize, GivenDrop, Step, AskStep, TakeStep, DrawStep, BeginStep, CommitStep, LatestStep, FetchStep, RaiseStep, SettleStep, DoneStep, FailedStep, FinishStep, DroppedStep, ElectStep, DepotFault, Reply, Gave, WasDone, WasThere, WasFetched, HasEnded, Refused, Moment}
-use Rattle.esr_core.specs.After.{asked, taken_shard, taken_by, shard_of, with_given, committing, told_blob, fetching, settled_by, settled_of, done_by, done_of, is_stale, failed_by, failed_of, dropped_of, done_step, has_text, fallen, is_latest, faulted, answered, after}
+use Rattle.esr_core.specs.Entry.{Asked, Snapshot, Restore, Given, GivenShard, GivenFinalize, GivenDrop, GivenRestore, Read, ReadBlob, RestoredShard, CheckedAll, DrawTest, CommitTest, ReadFails, Step, AskStep, TakeStep, DrawStep, BeginStep, CommitStep, LatestStep, FetchStep, RaiseStep, SettleStep, DoneStep, FailedStep, FinishStep, DroppedStep, ElectStep, ReadStep, DepotFault, Reply, Gave, DrawnFrom, WasDone, WasThere, WasFetched, HasEnded, Refused, AcceptedRestore, Moment}
+use Rattle.esr_core.specs.After.{asked, taken_shard, taken_restore_shard, taken_restore, taken_by, read_told, shard_over, read_over, read_step, read_by, test_left, shard_of, with_given, committing, told_blob, fetching, settled_by, settled_of, done_by, done_of, is_stale, failed_by, failed_of, dropped_of, done_step, has_text, fallen, is_latest, faulted, answered, after}
 use Rattle.esr_core.specs.History.{world_from}
 use Rattle.esr_quiet.proofs.Maps.{get_other, some_none}
 
@@ -36,10 +38,19 @@ numbered_change w k g (Some t) is n = record { next = n.next; none = put_numbere
 
 numbered_asked : (w : World) (command : Asked) → Numbered w → Numbered (asked w command)
 numbered_asked w (Snapshot name indices moment) n = record { next = n.next; none = n.none }
+numbered_asked w (Restore name place) n = n
 
 numbered_shard : (w : World) (o : ℕ) (op : Op) (base : Option ℕ) (s : Option ShardWork) → Numbered w → Numbered (taken_shard w o op base s)
 numbered_shard w o op base None n = n
 numbered_shard w o op base (Some s) n = record { next = later w n; none = more_numbered w (shard_ticket w o op s base) n }
+
+numbered_restore_shard : (w : World) (o : ℕ) (r : Restoring) (s : Option RestoreShard) → Numbered w → Numbered (taken_restore_shard w o r s)
+numbered_restore_shard w o r None n = n
+numbered_restore_shard w o r (Some s) n = record { next = later w n; none = n.none }
+
+numbered_restore : (w : World) (o index number : ℕ) (r : Option Restoring) → Numbered w → Numbered (taken_restore w o index number r)
+numbered_restore w o index number None n = n
+numbered_restore w o index number (Some r) n = numbered_restore_shard w o r (restore_shard r.shards index number) n
 
 numbered_taken : (f : Formats) (w : World) (o : ℕ) (unit : Given) (op : Option Op) → Numbered w → Numbered (taken_by f w o unit op)
 numbered_taken f w o (GivenShard index number base) (Some op) n = numbered_shard w o op base (shard_of op.shards index number) n
@@ -47,6 +58,7 @@ numbered_taken f w o (GivenShard index number base) None n = n
 numbered_taken f w o (GivenFinalize info results) (Some op) n = record { next = later w n; none = more_numbered w (final_ticket f w o op results) n }
 numbered_taken f w o (GivenFinalize info results) None n = n
 numbered_taken f w o GivenDrop op n = record { next = later w n; none = more_numbered w (plain_ticket w o Drop) n }
+numbered_taken f w o (GivenRestore index number uuid) op n = numbered_restore w o index number (fin.get w.restores o) n
 
 numbered_settled_by : (f : Formats) (w : World) (k : ℕ) (t : Ticket) (s : Option Swap) (g : Option ℕ) → fin.get w.tickets k ≡ Some t → Numbered w → Numbered (settled_by f w k t s g)
 numbered_settled_by f w k t (Some s) (Some g) is n = record { next = n.next; none = put_numbered w k t _ n is }
@@ -82,8 +94,40 @@ numbered_dropped : (w : World) (k : ℕ) (o : Option Ticket) → fin.get w.ticke
 numbered_dropped w k None is n = n
 numbered_dropped w k (Some t) is n = record { next = n.next; none = put_numbered w k t _ n is }
 
+-- ---- steps that read: they leave tickets
+
+numbered_told : (w : World) (k : ℕ) (name : BlobName) (bytes : Option Bytes) (q : Option Reader) → Numbered w → Numbered (read_told w k name bytes q)
+numbered_told w k name bytes None n = n
+numbered_told w k name None (Some q) n = n
+numbered_told w k name (Some b) (Some q) n = record { next = n.next; none = n.none }
+
+numbered_over_shard : (w : World) (k : ℕ) (state : ReadState) (q : Reader) (r : Option Restoring) → Numbered w → Numbered (shard_over w k state q r)
+numbered_over_shard w k state q None n = n
+numbered_over_shard w k state q (Some r) n = record { next = n.next; none = n.none }
+
+numbered_over : (w : World) (k : ℕ) (state : ReadState) (q : Option Reader) → Numbered w → Numbered (read_over w k state q)
+numbered_over w k state None n = n
+numbered_over w k state (Some q) n = numbered_over_shard w k state q (fin.get w.restores q.op) n
+
+numbered_read : (f : Formats) (w : World) (k : ℕ) (read : Read) (reply : Reply) (image : Option Image) → Numbered w → Numbered (read_step f w k read reply image)
+numbered_read f w k (ReadBlob name) WasFetched image n = numbered_told w k name (told_blob f image name) (fin.get w.readers k) n
+numbered_read f w k (ReadBlob name) reply image n = n
+numbered_read f w k (RestoredShard files bytes) reply image n = numbered_over w k (Restored files bytes) (fin.get w.readers k) n
+numbered_read f w k (CheckedAll snapshots blobs) reply image n = n
+numbered_read f w k (ReadFails why) reply image n = numbered_over w k (NotRestored why) (fin.get w.readers k) n
+numbered_read f w k read reply image n = n
+
+numbered_read_by : (f : Formats) (w : World) (k : ℕ) (read : Read) (reply : Reply) (image : Option Image) → Numbered w → Numbered (read_by f w k read reply image)
+numbered_read_by f w zero DrawTest (DrawnFrom first) image n = record { next = n.next; none = n.none }
+numbered_read_by f w zero (CommitTest name) WasDone image n = record { next = n.next; none = n.none }
+numbered_read_by f w zero read reply image n = n
+numbered_read_by f w (suc k) read reply image n = numbered_read f w (suc k) read reply image n
+
+-- ---- all steps
+
 numbered_step : (f : Formats) (w : World) (k : ℕ) (step : Step) (reply : Reply) (image : Option Image) → Numbered w → Numbered (done_step f w k step reply image)
-numbered_step f w k (AskStep command) reply image n = numbered_asked w command n
+numbered_step f w k (AskStep (Snapshot name indices moment)) reply image n = numbered_asked w (Snapshot name indices moment) n
+numbered_step f w k (AskStep (Restore name place)) (AcceptedRestore o uuid indices) image n = record { next = n.next; none = n.none }
 numbered_step f w k TakeStep (Gave ticket op unit) image n = numbered_taken f w op unit (fin.get w.ops op) n
 numbered_step f w k (DrawStep count) reply image n =
     let changed = numbered_change w k (λ t. record t { first = w.next_id; drawn = count }) (fin.get w.tickets k) refl n in
@@ -101,6 +145,7 @@ numbered_step f w k (FailedStep why) reply image n = numbered_failed w k (fin.ge
 numbered_step f w k FinishStep reply image n = numbered_change w k (λ t. record t { out = false }) (fin.get w.tickets k) refl n
 numbered_step f w k DroppedStep reply image n = numbered_dropped w k (fin.get w.tickets k) refl n
 numbered_step f w k ElectStep reply image n = record { next = n.next; none = n.none }
+numbered_step f w k (ReadStep read) reply image n = numbered_read_by f w k read reply image n
 numbered_step f w k step reply image n = n
 
 -- ---- a step that failed
@@ -113,10 +158,17 @@ numbered_fallen f w up image n of_up =
     let one = numbered_either up w (has_text image (f.cluster.text (record_of up))) of_up n in
     record { next = one.next; none = one.none }
 
+numbered_left : (w : World) (name : BlobName) (was now : Option Bytes) → Numbered w → Numbered (test_left w name was now)
+numbered_left w name None (Some b) n = record { next = n.next; none = n.none }
+numbered_left w name None None n = n
+numbered_left w name (Some b) now n = n
+
 numbered_fault : (f : Formats) (w : World) (k : ℕ) (step : Step) (image : Option Image) → Numbered w → Numbered (faulted f w k step image)
 numbered_fault f w k LatestStep image n = numbered_tried w k n
 numbered_fault f w k (BeginStep name) image n = numbered_either _ w (is_latest name) (numbered_tried w k n) n
-numbered_fault f w k (AskStep command) image n = numbered_fallen f w _ image n (numbered_step f w k (AskStep command) HasEnded image n)
+numbered_fault f w k (ReadStep (CommitTest name)) image n = numbered_left w name (fin.get w.blobs (f.names.text name)) (told_blob f image name) n
+numbered_fault f w k (AskStep (Snapshot name indices moment)) image n = numbered_fallen f w _ image n (numbered_step f w k (AskStep (Snapshot name indices moment)) HasEnded image n)
+numbered_fault f w k (AskStep (Restore name place)) image n = n
 numbered_fault f w k RaiseStep image n = numbered_fallen f w _ image n (numbered_step f w k RaiseStep HasEnded image n)
 numbered_fault f w k SettleStep image n = numbered_fallen f w _ image n (numbered_step f w k SettleStep HasEnded image n)
 numbered_fault f w k DroppedStep image n = numbered_fallen f w _ image n (numbered_step f w k DroppedStep HasEnded image n)

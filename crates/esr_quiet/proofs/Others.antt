@@ -1,15 +1,17 @@
 -- A step leaves all tickets but its own; a take leaves all but the one that it gives.
-use Rattle.std.proofs.Common.{◌≡◌, ◌≢◌, ℕ, Bool, true, false, List, [], ◌∷◌, ◌++◌, Option, Some, None, refl, sym, ap, ◌∙◌, subst, inl, inr}
+use Rattle.std.proofs.Common.{◌≡◌, ◌≢◌, ℕ, zero, suc, Bool, true, false, List, [], ◌∷◌, ◌++◌, Option, Some, None, refl, sym, ap, ◌∙◌, subst, inl, inr}
 use Rattle.std.specs.Prelude.{if◌then◌else◌}
 use Rattle.std.specs.FinMap as fin
-use Rattle.esr_model.specs.Values.{ShardResult, Formats}
+use Rattle.esr_model.specs.Names.{BlobName}
+use Rattle.esr_model.specs.Values.{Bytes, ShardResult, Formats}
 use Rattle.esr_model.specs.Image.{Image}
-use Rattle.esr_core.specs.World.{World, Op, ShardWork, Swap, Ticket, swap, record_of}
+use Rattle.esr_core.specs.World.{World, Op, ShardWork, Swap, Ticket, ReadState, Restored, NotRestored, RestoreShard, Restoring, Reader, swap, record_of}
+use Rattle.esr_core.specs.Restores.{restore_shard}
 use Rattle.esr_core.specs.Steps.{noting}
-use Rattle.esr_core.specs.Entry.{Asked, Snapshot, Given, GivenShard, GivenFinalize, GivenDrop, Step, AskStep, TakeStep, DrawStep, BeginStep, CommitStep, LatestStep, FetchStep, RaiseStep, SettleStep, DoneStep, FailedStep, FinishStep, DroppedStep, ElectStep, DeposedAt, DepotFault, Reply, Gave, WasDone, WasThere, WasFetched, HasEnded, Refused, Moment}
-use Rattle.esr_core.specs.After.{asked, taken_shard, taken_by, shard_of, with_given, committing, told_blob, fetching, settled_by, settled_of, done_by, done_of, is_stale, failed_by, failed_of, dropped_of, done_step, has_text, fallen, is_latest, faulted, answered, after}
+use Rattle.esr_core.specs.Entry.{Asked, Snapshot, Restore, Given, GivenShard, GivenFinalize, GivenDrop, GivenRestore, Read, ReadBlob, RestoredShard, CheckedAll, DrawTest, CommitTest, ReadFails, Step, AskStep, TakeStep, DrawStep, BeginStep, CommitStep, LatestStep, FetchStep, RaiseStep, SettleStep, DoneStep, FailedStep, FinishStep, DroppedStep, ElectStep, ReadStep, DeposedAt, DepotFault, Reply, Gave, DrawnFrom, WasDone, WasThere, WasFetched, HasEnded, Refused, AcceptedRestore, Moment}
+use Rattle.esr_core.specs.After.{asked, taken_shard, taken_restore_shard, taken_restore, taken_by, read_told, shard_over, read_over, read_step, read_by, test_left, shard_of, with_given, committing, told_blob, fetching, settled_by, settled_of, done_by, done_of, is_stale, failed_by, failed_of, dropped_of, done_step, has_text, fallen, is_latest, faulted, answered, after}
 use Rattle.esr_core.specs.Allowed as allowed
-use Rattle.esr_core.specs.Allowed.{Allows, Allowed}
+use Rattle.esr_core.specs.Allowed.{RestoreAllows, OpeningRestore, ReadAllows, ReadFound, VerifyAllows, DrawingTest, Allows, Allowed}
 use Rattle.esr_core.specs.History.{world_from, IsLegal}
 use Rattle.esr_desk.specs.Start.{Start, Legal, formats_of, or_no_ticket, ticket_of}
 use Rattle.esr_desk.specs.Grew.{AllOf}
@@ -34,10 +36,19 @@ others_change w k g (Some t) q apart = get_other w.tickets k (g t) q apart
 
 others_asked : (w : World) (command : Asked) (q : ℕ) → held (asked w command) q ≡ held w q
 others_asked w (Snapshot name indices moment) q = refl
+others_asked w (Restore name place) q = refl
 
 others_shard : (w : World) (o : ℕ) (op : Op) (base : Option ℕ) (s : Option ShardWork) (q : ℕ) → q ≢ w.next_ticket → held (taken_shard w o op base s) q ≡ held w q
 others_shard w o op base None q apart = refl
 others_shard w o op base (Some s) q apart = get_other w.tickets w.next_ticket _ q apart
+
+others_restore_shard : (w : World) (o : ℕ) (r : Restoring) (s : Option RestoreShard) (q : ℕ) → held (taken_restore_shard w o r s) q ≡ held w q
+others_restore_shard w o r None q = refl
+others_restore_shard w o r (Some s) q = refl
+
+others_restore : (w : World) (o index number : ℕ) (r : Option Restoring) (q : ℕ) → held (taken_restore w o index number r) q ≡ held w q
+others_restore w o index number None q = refl
+others_restore w o index number (Some r) q = others_restore_shard w o r (restore_shard r.shards index number) q
 
 others_taken : (f : Formats) (w : World) (o : ℕ) (unit : Given) (op : Option Op) (q : ℕ) → q ≢ w.next_ticket → held (taken_by f w o unit op) q ≡ held w q
 others_taken f w o (GivenShard index number base) (Some op) q apart = others_shard w o op base (shard_of op.shards index number) q apart
@@ -45,6 +56,7 @@ others_taken f w o (GivenShard index number base) None q apart = refl
 others_taken f w o (GivenFinalize info results) (Some op) q apart = get_other w.tickets w.next_ticket _ q apart
 others_taken f w o (GivenFinalize info results) None q apart = refl
 others_taken f w o GivenDrop op q apart = get_other w.tickets w.next_ticket _ q apart
+others_taken f w o (GivenRestore index number uuid) op q apart = others_restore w o index number (fin.get w.restores o) q
 
 others_settled_by : (f : Formats) (w : World) (k : ℕ) (t : Ticket) (s : Option Swap) (n : Option ℕ) (q : ℕ) → q ≢ k → held (settled_by f w k t s n) q ≡ held w q
 others_settled_by f w k t (Some s) (Some n) q apart = get_other w.tickets k _ q apart
@@ -79,8 +91,40 @@ others_dropped : (w : World) (k : ℕ) (o : Option Ticket) (q : ℕ) → q ≢ k
 others_dropped w k None q apart = refl
 others_dropped w k (Some t) q apart = get_other w.tickets k _ q apart
 
+-- ---- steps that read: they leave all tickets
+
+others_told : (w : World) (k : ℕ) (name : BlobName) (bytes : Option Bytes) (reader : Option Reader) (q : ℕ) → held (read_told w k name bytes reader) q ≡ held w q
+others_told w k name bytes None q = refl
+others_told w k name None (Some reader) q = refl
+others_told w k name (Some b) (Some reader) q = refl
+
+others_over_shard : (w : World) (k : ℕ) (state : ReadState) (reader : Reader) (r : Option Restoring) (q : ℕ) → held (shard_over w k state reader r) q ≡ held w q
+others_over_shard w k state reader None q = refl
+others_over_shard w k state reader (Some r) q = refl
+
+others_over : (w : World) (k : ℕ) (state : ReadState) (reader : Option Reader) (q : ℕ) → held (read_over w k state reader) q ≡ held w q
+others_over w k state None q = refl
+others_over w k state (Some reader) q = others_over_shard w k state reader (fin.get w.restores reader.op) q
+
+others_read : (f : Formats) (w : World) (k : ℕ) (read : Read) (reply : Reply) (image : Option Image) (q : ℕ) → held (read_step f w k read reply image) q ≡ held w q
+others_read f w k (ReadBlob name) WasFetched image q = others_told w k name (told_blob f image name) (fin.get w.readers k) q
+others_read f w k (ReadBlob name) reply image q = refl
+others_read f w k (RestoredShard files bytes) reply image q = others_over w k (Restored files bytes) (fin.get w.readers k) q
+others_read f w k (CheckedAll snapshots blobs) reply image q = refl
+others_read f w k (ReadFails why) reply image q = others_over w k (NotRestored why) (fin.get w.readers k) q
+others_read f w k read reply image q = refl
+
+others_read_by : (f : Formats) (w : World) (k : ℕ) (read : Read) (reply : Reply) (image : Option Image) (q : ℕ) → held (read_by f w k read reply image) q ≡ held w q
+others_read_by f w zero DrawTest (DrawnFrom first) image q = refl
+others_read_by f w zero (CommitTest name) WasDone image q = refl
+others_read_by f w zero read reply image q = refl
+others_read_by f w (suc k) read reply image q = others_read f w (suc k) read reply image q
+
+-- ---- all steps
+
 others_step : (f : Formats) (w : World) (k : ℕ) (step : Step) (reply : Reply) (image : Option Image) (q : ℕ) → q ≢ k → GivesNone reply → held (done_step f w k step reply image) q ≡ held w q
-others_step f w k (AskStep command) reply image q apart none = others_asked w command q
+others_step f w k (AskStep (Snapshot name indices moment)) reply image q apart none = others_asked w (Snapshot name indices moment) q
+others_step f w k (AskStep (Restore name place)) (AcceptedRestore o uuid indices) image q apart none = refl
 others_step f w k TakeStep (Gave ticket op unit) image q apart none = absurd (none ticket op unit refl)
 others_step f w k (DrawStep n) reply image q apart none = others_change w k (λ t. record t { first = w.next_id; drawn = n }) (fin.get w.tickets k) q apart
 others_step f w k (CommitStep name) WasDone image q apart none = others_change w k (committing name (told_blob f image name)) (fin.get w.tickets k) q apart
@@ -94,6 +138,7 @@ others_step f w k (FailedStep why) reply image q apart none = others_failed w k 
 others_step f w k FinishStep reply image q apart none = others_change w k (λ t. record t { out = false }) (fin.get w.tickets k) q apart
 others_step f w k DroppedStep reply image q apart none = others_dropped w k (fin.get w.tickets k) q apart
 others_step f w k ElectStep reply image q apart none = refl
+others_step f w k (ReadStep read) reply image q apart none = others_read_by f w k read reply image q
 others_step f w k step reply image q apart none = refl
 
 -- ---- a step that failed
@@ -104,10 +149,17 @@ others_tried w k q apart = others_change w k (λ t. record t { tried_latest = tr
 others_fallen : (f : Formats) (w up : World) (image : Option Image) (q : ℕ) → held up q ≡ held w q → held (fallen f w up image) q ≡ held w q
 others_fallen f w up image q same = others_either w up w (has_text image (f.cluster.text (record_of up))) q same refl
 
+others_left : (w : World) (name : BlobName) (was now : Option Bytes) (q : ℕ) → held (test_left w name was now) q ≡ held w q
+others_left w name None (Some b) q = refl
+others_left w name None None q = refl
+others_left w name (Some b) now q = refl
+
 others_fault : (f : Formats) (w : World) (k : ℕ) (step : Step) (image : Option Image) (q : ℕ) → q ≢ k → held (faulted f w k step image) q ≡ held w q
 others_fault f w k LatestStep image q apart = others_tried w k q apart
 others_fault f w k (BeginStep name) image q apart = others_either w _ w (is_latest name) q (others_tried w k q apart) refl
-others_fault f w k (AskStep command) image q apart = others_fallen f w _ image q (others_step f w k (AskStep command) HasEnded image q apart ended_none)
+others_fault f w k (ReadStep (CommitTest name)) image q apart = others_left w name (fin.get w.blobs (f.names.text name)) (told_blob f image name) q
+others_fault f w k (AskStep (Snapshot name indices moment)) image q apart = others_fallen f w _ image q (others_step f w k (AskStep (Snapshot name indices moment)) HasEnded image q apart ended_none)
+others_fault f w k (AskStep (Restore name place)) image q apart = refl
 others_fault f w k RaiseStep image q apart = others_fallen f w _ image q (others_step f w k RaiseStep HasEnded image q apart ended_none)
 others_fault f w k SettleStep image q apart = others_fallen f w _ image q (others_step f w k SettleStep HasEnded image q apart ended_none)
 others_fault f w k DroppedStep image q apart = others_fallen f w _ image q (others_step f w k DroppedStep HasEnded image q apart ended_none)
@@ -129,8 +181,23 @@ abbrev IsGift : World → ℕ → Reply → Type 0
 IsGift w who (Gave ticket op unit) = (who ≡ 0) × (ticket ≡ w.next_ticket)
 IsGift w who reply = Unit {0}
 
+gift_restore : (f : Formats) (w : World) (name : Bytes) (reply : Reply) (image : Option Image) → RestoreAllows f w name reply image → IsGift w 0 reply
+gift_restore f w name reply image (OpeningRestore o uuid indices im acc) = tt
+gift_restore f w name reply image a = tt
+
+gift_read : (f : Formats) (w : World) (who : ℕ) (read : Read) (reply : Reply) (image : Option Image) → ReadAllows f w who read reply image → IsGift w who reply
+gift_read f w who read reply image (ReadFound k name im stored by found) = tt
+gift_read f w who read reply image a = tt
+
+gift_verify : (f : Formats) (w : World) (read : Read) (reply : Reply) (image : Option Image) → VerifyAllows f w read reply image → IsGift w 0 reply
+gift_verify f w read reply image (DrawingTest im idle fits same) = tt
+gift_verify f w read reply image a = tt
+
 gift : (f : Formats) (size : ℕ) (w : World) (who : ℕ) (step : Step) (reply : Reply) (image : Option Image) → Allows f size w who step reply image → IsGift w who reply
 gift f size w who step reply image (allowed.Giving k o unit im is lowest g same) = (refl, is)
+gift f size w who step reply image (allowed.AskingRestore name place rep im a same) = gift_restore f w name rep im a
+gift f size w who step reply image (allowed.Reading k read rep im a same) = gift_read f w k read rep im a
+gift f size w who step reply image (allowed.Verifying read rep im a) = gift_verify f w read rep im a
 gift f size w who step reply image a = tt
 
 pub given_by : (f : Formats) (size : ℕ) (w : World) (m : Moment) → Allowed f size w m → (ticket op : ℕ) (unit : Given) → m.entry.reply ≡ Gave ticket op unit → (m.entry.who ≡ 0) × (ticket ≡ w.next_ticket)

@@ -36,6 +36,7 @@ module _ (s : Start) (log : List Moment) (smooth : IsSmooth s log) where
         told = told_front front back (subst AreTold is smooth.told);
         honest = honest_front (formats_of s) front back s.world (subst (AreHonest (formats_of s) s.world) is smooth.honest);
         once = λ a b m name e. smooth.once a (b ++ back) m name (is ∙ ap (λ (l : List Moment). l ++ back) e ∙ append_assoc a (m ∷ b) back);
+        tested = λ a b m name e. smooth.tested a (b ++ back) m name (is ∙ ap (λ (l : List Moment). l ++ back) e ∙ append_assoc a (m ∷ b) back);
         steady = λ m name indices moment h. smooth.steady m name indices moment (within m h);
         calm = λ m h. smooth.calm m (within m h);
         unspent = λ m h. smooth.unspent m (within m h);

@@ -8,11 +8,12 @@ use Rattle.esr_model.specs.Names.{BlobName}
 use Rattle.esr_model.specs.Values.{Bytes, Has, IndexRef, ShardResult, SnapInfo, Formats}
 use Rattle.esr_model.specs.Shelf.{Shelved}
 use Rattle.esr_model.specs.Image.{Image}
-use Rattle.esr_core.specs.World.{World, Op, ShardWork, ShardState, Pending, Out, Done, GivenUp, Work, Shard, Finalize, Deleting, Drop, Swap, Ticket, swap, marked, marked_by, Opened, OpenedEmpty, OpenedRecord}
+use Rattle.esr_core.specs.World.{World, Op, ShardWork, ShardState, Pending, Out, Done, GivenUp, Work, Shard, Finalize, Deleting, Drop, Swap, Ticket, ReadState, Restored, NotRestored, RestoreShard, Restoring, Reader, swap, marked, marked_by, Opened, OpenedEmpty, OpenedRecord}
+use Rattle.esr_core.specs.Restores.{restore_shard}
 use Rattle.esr_core.specs.Steps.{noting, given, shard_ticket, final_ticket}
 use Rattle.esr_core.specs.Turns.{fails, fails_by}
-use Rattle.esr_core.specs.Entry.{AskedIndex, Asked, Snapshot, Given, GivenShard, GivenFinalize, GivenDrop, Step, AskStep, TakeStep, DrawStep, CommitStep, LatestStep, FetchStep, RaiseStep, SettleStep, DoneStep, FailedStep, FinishStep, DroppedStep, ElectStep, DepotFault, Reply, Gave, WasDone, WasThere, WasFetched, Refused, Moment}
-use Rattle.esr_core.specs.After.{asked, asked_op, known_id, ref_by, next_by, refs_from, pending_shards, all_pending, taken_shard, taken_by, shard_of, with_given, committing, told_blob, fetching, settled_by, settled_of, done_by, done_of, is_stale, failed_by, failed_of, dropped_of, done_step, answered, after}
+use Rattle.esr_core.specs.Entry.{AskedIndex, Asked, Snapshot, Restore, Given, GivenShard, GivenFinalize, GivenDrop, GivenRestore, Read, ReadBlob, RestoredShard, CheckedAll, DrawTest, CommitTest, ReadFails, Step, AskStep, TakeStep, DrawStep, CommitStep, LatestStep, FetchStep, RaiseStep, SettleStep, DoneStep, FailedStep, FinishStep, DroppedStep, ElectStep, ReadStep, DepotFault, Reply, Gave, DrawnFrom, WasDone, WasThere, WasFetched, Refused, AcceptedRestore, Moment}
+use Rattle.esr_core.specs.After.{asked, asked_op, known_id, ref_by, next_by, refs_from, pending_shards, all_pending, taken_shard, taken_restore_shard, taken_restore, taken_by, read_told, shard_over, read_over, read_step, read_by, shard_of, with_given, committing, told_blob, fetching, settled_by, settled_of, done_by, done_of, is_stale, failed_by, failed_of, dropped_of, done_step, answered, after}
 use Rattle.esr_core.specs.History.{world_from}
 use Rattle.esr_desk.specs.Start.{Start}
 use Rattle.esr_quiet.specs.Asked.{IsSteady, AreSteady}
@@ -162,6 +163,17 @@ module _ (s : Start) where
         ops = put_steady s w.ops w.next_op (asked_op w name indices moment) (asked_steady s w (suc w.next_id) indices (steady name indices moment refl)) q.ops;
         tickets = q.tickets;
       }
+  quiet_asked w q (Restore name place) steady = q
+
+  -- restores, their tickets and numbers aside
+  quiet_same : (w v : World) → IsQuiet s w → v.deposed ≡ w.deposed → v.deletes ≡ w.deletes → v.ops ≡ w.ops → v.term ≡ w.term → v.tickets ≡ w.tickets → IsQuiet s v
+  quiet_same w v q deposed deletes ops term tickets =
+      record {
+        present = deposed ∙ q.present;
+        no_deletes = deletes ∙ q.no_deletes;
+        ops = subst (AreSteadyOps s) (sym ops) q.ops;
+        tickets = subst (λ (x : Tickets). AreFine s v.term x) (sym tickets) (subst (λ (now : ℕ). AreFine s now w.tickets) (sym term) q.tickets);
+      }
 
   found_in : (shards : List ShardWork) (index number : ℕ) (z : ShardWork) → shard_of shards index number ≡ Some z → Has shards z
   found_in [] index number z e = absurd (some_none z (sym e))
@@ -204,6 +216,14 @@ module _ (s : Start) where
         }) q.tickets;
       }
 
+  quiet_restore_shard : (w : World) → IsQuiet s w → (o : ℕ) (r : Restoring) (found : Option RestoreShard) → IsQuiet s (taken_restore_shard w o r found)
+  quiet_restore_shard w q o r None = q
+  quiet_restore_shard w q o r (Some z) = quiet_same w _ q refl refl refl refl refl
+
+  quiet_restore : (w : World) → IsQuiet s w → (o index number : ℕ) (found : Option Restoring) → IsQuiet s (taken_restore w o index number found)
+  quiet_restore w q o index number None = q
+  quiet_restore w q o index number (Some r) = quiet_restore_shard w q o r (restore_shard r.shards index number)
+
   quiet_taken : (f : Formats) (w : World) → IsQuiet s w → (o : ℕ) (unit : Given) (op : Option Op) → fin.get w.ops o ≡ op → IsQuiet s (taken_by f w o unit op)
   quiet_taken f w q o (GivenShard index number base) (Some op) there = quiet_shard w q o op base there (shard_of op.shards index number) (λ z e. found_in op.shards index number z e)
   quiet_taken f w q o (GivenShard index number base) None there = q
@@ -217,6 +237,7 @@ module _ (s : Start) where
   quiet_taken f w q o (GivenFinalize info results) None there = q
   quiet_taken f w q o GivenDrop op there =
       record { present = q.present; no_deletes = q.no_deletes; ops = q.ops; tickets = put_fine s w.term w.tickets w.next_ticket _ (record { present = refl; no_delete = drop_delete; steady = λ i n e. absurd (drop_shard i n e) }) q.tickets }
+  quiet_taken f w q o (GivenRestore index number uuid) op there = quiet_restore w q o index number (fin.get w.restores o)
 
   quiet_drawn : (w : World) → IsQuiet s w → (k n : ℕ) (o : Option Ticket) → fin.get w.tickets k ≡ o → IsQuiet s (record (with_given w k (λ t. record t { first = w.next_id; drawn = n }) o) { next_id = w.next_id + n })
   quiet_drawn w q k n o there = let x = quiet_change w q k (λ t. record t { first = w.next_id; drawn = n }) (λ t h. h) o there in record { present = x.present; no_deletes = x.no_deletes; ops = x.ops; tickets = x.tickets }
@@ -285,13 +306,42 @@ module _ (s : Start) where
   fine_fetching now name None t h = h
   fine_fetching now name (Some bytes) t h = h
 
+  -- steps that read leave ops and tickets
+  quiet_told : (w : World) → IsQuiet s w → (k : ℕ) (name : BlobName) (bytes : Option Bytes) (reader : Option Reader) → IsQuiet s (read_told w k name bytes reader)
+  quiet_told w q k name bytes None = q
+  quiet_told w q k name None (Some reader) = q
+  quiet_told w q k name (Some b) (Some reader) = quiet_same w _ q refl refl refl refl refl
+
+  quiet_over_shard : (w : World) → IsQuiet s w → (k : ℕ) (state : ReadState) (reader : Reader) (r : Option Restoring) → IsQuiet s (shard_over w k state reader r)
+  quiet_over_shard w q k state reader None = q
+  quiet_over_shard w q k state reader (Some r) = quiet_same w _ q refl refl refl refl refl
+
+  quiet_over : (w : World) → IsQuiet s w → (k : ℕ) (state : ReadState) (reader : Option Reader) → IsQuiet s (read_over w k state reader)
+  quiet_over w q k state None = q
+  quiet_over w q k state (Some reader) = quiet_over_shard w q k state reader (fin.get w.restores reader.op)
+
+  quiet_read : (f : Formats) (w : World) → IsQuiet s w → (k : ℕ) (read : Read) (reply : Reply) (image : Option Image) → IsQuiet s (read_step f w k read reply image)
+  quiet_read f w q k (ReadBlob name) WasFetched image = quiet_told w q k name (told_blob f image name) (fin.get w.readers k)
+  quiet_read f w q k (ReadBlob name) reply image = q
+  quiet_read f w q k (RestoredShard files bytes) reply image = quiet_over w q k (Restored files bytes) (fin.get w.readers k)
+  quiet_read f w q k (CheckedAll snapshots blobs) reply image = q
+  quiet_read f w q k (ReadFails why) reply image = quiet_over w q k (NotRestored why) (fin.get w.readers k)
+  quiet_read f w q k read reply image = q
+
+  quiet_read_by : (f : Formats) (w : World) → IsQuiet s w → (k : ℕ) (read : Read) (reply : Reply) (image : Option Image) → IsQuiet s (read_by f w k read reply image)
+  quiet_read_by f w q zero DrawTest (DrawnFrom first) image = quiet_same w _ q refl refl refl refl refl
+  quiet_read_by f w q zero (CommitTest name) WasDone image = quiet_same w _ q refl refl refl refl refl
+  quiet_read_by f w q zero read reply image = q
+  quiet_read_by f w q (suc k) read reply image = quiet_read f w q (suc k) read reply image
+
   -- what is asked is steady, and nobody is elected
   record Suits (step : Step) : Type 0 where
     steady : (name : Bytes) (indices : List AskedIndex) (moment : ℕ) → step ≡ AskStep (Snapshot name indices moment) → IsSteady s indices
     unelected : step ≢ ElectStep
 
   quiet_step : (f : Formats) (w : World) → IsQuiet s w → (k : ℕ) (step : Step) (reply : Reply) (image : Option Image) → Suits step → IsQuiet s (done_step f w k step reply image)
-  quiet_step f w q k (AskStep command) reply image h = quiet_asked w q command h.steady
+  quiet_step f w q k (AskStep (Snapshot name indices moment)) reply image h = quiet_asked w q (Snapshot name indices moment) h.steady
+  quiet_step f w q k (AskStep (Restore name place)) (AcceptedRestore o uuid indices) image h = quiet_same w _ q refl refl refl refl refl
   quiet_step f w q k TakeStep (Gave ticket op unit) image h = quiet_taken f w q op unit (fin.get w.ops op) refl
   quiet_step f w q k (DrawStep n) reply image h = quiet_drawn w q k n (fin.get w.tickets k) refl
   quiet_step f w q k (CommitStep name) WasDone image h = quiet_change w q k (committing name (told_blob f image name)) (fine_committing w.term name (told_blob f image name)) (fin.get w.tickets k) refl
@@ -305,6 +355,7 @@ module _ (s : Start) where
   quiet_step f w q k FinishStep reply image h = quiet_change w q k (λ t. record t { out = false }) (λ t x. x) (fin.get w.tickets k) refl
   quiet_step f w q k DroppedStep reply image h = quiet_dropped w q k (fin.get w.tickets k) refl
   quiet_step f w q k ElectStep reply image h = absurd (h.unelected refl)
+  quiet_step f w q k (ReadStep read) reply image h = quiet_read_by f w q k read reply image
   quiet_step f w q k step reply image h = q
 
   quiet_answered : (f : Formats) (w : World) → IsQuiet s w → (k : ℕ) (step : Step) (reply : Reply) (image : Option Image) → Suits step → reply ≢ Refused DepotFault → IsQuiet s (answered f w k step reply image)

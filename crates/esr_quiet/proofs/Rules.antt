@@ -6,9 +6,9 @@ use Rattle.esr_model.specs.Values.{Bytes, Has, IndexRef, RootData, SnapInfo, For
 use Rattle.esr_model.specs.Image.{Image, Present}
 use Rattle.esr_core.specs.World.{World, Work, Shard, Finalize, Deleting, Drop, Ticket, Swap, swap_of, metadata}
 use Rattle.esr_core.specs.Steps.{IsOut}
-use Rattle.esr_core.specs.Entry.{Asked, Snapshot, Step, AskStep, CommitStep, Reply, Refused, DepotFault, Moment}
+use Rattle.esr_core.specs.Entry.{Asked, Snapshot, Restore, Read, CommitTest, Step, AskStep, CommitStep, ReadStep, Reply, Refused, DepotFault, Moment}
 use Rattle.esr_core.specs.Allowed as allowed
-use Rattle.esr_core.specs.Allowed.{Told, Commits, IsMetadata, Allows, Allowed}
+use Rattle.esr_core.specs.Allowed.{Told, Commits, IsMetadata, IsOwnTest, RestoreAllows, OpeningRestore, NotListed, NamedByDelete, FullOfRestores, ReadAllows, ReadFound, ReadMissing, ReadFault, RestoringShard, ReaderFailing, CheckingAll, CheckFailing, VerifyAllows, DrawingTest, TestSpent, BeginningTest, BeginTestFails, CommittingTest, TestTaken, CommitTestFails, RemovingTests, RemoveTestsFails, VerifyingAll, VerifyFailing, Allows, Allowed}
 use Rattle.esr_desk.specs.Start.{Start, formats_of, world_of, or_no_ticket}
 use Rattle.esr_quiet.specs.Free.{Free}
 use Rattle.esr_quiet.specs.Smooth.{IsSpent, IsSmooth}
@@ -45,12 +45,16 @@ own_metadata f Drop root s none e name bytes h = absurd (no_swap s e)
 -- ---- each refusal
 
 abbrev IsRuled : Step → Reply → Type 0
-IsRuled step (Refused refusal) = ((command : Asked) × (step ≡ AskStep command)) × IsByRule refusal
+IsRuled step (Refused refusal) = (of : (command : Asked) × (step ≡ AskStep command)) × IsByRule of.0 refusal
 IsRuled step reply = Unit {0}
 
 -- a name is committed that its ticket has not noted
 abbrev IsNew : World → ℕ → Step → Type 0
 IsNew w who step = (name : BlobName) (t : Ticket) → step ≡ CommitStep name → fin.get w.tickets who ≡ Some t → (IsMetadata name → ⊥) → Has t.noted name → ⊥
+
+-- and a test blob that who 0 has not committed
+abbrev IsNewTest : World → Step → Type 0
+IsNewTest w step = (name : BlobName) → step ≡ ReadStep (CommitTest name) → Has w.caller.committed name → ⊥
 
 module _ (s : Start) (f : Formats) (size : ℕ) (w : World) (q : IsQuiet s w) (free : Free f w) where
   -- a name that may be committed is free
@@ -69,30 +73,62 @@ module _ (s : Start) (f : Formats) (size : ℕ) (w : World) (q : IsQuiet s w) (f
   present : (k : ℕ) (t : Ticket) → IsOut w k t → t.term ≢ w.term → ⊥
   present k t out apart = apart (q.tickets k t out.there).present
 
-  ruled : (who : ℕ) (step : Step) (reply : Reply) (image : Option Image) (i : Image) → image ≡ Some i → (reply ≢ Refused DepotFault) → (IsSpent reply → ⊥) → IsNew w who step → Allows f size w who step reply image → IsRuled step reply
-  ruled who step reply image i told calm unspent new (allowed.Cleaning command d x im there clean same) = absurd (nothing w.deletes d x q.no_deletes there)
-  ruled who step reply image i told calm unspent new (allowed.Used name indices moment uuid im clear is same) = ((Snapshot name indices moment, refl), tt)
-  ruled who step reply image i told calm unspent new (allowed.Full name indices moment im clear unused full same) = ((Snapshot name indices moment, refl), tt)
-  ruled who step reply image i told calm unspent new (allowed.AskSpent name indices moment im clear unused room spent same) = absurd (unspent tt)
-  ruled who step reply image i told calm unspent new (allowed.DrawSpent k n im may spent same) = absurd (unspent tt)
-  ruled who step reply image i told calm unspent new (allowed.RaiseStale k im may apart same) = absurd (present k may.t may.out apart)
-  ruled who step reply image i told calm unspent new (allowed.SettleStale k n t swapped im may apart same) = absurd (present k t may.out apart)
-  ruled who step reply image i told calm unspent new (allowed.DropStale k im may apart same) = absurd (present k may.t may.out apart)
-  ruled who step reply image i told calm unspent new (allowed.RaiseSpent k im may now spent same) = absurd (unspent tt)
-  ruled who step reply image i told calm unspent new (allowed.ElectSpent im spent same) = absurd (unspent tt)
-  ruled who step reply image i told calm unspent new (allowed.Taken k name im c aside there) = absurd (taken k name c aside (found name im i told there) (new name c.t refl c.out.there aside))
-  ruled who step reply image i told calm unspent new (allowed.BeginFails k name im c same) = absurd (calm refl)
-  ruled who step reply image i told calm unspent new (allowed.BeginLatestFails k im c same) = absurd (calm refl)
-  ruled who step reply image i told calm unspent new (allowed.CommitFails k name im c leaves) = absurd (calm refl)
-  ruled who step reply image i told calm unspent new (allowed.ReplaceFails k im c named puts) = absurd (calm refl)
-  ruled who step reply image i told calm unspent new (allowed.FetchFails k name im g same) = absurd (calm refl)
-  ruled who step reply image i told calm unspent new (allowed.ListFails k im t out same) = absurd (calm refl)
-  ruled who step reply image i told calm unspent new (allowed.AskFails name indices moment im acc same) = absurd (calm refl)
-  ruled who step reply image i told calm unspent new (allowed.RaiseFails k im r same) = absurd (calm refl)
-  ruled who step reply image i told calm unspent new (allowed.SettleFails k im x same) = absurd (calm refl)
-  ruled who step reply image i told calm unspent new (allowed.DropFails k im c same) = absurd (calm refl)
-  ruled who step reply image i told calm unspent new (allowed.ElectFails im room same) = absurd (calm refl)
-  ruled who step reply image i told calm unspent new a = tt
+  asks_restore : (name place : Bytes) (reply : Reply) (image : Option Image) → RestoreAllows f w name reply image → IsRuled (AskStep (Restore name place)) reply
+  asks_restore name place reply image (OpeningRestore o uuid indices im acc) = tt
+  asks_restore name place reply image (NotListed im none) = ((Restore name place, refl), tt)
+  asks_restore name place reply image (NamedByDelete uuid d im listed named) = ((Restore name place, refl), tt)
+  asks_restore name place reply image (FullOfRestores uuid im listed spared full) = ((Restore name place, refl), tt)
+
+  reads : (k : ℕ) (read : Read) (reply : Reply) (image : Option Image) → (reply ≢ Refused DepotFault) → ReadAllows f w k read reply image → IsRuled (ReadStep read) reply
+  reads k read reply image calm (ReadFound j name im stored by there) = tt
+  reads k read reply image calm (ReadMissing j name im stored by none) = tt
+  reads k read reply image calm (ReadFault j name im stored by) = absurd (calm refl)
+  reads k read reply image calm (RestoringShard j files bytes im r out done) = tt
+  reads k read reply image calm (ReaderFailing j why im r out) = tt
+  reads k read reply image calm (CheckingAll snapshots blobs im checks) = tt
+  reads k read reply image calm (CheckFailing why im looked) = tt
+
+  -- a test blob that is there is one that who 0 committed
+  verifies : (read : Read) (reply : Reply) (image : Option Image) (i : Image) → image ≡ Some i → (reply ≢ Refused DepotFault) → (IsSpent reply → ⊥) → IsNewTest w (ReadStep read) → VerifyAllows f w read reply image → IsRuled (ReadStep read) reply
+  verifies read reply image i told calm unspent new (DrawingTest im idle fits same) = tt
+  verifies read reply image i told calm unspent new (TestSpent im idle spent same) = absurd (unspent tt)
+  verifies read reply image i told calm unspent new (BeginningTest name im own same) = tt
+  verifies read reply image i told calm unspent new (BeginTestFails name im own same) = absurd (calm refl)
+  verifies read reply image i told calm unspent new (CommittingTest name bytes im own first adds) = tt
+  verifies read reply image i told calm unspent new (TestTaken name im own there) = absurd (new name refl (free.tests own.id name own.drawn own.test (found name im i told there)))
+  verifies read reply image i told calm unspent new (CommitTestFails name bytes im own leaves) = absurd (calm refl)
+  verifies read reply image i told calm unspent new (RemovingTests names im may left) = tt
+  verifies read reply image i told calm unspent new (RemoveTestsFails names im may left) = absurd (calm refl)
+  verifies read reply image i told calm unspent new (VerifyingAll im done same) = tt
+  verifies read reply image i told calm unspent new (VerifyFailing why id im drawn same) = tt
+
+  ruled : (who : ℕ) (step : Step) (reply : Reply) (image : Option Image) (i : Image) → image ≡ Some i → (reply ≢ Refused DepotFault) → (IsSpent reply → ⊥) → IsNew w who step → IsNewTest w step → Allows f size w who step reply image → IsRuled step reply
+  ruled who step reply image i told calm unspent new new_test (allowed.AskingRestore name place rep im h same) = asks_restore name place rep im h
+  ruled who step reply image i told calm unspent new new_test (allowed.Reading k read rep im h same) = reads k read rep im calm h
+  ruled who step reply image i told calm unspent new new_test (allowed.Verifying read rep im h) = verifies read rep im i told calm unspent new_test h
+  ruled who step reply image i told calm unspent new new_test (allowed.Cleaning command d x im recorded there clean same) = absurd (nothing w.deletes d x q.no_deletes there)
+  ruled who step reply image i told calm unspent new new_test (allowed.Used name indices moment uuid im clear is same) = ((Snapshot name indices moment, refl), tt)
+  ruled who step reply image i told calm unspent new new_test (allowed.Full name indices moment im clear unused full same) = ((Snapshot name indices moment, refl), tt)
+  ruled who step reply image i told calm unspent new new_test (allowed.AskSpent name indices moment im clear unused room spent same) = absurd (unspent tt)
+  ruled who step reply image i told calm unspent new new_test (allowed.DrawSpent k n im may spent same) = absurd (unspent tt)
+  ruled who step reply image i told calm unspent new new_test (allowed.RaiseStale k im may apart same) = absurd (present k may.t may.out apart)
+  ruled who step reply image i told calm unspent new new_test (allowed.SettleStale k n t swapped im may apart same) = absurd (present k t may.out apart)
+  ruled who step reply image i told calm unspent new new_test (allowed.DropStale k im may apart same) = absurd (present k may.t may.out apart)
+  ruled who step reply image i told calm unspent new new_test (allowed.RaiseSpent k im may now spent same) = absurd (unspent tt)
+  ruled who step reply image i told calm unspent new new_test (allowed.ElectSpent im spent same) = absurd (unspent tt)
+  ruled who step reply image i told calm unspent new new_test (allowed.Taken k name im c aside there) = absurd (taken k name c aside (found name im i told there) (new name c.t refl c.out.there aside))
+  ruled who step reply image i told calm unspent new new_test (allowed.BeginFails k name im c same) = absurd (calm refl)
+  ruled who step reply image i told calm unspent new new_test (allowed.BeginLatestFails k im c same) = absurd (calm refl)
+  ruled who step reply image i told calm unspent new new_test (allowed.CommitFails k name im c leaves) = absurd (calm refl)
+  ruled who step reply image i told calm unspent new new_test (allowed.ReplaceFails k im c named puts) = absurd (calm refl)
+  ruled who step reply image i told calm unspent new new_test (allowed.FetchFails k name im g same) = absurd (calm refl)
+  ruled who step reply image i told calm unspent new new_test (allowed.ListFails k im t out same) = absurd (calm refl)
+  ruled who step reply image i told calm unspent new new_test (allowed.AskFails name indices moment im acc same) = absurd (calm refl)
+  ruled who step reply image i told calm unspent new new_test (allowed.RaiseFails k im r same) = absurd (calm refl)
+  ruled who step reply image i told calm unspent new new_test (allowed.SettleFails k im x same) = absurd (calm refl)
+  ruled who step reply image i told calm unspent new new_test (allowed.DropFails k im c same) = absurd (calm refl)
+  ruled who step reply image i told calm unspent new new_test (allowed.ElectFails im room same) = absurd (calm refl)
+  ruled who step reply image i told calm unspent new new_test a = tt
 
 -- ---- of a history
 
@@ -105,9 +141,10 @@ by_rule s log smooth prefixes m refusal has reply =
     let told = told_at log m smooth.told has in
     let new : IsNew w m.entry.who m.entry.step = λ name t step there aside noted.
     smooth.once p.front p.back m name p.is step aside (subst (λ (x : Ticket). Has x.noted name) (sym (ap or_no_ticket there)) noted) in
+    let new_test : IsNewTest w m.entry.step = λ name step committed. smooth.tested p.front p.back m name p.is step committed in
     elim (legal_at s log smooth p.front p.back m p.is).answered [
       | inl alive ↦
           subst (IsRuled m.entry.step) reply
-          (ruled s f s.part_size w q (prefixes.free p.front (m ∷ p.back) p.is) m.entry.who m.entry.step m.entry.reply m.image told.0 told.1 (smooth.calm m has) (smooth.unspent m has) new alive.1)
+          (ruled s f s.part_size w q (prefixes.free p.front (m ∷ p.back) p.is) m.entry.who m.entry.step m.entry.reply m.image told.0 told.1 (smooth.calm m has) (smooth.unspent m has) new new_test alive.1)
       | inr dead ↦ absurd (true≢false (sym dead.deposed ∙ q.present))
     ]

@@ -3,10 +3,11 @@ use Rattle.std.specs.Prelude.{◌≡◌, ◌≢◌, ◌⊎◌, ℕ, true, Some}
 use Rattle.std.specs.FinMap as fin
 use Rattle.esr_model.specs.Names.{BlobName, Root, ShardSnap, ShardIndex}
 use Rattle.esr_model.specs.Values.{Has, SnapList, ShardFiles, Formats}
-use Rattle.esr_model.specs.Image.{At, Present, Reads}
-use Rattle.esr_core.specs.World.{World, Op, ShardWork, Pending, Shard, Ticket}
+use Rattle.esr_model.specs.Image.{Blobs, At, Present, Reads}
+use Rattle.esr_core.specs.World.{World, Op, ShardWork, Pending, Shard, Ticket, Caller}
 use Rattle.esr_core.specs.Generations.{IsLive}
 use Rattle.esr_core.specs.Ready.{Waits}
+use Rattle.esr_core.specs.Restores.{IsTestOf}
 use Rattle.esr_core.specs.Steps.{ShardCommits}
 
 -- a ticket that is out for the shard builds on this generation
@@ -22,6 +23,10 @@ pub record IsBaseOf (w : World) (index number generation : ℕ) : Type 0 where
 abbrev pub IsInUse : World → ℕ → ℕ → ℕ → Type 0
 IsInUse w index number generation = IsLive w.root w.ops index number generation ⊎ IsBaseOf w index number generation
 
+-- a test blob under the id that who 0 drew is there only where who 0 committed it
+abbrev pub AreOwnTests : Formats → Blobs → Caller → Type 0
+AreOwnTests f blobs caller = (id : ℕ) (name : BlobName) → caller.drawn ≡ Some id → IsTestOf id name → Present f blobs name → Has caller.committed name
+
 pub record Free (f : Formats) (w : World) : Type 0 where
   -- a name that a shard's ticket may commit is that of no blob, but of one that it committed
   pub shards : (k : ℕ) (t : Ticket) (name : BlobName) → fin.get w.tickets k ≡ Some t → t.out ≡ true → ShardCommits t name → Present f w.blobs name → Has t.noted name
@@ -34,3 +39,4 @@ pub record Free (f : Formats) (w : World) : Type 0 where
   -- no generation in use lists the snapshot of an op for which the shard is still to be done
   pub unlisted : (o : ℕ) (op : Op) (s : ShardWork) (g : ℕ) (held : ShardFiles) (l : SnapList) → fin.get w.ops o ≡ Some op → Has op.shards s → Waits s.state → IsInUse w s.ref.id s.number g
       → Reads (At f w.blobs) (ShardIndex s.ref.id s.number g) f.shard_index held → Has held.snapshots l → l.uuid ≢ op.uuid
+  pub tests : AreOwnTests f w.blobs w.caller

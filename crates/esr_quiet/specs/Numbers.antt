@@ -1,5 +1,5 @@
 -- The numbers of tickets.
-use Rattle.std.specs.Prelude.{◌≡◌, ◌≤◌, ℕ}
+use Rattle.std.specs.Prelude.{◌≡◌, ◌≤◌}
 use Rattle.std.specs.FinMap as fin
 use Rattle.esr_desk.specs.Start.{Start}
 

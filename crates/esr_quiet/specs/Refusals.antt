@@ -1,13 +1,25 @@
 -- The refusals that may come where nothing fails.
 use Rattle.std.specs.Prelude.{◌≡◌, List}
 use Rattle.esr_model.specs.Values.{Has}
-use Rattle.esr_core.specs.Entry.{Asked, AskStep, Refusal, NameInUse, TooMany, Refused, Moment}
+use Rattle.esr_core.specs.Entry.{Asked, Snapshot, Restore, AskStep, Refusal, NameInUse, TooMany, NoSnapshot, BeingDeleted, Refused, Moment}
+
+-- a rule of accepting refused a snapshot
+abbrev pub RefusesSnapshot : Refusal → Type 0
+RefusesSnapshot (NameInUse uuid) = Unit {0}
+RefusesSnapshot (TooMany limit) = Unit {0}
+RefusesSnapshot refusal = ⊥
+
+-- or a restore
+abbrev pub RefusesRestore : Refusal → Type 0
+RefusesRestore (NoSnapshot name) = Unit {0}
+RefusesRestore (BeingDeleted op) = Unit {0}
+RefusesRestore (TooMany limit) = Unit {0}
+RefusesRestore refusal = ⊥
 
 -- a rule of accepting refused the command
-abbrev pub IsByRule : Refusal → Type 0
-IsByRule (NameInUse uuid) = Unit {0}
-IsByRule (TooMany limit) = Unit {0}
-IsByRule refusal = ⊥
+abbrev pub IsByRule : Asked → Refusal → Type 0
+IsByRule (Snapshot name indices moment) refusal = RefusesSnapshot refusal
+IsByRule (Restore name place) refusal = RefusesRestore refusal
 
 -- a command was asked for
 abbrev pub IsOfCommand : Moment → Type 0
@@ -15,4 +27,4 @@ IsOfCommand m = (command : Asked) × (m.entry.step ≡ AskStep command)
 
 -- each refusal is that of a command, by a rule
 abbrev pub AreByRule : List Moment → Type 0
-AreByRule log = (m : Moment) (refusal : Refusal) → Has log m → m.entry.reply ≡ Refused refusal → IsOfCommand m × IsByRule refusal
+AreByRule log = (m : Moment) (refusal : Refusal) → Has log m → m.entry.reply ≡ Refused refusal → (of : IsOfCommand m) × IsByRule of.0 refusal

@@ -1,14 +1,15 @@
 -- A history over quiet objects that tell, in which no number was spent.
-use Rattle.std.specs.Prelude.{◌≡◌, ◌≢◌, true, List}
+use Rattle.std.specs.Prelude.{◌≡◌, ◌≢◌, true, List, ◌∷◌, ◌++◌}
 use Rattle.std.specs.FinMap as fin
+use Rattle.esr_model.specs.Names.{BlobName}
 use Rattle.esr_model.specs.Values.{Has}
 use Rattle.esr_model.specs.Shelf.{Shelved}
 use Rattle.esr_model.specs.Image.{Image}
 use Rattle.esr_model.specs.Kept.{Kept}
 use Rattle.esr_core.specs.World.{Opened}
-use Rattle.esr_core.specs.Entry.{FailedStep, Why, ElectStep, Reply, HasEnded, Refused, DepotFault, IdsSpent, GenerationsSpent, TermsSpent, Moment}
+use Rattle.esr_core.specs.Entry.{FailedStep, Why, ElectStep, ReadStep, CommitTest, Reply, HasEnded, Refused, DepotFault, IdsSpent, GenerationsSpent, TermsSpent, Moment}
 use Rattle.esr_core.specs.History.{AllKnown, AreTold, AreHonest}
-use Rattle.esr_desk.specs.Start.{Start, formats_of, Legal}
+use Rattle.esr_desk.specs.Start.{Start, formats_of, world_of, Legal}
 use Rattle.esr_desk.specs.Once.{AreOnce}
 use Rattle.esr_quiet.specs.Asked.{AreSteady}
 
@@ -30,6 +31,10 @@ AreUnspent log = (m : Moment) → Has log m → IsSpent m.entry.reply → ⊥
 abbrev pub AreUnelected : List Moment → Type 0
 AreUnelected log = (m : Moment) → Has log m → m.entry.step ≢ ElectStep
 
+-- no verification commits a test blob twice
+abbrev pub AreTestedOnce : Start → List Moment → Type 0
+AreTestedOnce s log = (front back : List Moment) (m : Moment) (name : BlobName) → log ≡ front ++ m ∷ back → m.entry.step ≡ ReadStep (CommitTest name) → Has (world_of s front).caller.committed name → ⊥
+
 -- The container told its image, which was kept, at the start and at each moment, and no call of it failed; the sources tell
 -- all files, and no shard that was asked for fails.
 pub record IsSmooth (s : Start) (log : List Moment) : Type 0 where
@@ -45,6 +50,7 @@ pub record IsSmooth (s : Start) (log : List Moment) : Type 0 where
   pub told : AreTold log
   pub honest : AreHonest (formats_of s) s.world log
   pub once : AreOnce s log
+  pub tested : AreTestedOnce s log
   pub steady : AreSteady s log
   pub calm : AreCalm log
   pub unspent : AreUnspent log

@@ -33,6 +33,7 @@ begun_repo l s clock past k b =
             ranked = b.order.ranked;
             no_deletes = b.order.no_deletes;
             no_deleting = no_deleting s.world b.no_tickets;
+            no_restore = b.no_restore;
             few_ops = omega arith;
             few_tickets = omega arith;
           };

@@ -36,7 +36,7 @@ use Rattle.esr_desk.specs.Conditions.{Holds}
 use Rattle.esr_repo.specs.Log.{image_of, calls, log_of}
 use Rattle.esr_repo.specs.Repo.{Kept, TellsSo, IsSteady, IsRepo}
 use Rattle.esr_repo.specs.Next.{Added, IsLive}
-use Rattle.esr_repo.specs.May.{Same, IsNamed, MayBegin, IsThere, IsAdded, MayCommit, IsPut, MayReplace, IsFound, MayFetch}
+use Rattle.esr_repo.specs.May.{opens_restore, Same, IsNamed, MayBegin, IsThere, IsAdded, MayCommit, IsPut, MayReplace, IsFound, MayFetch}
 use Rattle.esr_repo.specs.Laws.{Laws}
 use Rattle.esr_repo.specs.Grown.{legal_step}
 use Rattle.esr_repo.proofs.Frames.{rests_answered}
@@ -146,7 +146,7 @@ idles_given : (w : World) (k : ℕ) (g : Ticket → Ticket) (o : Option Ticket) 
 idles_given w k g None there same = idles_same w
 idles_given w k g (Some t) there same =
     record {
-      plan = λ p h. record { ops = h.ops; deletes = h.deletes; completed = h.completed; seats = λ q. h.seats q ∙ sym (seats_stay w.tickets k t (g t) there (same t) q); next_op = h.next_op; next_ticket = h.next_ticket };
+      plan = λ p h. record { ops = h.ops; deletes = h.deletes; completed = h.completed; seats = λ q. h.seats q ∙ sym (seats_stay w.tickets k t (g t) there (same t) q); next_op = h.next_op; next_ticket = h.next_ticket; restores = h.restores; restore_count = h.restore_count; readers = h.readers };
       next = refl;
     }
 
@@ -330,20 +330,20 @@ module _ {old : Look} {s : Start} {clock : ℕ} {es : List Entry} {k : Kept} {d 
           }
 
       -- what is kept stays
-      call_made : (mid es' : List Entry) → Pushed es mid es' e → IsCall old new s seen e → Idles (world_of s seen) (answered (formats_of s) (world_of s seen) e.who e.step e.reply (image_now new)) → Made old new s clock es es' k d seen e
-      call_made mid es' p c idles =
+      call_made : opens_restore e.step e.reply ≡ false → (mid es' : List Entry) → Pushed es mid es' e → IsCall old new s seen e → Idles (world_of s seen) (answered (formats_of s) (world_of s seen) e.who e.step e.reply (image_now new)) → Made old new s clock es es' k d seen e
+      call_made closed mid es' p c idles =
           let more = more_is es mid es' e p in
           let kept = kept_now old s clock es k d seen b.repo b.view b.live in
           let w : World = answered (formats_of s) (world_of s seen) e.who e.step e.reply (image_now new) in
           let rests = rests_answered (formats_of s) (world_of s seen) e.who e.step e.reply (image_now new) noswap in
           made old new s clock es es' k k d d seen e b more c
-          (added_repo old new s clock es es' k k d d seen e b.laws b.repo b.view c.goes c.tells more c.allowed
+          (added_repo old new s clock es es' k k d d seen e b.laws b.repo b.view c.goes c.tells more c.allowed closed
           (λ none. (
             rests.deposed ∙ b.live,
             record {
               cluster = kept.1.cluster ∙ sym (same_record (now new) e noswap);
               root = kept.1.root ∙ sym rests.root;
-              plan = plan_aside w (blobs_in (image_now new) (world_of s seen).blobs) w.deposed k.plan (idles.plan k.plan kept.1.plan);
+              plan = plan_aside w (blobs_in (image_now new) (world_of s seen).blobs) w.deposed (after (formats_of s) (world_of s seen) here).caller k.plan (idles.plan k.plan kept.1.plan);
               next = kept.1.next ∙ sym idles.next;
             },
           ))
@@ -357,7 +357,7 @@ module _ {old : Look} {s : Start} {clock : ℕ} {es : List Entry} {k : Kept} {d 
       begin_ok x c mid es' p =
           let e : Entry = record { who = who; step = BeginStep nm; reply = WasBegun } in
           let same : now new ≡ now old = c.done in
-          call_made e refl mid es' p (call_is e refl SameImage (c.passed refl) refl (text_same_image (now old) (now new) same) (m.begins (named_of s nm back) (image_now new) (told_same (now new) same)) (same_cut (here e refl))) (idles_same (world_of s seen))
+          call_made e refl refl mid es' p (call_is e refl SameImage (c.passed refl) refl (text_same_image (now old) (now new) same) (m.begins (named_of s nm back) (image_now new) (told_same (now new) same)) (same_cut (here e refl))) (idles_same (world_of s seen))
 
       pub begin_fault : {T : Type 0} (error : CallError) → error ≡ Failed → Called {T = T} old new (λ _. SameImage) SameImage (Err error) → (mid es' : List Entry) → Pushed es mid es' (record { who = who; step = BeginStep nm; reply = Refused DepotFault })
           → Made old new s clock es es' k d seen (record { who = who; step = BeginStep nm; reply = Refused DepotFault })
@@ -365,7 +365,7 @@ module _ {old : Look} {s : Start} {clock : ℕ} {es : List Entry} {k : Kept} {d 
           let e : Entry = record { who = who; step = BeginStep nm; reply = Refused DepotFault } in
           let g = failed_is {T = T} old new (λ _. SameImage) SameImage error is c in
           let same : now new ≡ now old = g.1 in
-          call_made e refl mid es' p (call_is e refl SameImage g.0 refl (text_same_image (now old) (now new) same) (m.fails (named_of s nm back) (image_now new) (told_same (now new) same)) (same_cut (here e refl)))
+          call_made e refl refl mid es' p (call_is e refl SameImage g.0 refl (text_same_image (now old) (now new) same) (m.fails (named_of s nm back) (image_now new) (told_same (now new) same)) (same_cut (here e refl)))
           (idles_either (world_of s seen) (tried (world_of s seen) who) (is_latest nm) (idles_tried (world_of s seen) who))
 
     -- ---- a blob that is committed
@@ -403,7 +403,7 @@ module _ {old : Look} {s : Start} {clock : ℕ} {es : List Entry} {k : Kept} {d 
           let e : Entry = record { who = who; step = CommitStep nm; reply = WasDone } in
           let c' = of_name (Ok commits.Done) (subst (λ x. Called old new (Committed text contents) (CommitMay text contents) (Ok x)) what c) in
           let is : now new ≡ put_known (now old) name_text contents = c'.done.0 in (
-            call_made e refl mid es' p
+            call_made e refl refl mid es' p
                 (call_is e refl (CommitMay name_text contents) (c'.passed refl) refl (text_put (now new) name_text contents bytes h is) (m.commits (named_of s nm back) (image_now new) (told_of (now new) (IsAdded s seen nm bytes) (told_added (now new) is c'.done.1))) (commit_cut WasDone (image_now new)))
                 (idles_change (world_of s seen) who (committing nm (told_blob (formats_of s) (image_now new) nm)) (seat_committing nm (told_blob (formats_of s) (image_now new) nm))),
             blob_put (now new) nm contents bytes h is,
@@ -423,7 +423,7 @@ module _ {old : Look} {s : Start} {clock : ℕ} {es : List Entry} {k : Kept} {d 
           let e : Entry = record { who = who; step = CommitStep nm; reply = WasThere } in
           let c' = of_name (Ok commits.Exists) (subst (λ x. Called old new (Committed text contents) (CommitMay text contents) (Ok x)) what c) in
           let same : now new ≡ now old = c'.done.0 in
-          call_made e refl mid es' p
+          call_made e refl refl mid es' p
           (call_is e refl (CommitMay name_text contents) (c'.passed refl) refl (text_same_image (now old) (now new) same) (m.finds (named_of s nm back) metadata (image_now new) (told_of (now new) (IsThere s seen nm) (told_there same c'.done.1))) (commit_cut WasThere (image_now new)))
           (idles_change (world_of s seen) who (λ t. noting t nm) (λ t. refl))
 
@@ -433,7 +433,7 @@ module _ {old : Look} {s : Start} {clock : ℕ} {es : List Entry} {k : Kept} {d 
           let e : Entry = record { who = who; step = CommitStep nm; reply = Refused (NameTaken nm) } in
           let c' = of_name (Ok commits.Exists) (subst (λ x. Called old new (Committed text contents) (CommitMay text contents) (Ok x)) what c) in
           let same : now new ≡ now old = c'.done.0 in
-          call_made e refl mid es' p
+          call_made e refl refl mid es' p
           (call_is e refl (CommitMay name_text contents) (c'.passed refl) refl (text_same_image (now old) (now new) same) (m.taken (named_of s nm back) other (image_now new) (told_of (now new) (IsThere s seen nm) (told_there same c'.done.1))) (commit_cut (Refused (NameTaken nm)) (image_now new)))
           (idles_same (world_of s seen))
 
@@ -443,7 +443,7 @@ module _ {old : Look} {s : Start} {clock : ℕ} {es : List Entry} {k : Kept} {d 
           let e : Entry = record { who = who; step = CommitStep nm; reply = Refused DepotFault } in
           let g = failed_is old new (Committed name_text contents) (CommitMay name_text contents) error is (of_name (Err error) c) in
           let left = commit_left (now new) g.1 in
-          call_made e refl mid es' p (call_is e refl (CommitMay name_text contents) g.0 refl left.0 (m.fails (named_of s nm back) (image_now new) left.1) (commit_cut (Refused DepotFault) (image_now new))) (idles_same (world_of s seen))
+          call_made e refl refl mid es' p (call_is e refl (CommitMay name_text contents) g.0 refl left.0 (m.fails (named_of s nm back) (image_now new) left.1) (commit_cut (Refused DepotFault) (image_now new))) (idles_same (world_of s seen))
 
     -- ---- `index.latest` is replaced
 
@@ -477,7 +477,7 @@ module _ {old : Look} {s : Start} {clock : ℕ} {es : List Entry} {k : Kept} {d 
           let e : Entry = record { who = who; step = LatestStep; reply = WasReplaced } in
           let c' = of_latest (Ok x) c in
           let is : now new ≡ put_known (now old) latest_text contents = c'.done in
-          call_made e refl mid es' p
+          call_made e refl refl mid es' p
           (call_is e refl (ReplaceMay latest_text contents) (c'.passed refl) refl (text_put (now new) latest_text contents bytes h is) (m.puts (named_of s Latest back) (image_now new) (told_of (now new) (IsPut s seen Latest bytes) (blobs_put (now new) latest_text contents bytes h is))) (replace_cut WasReplaced (image_now new)))
           idles_latest
 
@@ -487,7 +487,7 @@ module _ {old : Look} {s : Start} {clock : ℕ} {es : List Entry} {k : Kept} {d 
           let e : Entry = record { who = who; step = LatestStep; reply = Refused DepotFault } in
           let g = failed_is {T = Unit {0}} old new (λ _. Replaced latest_text contents) (ReplaceMay latest_text contents) error is (of_latest (Err error) c) in
           let left = replace_left (now new) g.1 in
-          call_made e refl mid es' p (call_is e refl (ReplaceMay latest_text contents) g.0 refl left.0 (m.fails (named_of s Latest back) (image_now new) left.1) (replace_cut (Refused DepotFault) (image_now new))) idles_latest
+          call_made e refl refl mid es' p (call_is e refl (ReplaceMay latest_text contents) g.0 refl left.0 (m.fails (named_of s Latest back) (image_now new) left.1) (replace_cut (Refused DepotFault) (image_now new))) idles_latest
 
     -- ---- a blob that is fetched
 
@@ -507,7 +507,7 @@ module _ {old : Look} {s : Start} {clock : ℕ} {es : List Entry} {k : Kept} {d 
           let c' = subst (λ o. Called old new (λ _. SameImage) SameImage (Ok o)) is c in
           let same : now new ≡ now old = c'.done in
           let there : IsTaken (now old) fetched_text = subst (λ t. IsTaken (now old) t) (named ∙ names_text s nm) (subst (λ o. IfSome o (λ _. IsTaken (now old) text)) is taken) in
-          call_made e refl mid es' p
+          call_made e refl refl mid es' p
           (call_is e refl SameImage (c'.passed refl) refl (text_same_image (now old) (now new) same)
           (m.fetches (named_of s nm back) (image_now new)
           (told_of (now new) (λ blobs. (bytes : Bytes) × IsFound s seen nm (Some bytes) blobs) (λ i q.
@@ -546,7 +546,7 @@ module _ {old : Look} {s : Start} {clock : ℕ} {es : List Entry} {k : Kept} {d 
           let c' = subst (λ (o : Option F). Called old new (λ _. SameImage) SameImage (Ok o)) is c in
           let same : now new ≡ now old = c'.done in
           let free' : IsFree (now old) fetched_text = subst (λ t. IsFree (now old) t) (named ∙ names_text s nm) free in
-          call_made e refl mid es' p
+          call_made e refl refl mid es' p
           (call_is e refl SameImage (c'.passed refl) refl (text_same_image (now old) (now new) same) (m.misses (named_of s nm back) (image_now new) (told_of (now new) (IsFound s seen nm None) (told_found None same free'))) (same_cut (here e refl)))
           (idles_same (world_of s seen))
 
@@ -556,4 +556,4 @@ module _ {old : Look} {s : Start} {clock : ℕ} {es : List Entry} {k : Kept} {d 
           let e : Entry = record { who = who; step = FetchStep nm; reply = Refused DepotFault } in
           let g = failed_is {T = T} old new (λ _. SameImage) SameImage error is c in
           let same : now new ≡ now old = g.1 in
-          call_made e refl mid es' p (call_is e refl SameImage g.0 refl (text_same_image (now old) (now new) same) (m.fails (named_of s nm back) (image_now new) (told_same (now new) same)) (same_cut (here e refl))) (idles_same (world_of s seen))
+          call_made e refl refl mid es' p (call_is e refl SameImage g.0 refl (text_same_image (now old) (now new) same) (m.fails (named_of s nm back) (image_now new) (told_same (now new) same)) (same_cut (here e refl))) (idles_same (world_of s seen))

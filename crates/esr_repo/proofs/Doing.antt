@@ -101,13 +101,13 @@ module _ (laws : Laws) (l : Look) (s : Start) (clock : ℕ) (es mid es' : List E
   done_repo =
       let kept = kept_now l s clock es k d seen r view live in
       let rests = rests_answered (formats_of s) (world_of s seen) who (DoneStep outcome) HasEnded (image_now l) refl in
-      added_repo l l s clock es es' k kept_then d d seen e laws r view (goes_same l e refl) r.tells more done_allowed
+      added_repo l l s clock es es' k kept_then d d seen e laws r view (goes_same l e refl) r.tells more done_allowed refl
       (λ none. (
         rests.deposed ∙ live,
         record {
           cluster = kept.1.cluster ∙ sym same_record;
           root = kept.1.root ∙ sym rests.root;
-          plan = plan_aside next (blobs_in (image_now l) (world_of s seen).blobs) next.deposed new plan_is;
+          plan = plan_aside next (blobs_in (image_now l) (world_of s seen).blobs) next.deposed next.caller new plan_is;
           next = kept.1.next ∙ sym (next_done (world_of s seen) who outcome (fin.get (world_of s seen).tickets who));
         },
       ))

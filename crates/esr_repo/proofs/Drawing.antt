@@ -21,6 +21,7 @@ use Rattle.esr_repo.specs.Grown.{out_is, added_ticket, changed_ticket}
 pub may_look : (s : Start) (log : List Moment) (snapshots : List RootSnap) (safe next : ℕ) → snapshots ≡ (world_of s log).root.snapshots → safe ≡ (world_of s log).safe → next ≡ (world_of s log).next_id → MayNote s log 0 LookStep (Looked snapshots safe) None next
 may_look s log snapshots safe next listed safe_is next_is = record {
   plain = refl;
+  closed = refl;
   allows = λ image same. subst (λ (x : List RootSnap). Allows (formats_of s) s.part_size (world_of s log) 0 LookStep (Looked x safe) image) (sym listed)
       (subst (λ (n : ℕ). Allows (formats_of s) s.part_size (world_of s log) 0 LookStep (Looked (world_of s log).root.snapshots n) image) (sym safe_is) (Looking image same));
   plan_is = λ image old h. h;
@@ -44,12 +45,13 @@ drawn_plan w k n next p h = go (fin.get w.tickets k) refl
     put t there q = h.seats q ∙ same_seats w.tickets k t (drawing w.next_id n t) there refl q
 
     go : (o : Option Ticket) → fin.get w.tickets k ≡ o → IsPlanOf (record (with_given w k (drawing w.next_id n) o) { next_id = next }) p
-    go None there = record { ops = h.ops; deletes = h.deletes; completed = h.completed; seats = h.seats; next_op = h.next_op; next_ticket = h.next_ticket }
-    go (Some t) there = record { ops = h.ops; deletes = h.deletes; completed = h.completed; seats = put t there; next_op = h.next_op; next_ticket = h.next_ticket }
+    go None there = record { ops = h.ops; deletes = h.deletes; completed = h.completed; seats = h.seats; next_op = h.next_op; next_ticket = h.next_ticket; restores = h.restores; restore_count = h.restore_count; readers = h.readers }
+    go (Some t) there = record { ops = h.ops; deletes = h.deletes; completed = h.completed; seats = put t there; next_op = h.next_op; next_ticket = h.next_ticket; restores = h.restores; restore_count = h.restore_count; readers = h.readers }
 
 pub may_note_draw : (s : Start) (log : List Moment) (k n first next : ℕ) → CanDraw s (ticket_of s log k) n → first ≡ (world_of s log).next_id → next ≡ (world_of s log).next_id + n → next < first_id (suc (world_of s log).term) → MayNote s log k (DrawStep n) (DrawnFrom first) None next
 may_note_draw s log k n first next can first_is next_is below = record {
   plain = refl;
+  closed = refl;
   allows = λ image same. Drawing k n first image (record { may = may_draw s log k n can; first_is = first_is; fits = subst (λ (x : ℕ). x < first_id (suc (world_of s log).term)) next_is below }) same;
   plan_is = λ image old h. drawn_plan (world_of s log) k n ((world_of s log).next_id + n) old h;
   next_is = λ image. next_is;

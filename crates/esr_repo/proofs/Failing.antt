@@ -2,12 +2,13 @@
 use Rattle.std.proofs.Common.{◌≡◌, ℕ, ◌+◌, ◌-◌, ◌^◌, ◌≤◌, Bool, true, false, true≢false, cond, List, [], ◌∷◌, ◌++◌, length, Option, Some, None, Err, refl, sym, ap, ◌∙◌, subst, inl, inr, arith, append-nil, append_assoc}
 use Rattle.std.specs.Prelude.{min}
 use Rattle.std.proofs.lemmas.List.Sums.{sum_by_push}
-use Rattle.esr_model.specs.Values.{Formats}
+use Rattle.esr_model.specs.Values.{Bytes, Formats}
 use Rattle.esr_model.specs.Image.{Image}
 use Rattle.esr_core.specs.World.{World}
-use Rattle.esr_core.specs.Entry.{Step, Reply, Refused, DeposedAt, DepotFault, Entry, Moment}
+use Rattle.esr_core.specs.Entry.{Read, Step, Reply, Refused, DeposedAt, DepotFault, Entry, Moment}
 use Rattle.esr_core.specs.After.{swaps_record}
-use Rattle.esr_core.specs.Allowed.{Allows}
+use Rattle.esr_core.specs.Allowed.{RestoreAllows, VerifyAllows, ReadAllows, Allows}
+use Rattle.esr_core.specs.Allowed as allowed
 use Rattle.esr_depot.specs.declared.error.CallError.{CallError}
 use Rattle.esr_depot.specs.declared.error.CallError.TheVariants.{Failed}
 use Rattle.esr_depot.specs.Calls.{up, HasCause, has_failed}
@@ -91,8 +92,19 @@ pub told_none : (reply : Reply) → is_refused reply ≡ false → tells_none re
 told_none (Refused refusal) h = absurd (true≢false h)
 told_none reply h = refl
 
+restore_never : (f : Formats) (w : World) (name : Bytes) (place : ℕ) (image : Option Image) → RestoreAllows f w name (Refused (DeposedAt place)) image → ⊥
+restore_never f w name place image h = elim h [ ]
+
+verify_never : (f : Formats) (w : World) (read : Read) (place : ℕ) (image : Option Image) → VerifyAllows f w read (Refused (DeposedAt place)) image → ⊥
+verify_never f w read place image h = elim h [ ]
+
+read_never : (f : Formats) (w : World) (who : ℕ) (read : Read) (place : ℕ) (image : Option Image) → ReadAllows f w who read (Refused (DeposedAt place)) image → ⊥
+read_never f w who read place image h = elim h [ ]
+
 never_deposed : (f : Formats) (part_size : ℕ) (w : World) (who : ℕ) (step : Step) (place : ℕ) (image : Option Image) → Allows f part_size w who step (Refused (DeposedAt place)) image → ⊥
-never_deposed f part_size w who step place image h = elim h [ ]
+never_deposed f part_size w who step place image (allowed.AskingRestore name target reply im h same) = restore_never f w name place image h
+never_deposed f part_size w who step place image (allowed.Verifying read reply im h) = verify_never f w read place image h
+never_deposed f part_size w who step place image (allowed.Reading k read reply im h same) = read_never f w who read place image h
 
 -- a step without a call of the container
 pub noted_none : {s : Start} {log : List Moment} {who : ℕ} {step : Step} {reply : Reply} {plan : Option Plan} {next : ℕ} → MayNote s log who step reply plan next → tells_none reply ≡ true

@@ -5,7 +5,7 @@ use Rattle.std.specs.FinMap as fin
 use Rattle.esr_model.specs.Values.{ReadsBack}
 use Rattle.esr_model.specs.Image.{Image}
 use Rattle.esr_core.specs.World.{World, record_of}
-use Rattle.esr_core.specs.Entry.{Step, Refused, Refusal, DeposedAt, DepotFault, Entry, Moment}
+use Rattle.esr_core.specs.Entry.{Restore, Step, AskStep, Refused, Refusal, DeposedAt, DepotFault, Entry, Moment}
 use Rattle.esr_core.specs.After.{answered, blobs_in, after}
 use Rattle.esr_core.specs.Allowed.{Allows, IsDeposed, Allowed}
 use Rattle.esr_depot.specs.Look.{Look}
@@ -15,7 +15,7 @@ use Rattle.esr_desk.specs.Start.{Start, formats_of, world_of, or_no_ticket, tick
 use Rattle.esr_repo.specs.Log.{calls, log_of}
 use Rattle.esr_repo.specs.Repo.{Kept, IsSteady, IsRepo}
 use Rattle.esr_repo.specs.Next.{Added, IsLive}
-use Rattle.esr_repo.specs.May.{MayNote, MayRefuse}
+use Rattle.esr_repo.specs.May.{opens_restore, MayNote, MayRefuse}
 use Rattle.esr_repo.specs.Laws.{Laws}
 use Rattle.esr_repo.specs.Grown.{added_ticket}
 use Rattle.esr_repo.proofs.Frames.{IsPlain, NoSwap, ByRule, plain_is, rests_answered}
@@ -36,6 +36,11 @@ stays_after laws s w m plain = go (plain_is (formats_of s) w m.entry.who m.entry
         let rests = rests_answered (formats_of s) w m.entry.who m.entry.step m.entry.reply m.image e in
         record { record_is = laws.record_stays (formats_of s) w m e; root = rests.root; deposed = rests.deposed }
     go (ByRule e) = record { record_is = ap record_of e; root = ap (λ (x : World). x.root) e; deposed = ap (λ (x : World). x.deposed) e }
+
+-- a refusal opens no restore
+refused_closed : (step : Step) (refusal : Refusal) → opens_restore step (Refused refusal) ≡ false
+refused_closed (AskStep (Restore name place)) refusal = refl
+refused_closed step refusal = refl
 
 -- such a step is allowed where its answer is
 allowed_plain : (laws : Laws) (s : Start) (log : List Moment) (l : Look) (e : Entry) → IsSteady s log l → calls e.step e.reply ≡ false
@@ -79,7 +84,7 @@ module _ (laws : Laws) (l : Look) (s : Start) (clock : ℕ) (es mid es' : List E
 
     pub deposed_repo : IsRepo l s clock es' k d
     deposed_repo =
-        added_repo l l s clock es es' k k d d seen e laws r view (goes_same l e by_rule) r.tells more deposed_allowed
+        added_repo l l s clock es es' k k d d seen e laws r view (goes_same l e by_rule) r.tells more deposed_allowed (ap (opens_restore e.step) refused ∙ refused_closed e.step (DeposedAt place))
         (λ none. absurd (never place (sym fell ∙ none)))
         (λ other n. (stays_after laws s (world_of s seen) entry_moment by_rule).deposed ∙ is_deposed)
       where
@@ -103,13 +108,13 @@ module _ (laws : Laws) (l : Look) (s : Start) (clock : ℕ) (es mid es' : List E
         let now = kept_now l s clock es k d seen r view live in
         let stays = stays_after laws s (world_of s seen) entry_moment may.plain in
         let w : World = answered (formats_of s) (world_of s seen) e.who e.step e.reply (image_now l) in
-        added_repo l l s clock es es' k kept_then d d seen e laws r view (goes_same l e may.plain) r.tells more note_allowed
+        added_repo l l s clock es es' k kept_then d d seen e laws r view (goes_same l e may.plain) r.tells more note_allowed may.closed
         (λ none. (
           stays.deposed ∙ live,
           record {
             cluster = now.1.cluster ∙ sym stays.record_is;
             root = now.1.root ∙ sym stays.root;
-            plan = plan_aside w (blobs_in (image_now l) (world_of s seen).blobs) w.deposed new (subst (IsPlanOf w) (sym new_is) (may.plan_is (image_now l) k.plan now.1.plan));
+            plan = plan_aside w (blobs_in (image_now l) (world_of s seen).blobs) w.deposed (after (formats_of s) (world_of s seen) entry_moment).caller new (subst (IsPlanOf w) (sym new_is) (may.plan_is (image_now l) k.plan now.1.plan));
             next = may.next_is (image_now l);
           },
         ))
@@ -139,6 +144,7 @@ refused_tickets s old new who step refusal plain a j =
 pub may_refuse : (s : Start) (log : List Moment) (who : ℕ) (step : Step) (refusal : Refusal) (next : ℕ) → next ≡ (world_of s log).next_id → MayRefuse s log who step refusal → MayNote s log who step (Refused refusal) None next
 may_refuse s log who step refusal next is may = record {
   plain = may.plain;
+  closed = refused_closed step refusal;
   allows = may.allows;
   plan_is = λ image old h. subst (λ (w : World). IsPlanOf w old) (sym (refused_answer s (world_of s log) who step refusal image may.plain)) h;
   next_is = λ image. is ∙ ap (λ (w : World). w.next_id) (sym (refused_answer s (world_of s log) who step refusal image may.plain));

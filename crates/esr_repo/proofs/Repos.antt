@@ -3,7 +3,7 @@ use Rattle.std.proofs.Common.{◌≡◌, ℕ, suc, ◌+◌, ◌≤◌, Bool, tru
 use Rattle.std.specs.Prelude.{option_map}
 use Rattle.esr_model.specs.Values.{ReadsBack}
 use Rattle.esr_model.specs.Image.{Blobs, Image}
-use Rattle.esr_core.specs.World.{World, record_of}
+use Rattle.esr_core.specs.World.{World, Caller, record_of}
 use Rattle.esr_core.specs.World as core
 use Rattle.esr_core.specs.Entry.{Entry, Moment}
 use Rattle.esr_core.specs.After.{blobs_in, after}
@@ -19,8 +19,9 @@ use Rattle.esr_formats.specs.Names.{name_kind}
 use Rattle.esr_progress.specs.Plan.{Plan, IsPlanOf}
 use Rattle.esr_desk.specs.Start.{Start, formats_of, world_of, Legal}
 use Rattle.esr_repo.specs.Log.{image_of, tick, ticks, log_of}
-use Rattle.esr_repo.specs.Repo.{Kept, IsKeptOf, TellsSo, NoDeleting, IsSteady, IsRepo}
+use Rattle.esr_repo.specs.Repo.{Kept, IsKeptOf, TellsSo, NoDeleting, NoRestore, IsSteady, IsRepo}
 use Rattle.esr_repo.specs.Next.{Added, IsLive}
+use Rattle.esr_repo.specs.May.{opens_restore}
 use Rattle.esr_repo.specs.Laws.{Laws}
 use Rattle.esr_repo.proofs.Frames.{frame_after}
 use Rattle.esr_repo.specs.Grown.{legal_step, world_step}
@@ -44,9 +45,10 @@ some_none x e = cc
 both : true ≡ false → ⊥
 both e = cc
 
--- the plan of a world reads no blobs
-pub plan_aside : (w : World) (blobs : Blobs) (deposed : Bool) (p : Plan) → IsPlanOf w p → IsPlanOf (record w { blobs = blobs; deposed = deposed }) p
-plan_aside w blobs deposed p h = record { ops = h.ops; deletes = h.deletes; completed = h.completed; seats = h.seats; next_op = h.next_op; next_ticket = h.next_ticket }
+-- the plan of a world reads neither its blobs nor what who 0 has done
+pub plan_aside : (w : World) (blobs : Blobs) (deposed : Bool) (caller : Caller) (p : Plan) → IsPlanOf w p → IsPlanOf (record w { blobs = blobs; deposed = deposed; caller = caller }) p
+plan_aside w blobs deposed caller p h =
+    record { ops = h.ops; deletes = h.deletes; completed = h.completed; seats = h.seats; next_op = h.next_op; next_ticket = h.next_ticket; restores = h.restores; restore_count = h.restore_count; readers = h.readers }
 
 -- where no record swap has failed, what is kept is that of the world
 pub kept_now : (l : Look) (s : Start) (clock : ℕ) (es : List Entry) (k : Kept) (d : Option ℕ) (seen : List Moment) → IsRepo l s clock es k d → log_of l clock es ≡ seen → IsLive s seen → (d ≡ None) × IsKeptOf (world_of s seen) k
@@ -118,9 +120,9 @@ module _ (old new : Look) (s : Start) (clock : ℕ) (es es' : List Entry) (k k' 
     longer : length (log_of new clock es') ≡ suc (length seen)
     longer = ap length new_log ∙ length-append seen (moment ∷ []) ∙ omega arith
 
-    new_steady : IsSteady s (log_of new clock es') new
-    new_steady =
-        let frame = frame_after (formats_of s) (world_of s seen) moment in
+    new_steady : opens_restore e.step e.reply ≡ false → IsSteady s (log_of new clock es') new
+    new_steady closed =
+        let frame = frame_after (formats_of s) (world_of s seen) moment closed in
         let w' : World = after (formats_of s) (world_of s seen) moment in
         record {
           legal = new_legal;
@@ -130,20 +132,21 @@ module _ (old new : Look) (s : Start) (clock : ℕ) (es es' : List Entry) (k k' 
           ranked = subst Ranked (sym new_world) (laws.ranked (formats_of s) s.part_size (world_of s seen) moment steady.tracked steady.ranked allowed);
           no_deletes = ap (λ (w : World). w.deletes) new_world ∙ frame.deletes steady.no_deletes;
           no_deleting = subst (λ (w : World). NoDeleting w) (sym new_world) (frame.no_deleting steady.no_deleting);
+          no_restore = subst (λ (w : World). NoRestore w) (sym new_world) (frame.no_restore steady.no_restore);
           few_ops = subst (λ (w : World). w.next_op ≤ s.world.next_op + length (log_of new clock es')) (sym new_world) (omega (arith, frame.ops, steady.few_ops, longer));
           few_tickets = subst (λ (w : World). w.next_ticket ≤ s.world.next_ticket + length (log_of new clock es')) (sym new_world) (omega (arith, frame.tickets, steady.few_tickets, longer));
         }
 
-    -- and it is a container with its history again
-    pub added_repo : (d' ≡ None → ((after (formats_of s) (world_of s seen) moment).deposed ≡ false) × IsKeptOf (after (formats_of s) (world_of s seen) moment) k')
+    -- and it is a container with its history again, where the entry opens no restore
+    pub added_repo : opens_restore e.step e.reply ≡ false → (d' ≡ None → ((after (formats_of s) (world_of s seen) moment).deposed ≡ false) × IsKeptOf (after (formats_of s) (world_of s seen) moment) k')
         → ((place : ℕ) → d' ≡ Some place → (after (formats_of s) (world_of s seen) moment).deposed ≡ true) → IsRepo new s clock es' k' d'
-    added_repo live fallen =
+    added_repo closed live fallen =
         record {
           roomy = r.roomy;
           bounded = r.bounded;
           clock_is = goes.clock ∙ ap (λ t. tick t e) r.clock_is ∙ sym (ticks-append clock es e) ∙ ap (ticks clock) (sym pushed);
           tells = tells;
-          steady = new_steady;
+          steady = new_steady closed;
           live = λ n. subst (λ (w : World). (w.deposed ≡ false) × IsKeptOf w k') (sym new_world) (live n);
           fallen = λ place n. ap (λ (w : World). w.deposed) new_world ∙ fallen place n;
         }
@@ -171,6 +174,7 @@ repo_stays old new s clock es k d r n =
             ranked = h.ranked;
             no_deletes = h.no_deletes;
             no_deleting = h.no_deleting;
+            no_restore = h.no_restore;
             few_ops = h.few_ops;
             few_tickets = h.few_tickets;
           });

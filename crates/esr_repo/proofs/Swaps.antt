@@ -10,7 +10,7 @@ use Rattle.esr_model.specs.Values.{Bytes, ReadsBack, Formats}
 use Rattle.esr_model.specs.Uploads.{same_bytes}
 use Rattle.esr_model.specs.Image.{Image}
 use Rattle.esr_core.specs.World.{World, Ticket, Swap, swap, record_of}
-use Rattle.esr_core.specs.Entry.{Snapshot, Step, AskStep, RaiseStep, SettleStep, DroppedStep, ElectStep, Reply, HasEnded, Refused, DepotFault, Entry, Moment}
+use Rattle.esr_core.specs.Entry.{Snapshot, Restore, Step, AskStep, RaiseStep, SettleStep, DroppedStep, ElectStep, Reply, HasEnded, Refused, DepotFault, Entry, Moment}
 use Rattle.esr_core.specs.After.{with_given, done_step, swaps_record, text_is, has_text, settled_by, settled_of, dropped_of, fallen, faulted, answered, blobs_in, after}
 use Rattle.esr_core.specs.Allowed.{Accepts, Raises, Allows, SameBlobs, Told, Allowed}
 use Rattle.esr_core.specs.Allowed as allowed
@@ -29,7 +29,7 @@ use Rattle.esr_progress.specs.Plan.{Plan, IsPlanOf}
 use Rattle.esr_desk.specs.Start.{Start, formats_of, world_of}
 use Rattle.esr_repo.specs.Log.{image_of, asks_container, calls}
 use Rattle.esr_repo.specs.Repo.{Kept, TellsSo, IsSteady}
-use Rattle.esr_repo.specs.May.{Same, is_refused, swapped_world, MaySwap}
+use Rattle.esr_repo.specs.May.{opens_restore, Same, is_refused, swapped_world, MaySwap}
 use Rattle.esr_repo.proofs.Logs.{goes_passed, image_now}
 use Rattle.esr_repo.proofs.Repos.{cluster_is, plan_aside, kept_now, steady_now, text_same, added_repo}
 use Rattle.esr_repo.proofs.BlobCalls.{Before, Pushed, IsCall, Made, more_is, made, failed_is, held_of, told_of}
@@ -43,21 +43,31 @@ some_same x y e = cc
 -- ---- the steps
 
 swap_asks : (step : Step) → swaps_record step ≡ true → asks_container step ≡ true
-swap_asks (AskStep command) h = refl
+swap_asks (AskStep command) h = h
 swap_asks RaiseStep h = refl
 swap_asks SettleStep h = refl
 swap_asks DroppedStep h = refl
 swap_asks ElectStep h = refl
 swap_asks step h = absurd (true≢false (sym h))
 
--- a step that swaps the record calls the container
+-- a step that swaps the record opens no restore
+swap_closed : (step : Step) (reply : Reply) → swaps_record step ≡ true → opens_restore step reply ≡ false
+swap_closed (AskStep (Snapshot name indices moment)) reply h = refl
+swap_closed (AskStep (Restore name place)) reply h = absurd (true≢false (sym h))
+swap_closed RaiseStep reply h = refl
+swap_closed SettleStep reply h = refl
+swap_closed DroppedStep reply h = refl
+swap_closed ElectStep reply h = refl
+swap_closed step reply h = absurd (true≢false (sym h))
+
+-- it calls the container
 swap_calls : (step : Step) (reply : Reply) → swaps_record step ≡ true → is_refused reply ≡ false → calls step reply ≡ true
 swap_calls step (Refused refusal) h a = absurd (true≢false a)
 swap_calls step reply h a = swap_asks step h
 
 module _ (f : Formats) (w : World) (who : ℕ) where
   done_is : (step : Step) (reply : Reply) (image : Option Image) → swaps_record step ≡ true → done_step f w who step reply image ≡ done_step f w who step HasEnded None
-  done_is (AskStep command) reply image h = refl
+  done_is (AskStep (Snapshot name indices moment)) reply image h = refl
   done_is RaiseStep reply image h = refl
   done_is SettleStep reply image h = refl
   done_is DroppedStep reply image h = refl
@@ -71,7 +81,7 @@ module _ (f : Formats) (w : World) (who : ℕ) where
 
   -- or to one of two, where it failed
   faulted_is : (step : Step) (image : Option Image) → swaps_record step ≡ true → faulted f w who step image ≡ fallen f w (done_step f w who step HasEnded None) image
-  faulted_is (AskStep command) image h = refl
+  faulted_is (AskStep (Snapshot name indices moment)) image h = refl
   faulted_is RaiseStep image h = refl
   faulted_is SettleStep image h = refl
   faulted_is DroppedStep image h = refl
@@ -307,13 +317,13 @@ module _ {old : Look} {s : Start} {clock : ℕ} {es : List Entry} {k : Kept} {d 
       let w : World = answered (formats_of s) was who step reply (image_now new) in
       let plan_up : IsPlanOf up k'.plan = subst (λ q. IsPlanOf up q) (sym new_one.plan_new) (m.plan_is k.plan kept.1.plan) in
       made old new s clock es es' k k' d d seen ok_entry b more call
-      (added_repo old new s clock es es' k k' d d seen ok_entry b.laws b.repo b.view call.goes call.tells more call.allowed
+      (added_repo old new s clock es es' k k' d d seen ok_entry b.laws b.repo b.view call.goes call.tells more call.allowed (swap_closed step reply m.swaps)
       (λ none. (
         ap (λ (y : World). y.deposed) ok_world ∙ swapped_live (formats_of s) was who step m.swaps ∙ b.live,
         record {
           cluster = ap cluster_of new_one.cluster_new ∙ m.cluster_is ∙ sym ok_record;
           root = ap root_of new_one.root_new ∙ m.root_is k.root kept.1.root ∙ ap (λ (y : World). y.root) (sym ok_world);
-          plan = plan_aside w (blobs_in (image_now new) was.blobs) w.deposed k'.plan (subst (λ (y : World). IsPlanOf y k'.plan) (sym ok_world) plan_up);
+          plan = plan_aside w (blobs_in (image_now new) was.blobs) w.deposed (after (formats_of s) was ok_moment).caller k'.plan (subst (λ (y : World). IsPlanOf y k'.plan) (sym ok_world) plan_up);
           next = new_one.next_new ∙ m.next_is ∙ ap (λ (y : World). y.next_id) (sym ok_world);
         },
       ))
@@ -337,6 +347,6 @@ module _ {old : Look} {s : Start} {clock : ℕ} {es : List Entry} {k : Kept} {d 
       let more = more_is es mid es' bad_entry p in
       let call = bad_call error is c in
       made old new s clock es es' k k d (Some place) seen bad_entry b more call
-      (added_repo old new s clock es es' k k d (Some place) seen bad_entry b.laws b.repo b.view call.goes call.tells more call.allowed
+      (added_repo old new s clock es es' k k d (Some place) seen bad_entry b.laws b.repo b.view call.goes call.tells more call.allowed (swap_closed step (Refused DepotFault) m.swaps)
       (λ none. absurd (some_none place none))
       (λ other n. ap (λ (y : World). y.deposed) (bad_world (now new))))

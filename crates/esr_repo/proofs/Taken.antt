@@ -1,16 +1,18 @@
 -- A unit that is given.
-use Rattle.std.proofs.Common.{◌≡◌, ℕ, Bool, true, false, ◌&&◌, List, [], ◌∷◌, map, Option, Some, None, option_map, refl, sym, ap, ◌∙◌, subst, inl, inr}
+use Rattle.std.proofs.Common.{◌≡◌, ℕ, Bool, true, false, ◌&&◌, List, [], ◌∷◌, map, Option, Some, None, option_map, nat_cmp, refl, sym, ap, ◌∙◌, subst, inl, inr}
 use Rattle.std.specs.Prelude.{if◌then◌else◌, ◌==◌}
 use Rattle.std.proofs.lemmas.Bool.{eqb-true}
+use Rattle.std.specs.FinMap.{FinMap}
 use Rattle.std.specs.FinMap as fin
 use Rattle.esr_model.specs.Finalize.{finalized_root}
 use Rattle.esr_model.specs.Values.{Bytes, Has, IndexRef, RootData, SnapInfo, ShardResult, ReadsBack, Formats}
-use Rattle.esr_core.specs.World.{World, Op, ShardWork, Done, AllDone, Shard, Finalize, Drop, Ticket, info_of, shelved_of}
-use Rattle.esr_core.specs.Entry.{Given, GivenShard, GivenFinalize, GivenDrop, TakeStep, Gave, NothingReady, Moment}
+use Rattle.esr_core.specs.World.{World, Op, ShardWork, Done, AllDone, Shard, Finalize, Drop, Ticket, RestoreShard, Restoring, info_of, shelved_of}
+use Rattle.esr_core.specs.Entry.{Given, GivenShard, GivenFinalize, GivenDrop, GivenRestore, TakeStep, Gave, NothingReady, Moment}
 use Rattle.esr_core.specs.Ready.{ReadyFinalize, AnyReady}
+use Rattle.esr_core.specs.Restores.{restore_shard}
 use Rattle.esr_core.specs.Steps.{shard_ticket, final_ticket}
-use Rattle.esr_core.specs.After.{shard_of, taken_shard, taken_by}
-use Rattle.esr_core.specs.Allowed.{Gives, Giving, GivingNothing}
+use Rattle.esr_core.specs.After.{shard_of, taken_shard, taken_restore_shard, taken_restore, taken_by}
+use Rattle.esr_core.specs.Allowed.{GivesRestore, Gives, Giving, GivingNothing}
 use Rattle.esr_core.specs.Tracked.{Tracked}
 use Rattle.esr_core.specs.Turns.{plain_ticket}
 use Rattle.esr_root.specs.Root.{Root}
@@ -29,6 +31,7 @@ use Rattle.esr_progress.specs.Units.{given_by, given_of, GivesWork, GivesUnit}
 use Rattle.esr_desk.specs.Start.{Start, formats_of, world_of, or_no_ticket, ticket_of}
 use Rattle.esr_desk.specs.Taken.{fresh, NewRoot, TookWork}
 use Rattle.esr_repo.specs.Given.{base_for, based, IsBased, IsRootable, HasRoot}
+use Rattle.esr_repo.specs.Repo.{NoRestore}
 use Rattle.esr_repo.specs.Next.{Added}
 use Rattle.esr_repo.specs.May.{MayNote}
 use Rattle.esr_repo.specs.Grown.{put_there, added_ticket}
@@ -36,7 +39,7 @@ use Rattle.esr_repo.specs.Grown.{put_there, added_ticket}
 -- ---- no unit is ready
 
 pub may_note_nothing : (s : Start) (log : List Moment) (next : ℕ) → (AnyReady (world_of s log) → ⊥) → next ≡ (world_of s log).next_id → MayNote s log 0 TakeStep NothingReady None next
-may_note_nothing s log next none next_is = record { plain = refl; allows = λ image same. GivingNothing image none same; plan_is = λ image old h. h; next_is = λ image. next_is }
+may_note_nothing s log next none next_is = record { plain = refl; closed = refl; allows = λ image same. GivingNothing image none same; plan_is = λ image old h. h; next_is = λ image. next_is }
 
 -- ---- the unit that is ready
 
@@ -47,11 +50,13 @@ given_based : (work : Work) (copy : Copied) → given_by work (record copy { bas
 given_based (works.Shard uuid shard index place) copy = refl
 given_based (works.Finalize info shards) copy = refl
 given_based works.Drop copy = refl
+given_based (works.RestoreShard uuid shard index place) copy = refl
 
 gives_based : (w : World) (o : ℕ) (work : Work) (copy : Copied) → GivesWork w o work copy → GivesWork w o work (record copy { base = base_for work copy.base })
 gives_based w o (works.Shard uuid shard index place) copy h = h
 gives_based w o (works.Finalize info shards) copy h = h
 gives_based w o works.Drop copy h = h
+gives_based w o (works.RestoreShard uuid shard index place) copy h = h
 
 abbrev Next : World → Plan → ReadyUnit → Type 0
 Next w new u = GivesUnit w u × ((f : Formats) → IsPlanOf (taken_by f w u.op (given_of u) (fin.get w.ops u.op)) new)
@@ -104,6 +109,7 @@ given_so s w u made gives has = go u.work refl gives.gives
     go : (work : Work) → u.work ≡ work → GivesWork w u.op work u.copy → Gives (formats_of s) w u.op (given_by work u.copy)
     go (works.Shard uuid shard index place) is h = h.gives
     go works.Drop is h = h
+    go (works.RestoreShard uuid shard index place) is h = h.gives
     go (works.Finalize info shards) is h =
         let root = has info shards is in
         let same : root_of root.root ≡ finalized_root w.root (info_of h.0 (map result_of shards)) (map result_of shards) =
@@ -115,6 +121,14 @@ given_so s w u made gives has = go u.work refl gives.gives
           root_back = subst (λ kind. ReadsBack kind (finalized_root w.root (info_of h.0 (map result_of shards)) (map result_of shards))) (sym (root_kind_is s)) (subst (ReadsBack root_kind) same root.back);
         }
 
+next_restore : (w : World) (o index number : ℕ) (r : Option Restoring) → (taken_restore w o index number r).next_id ≡ w.next_id
+next_restore w o index number None = refl
+next_restore w o index number (Some r) = go (restore_shard r.shards index number)
+  where
+    go : (s : Option RestoreShard) → (taken_restore_shard w o r s).next_id ≡ w.next_id
+    go None = refl
+    go (Some s) = refl
+
 next_taken : (f : Formats) (w : World) (o : ℕ) (unit : Given) (op : Option Op) → (taken_by f w o unit op).next_id ≡ w.next_id
 next_taken f w o (GivenShard index number base) (Some op) = go (shard_of op.shards index number)
   where
@@ -125,6 +139,7 @@ next_taken f w o (GivenShard index number base) None = refl
 next_taken f w o (GivenFinalize info results) (Some op) = refl
 next_taken f w o (GivenFinalize info results) None = refl
 next_taken f w o GivenDrop op = refl
+next_taken f w o (GivenRestore index number uuid) op = next_restore w o index number (fin.get w.restores o)
 
 pub may_give : (s : Start) (log : List Moment) (u : ReadyUnit) (made : Option Root) (given : Given) (p : Plan) (next : ℕ) → GivesUnit (world_of s log) u → HasRoot u made → given ≡ given_of u
     → ((f : Formats) → IsPlanOf (taken_by f (world_of s log) u.op (given_of u) (fin.get (world_of s log).ops u.op)) p) → next ≡ (world_of s log).next_id → MayNote s log 0 TakeStep (Gave u.ticket u.op given) (Some p) next
@@ -132,12 +147,20 @@ may_give s log u made given p next gives has given_is plan next_is =
     subst (λ (x : Given). MayNote s log 0 TakeStep (Gave u.ticket u.op x) (Some p) next) (sym given_is)
     (record {
       plain = refl;
+      closed = refl;
       allows = λ image same. Giving u.ticket u.op (given_of u) image gives.ticket gives.lowest (given_so s (world_of s log) u made gives has) same;
       plan_is = λ image old h. plan (formats_of s);
       next_is = λ image. next_is ∙ sym (next_taken (formats_of s) (world_of s log) u.op (given_of u) (fin.get (world_of s log).ops u.op));
     })
 
 -- ---- its ticket
+
+-- where no restore is open no shard of one is given
+no_restore_given : (w : World) (o index number uuid : ℕ) → NoRestore w → GivesRestore w o index number uuid → ⊥
+no_restore_given w o index number uuid none gives = never gives.r (sym (fin.get-empty nat_cmp o) ∙ ap (λ (m : FinMap nat_cmp Restoring). fin.get m o) (sym none.0) ∙ gives.ready.there)
+  where
+    never : (r : Restoring) → None ≡ Some r → ⊥
+    never r q = cc
 
 some_shard : (a b : ShardWork) → Some a ≡ Some b → a ≡ b
 some_shard a b q = cc
@@ -163,7 +186,7 @@ shard_found (z ∷ shards) index number s e = go ((z.ref.id == index) && (z.numb
         (ap (λ (x : ShardWork). x.ref.id) (sym same) ∙ eqb-true z.ref.id index h.0, ap (λ (x : ShardWork). x.number) (sym same) ∙ eqb-true z.number number h.1)
     go false is q rest = rest q
 
-module _ (s : Start) (old new : List Moment) (u : ReadyUnit) (made : Option Root) (gives : GivesUnit (world_of s old) u) (has : HasRoot u made) where
+module _ (s : Start) (old new : List Moment) (u : ReadyUnit) (made : Option Root) (none : NoRestore (world_of s old)) (gives : GivesUnit (world_of s old) u) (has : HasRoot u made) where
   abbrev w : World
   w = world_of s old
 
@@ -264,6 +287,7 @@ module _ (s : Start) (old new : List Moment) (u : ReadyUnit) (made : Option Root
             ∙ final_is h.0 (info_of_code info) (map result_of shards) h.2 (ap (option_map number_of) (sym base)),
         subst (λ (x : Option Root). NewRoot x (finalized_root (root_of u.copy.root) (info_of_code info) (map result_of shards))) (sym root.made_is) root.is,
       )
+  took_by (works.RestoreShard uuid shard index place) t is h base t_is = no_restore_given w u.op shard.index.number shard.number uuid.number none h.gives
   took_by works.Drop t is h base t_is = (w.term, t_is ∙ put (plain_ticket w u.op Drop) ∙ drop_is (ap (option_map number_of) (sym base)))
 
   pub took : (given : Given) → IsBased u → given ≡ given_of u → Added s old new 0 TakeStep (Gave u.ticket u.op given) → TookWork u.work made u.op u.copy (ticket_of s new u.ticket)

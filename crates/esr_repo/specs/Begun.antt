@@ -6,7 +6,7 @@ use Rattle.esr_depot.specs.Image.{Image as Held}
 use Rattle.esr_depot.specs.Look.{Look, now}
 use Rattle.esr_desk.specs.Start.{Start, formats_of}
 use Rattle.esr_opening.specs.Opening.{image_of, Kept, IsKeptOf, IsInOrder}
-use Rattle.esr_repo.specs.Repo.{TellsSo, IsRoomy}
+use Rattle.esr_repo.specs.Repo.{TellsSo, NoRestore, IsRoomy}
 
 -- What is kept is that of the world at the start, the container has that world's image, and what a crash might have left
 -- since a moment was told.
@@ -15,6 +15,7 @@ pub record IsBegun (s : Start) (clock : ℕ) (past : ℕ → Held → Type 0) (l
   pub order : IsInOrder s.world
   pub live : s.world.deposed ≡ false
   pub no_tickets : s.world.tickets ≡ fin.empty
+  pub no_restore : NoRestore s.world
   pub roomy : IsRoomy s
   pub image : (i : Held) → now l ≡ Some i → image_of i ≡ core.image_of (formats_of s) s.world
   pub tells : TellsSo l s.tells

@@ -19,6 +19,7 @@ abbrev pub base_for : Work → Option Id → Option Id
 base_for (works.Shard uuid shard index place) base = base
 base_for (works.Finalize info shards) base = None
 base_for works.Drop base = None
+base_for (works.RestoreShard uuid shard index place) base = None
 
 abbrev pub based : ReadyUnit → ReadyUnit
 based u = record u { copy = record u.copy { base = base_for u.work u.copy.base } }

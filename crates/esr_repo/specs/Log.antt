@@ -1,7 +1,7 @@
 -- The moments of a history: each entry with the image that its step left. Moments are counted by the container's clock, so none is stored.
 use Rattle.std.specs.Prelude.{ℕ, Bool, true, false, List, [], ◌∷◌, Option, option_map, if◌then◌else◌}
 use Rattle.esr_model.specs.Image.{Image}
-use Rattle.esr_core.specs.Entry.{Step, AskStep, TakeStep, DrawStep, BeginStep, CommitStep, LatestStep, FetchStep, ListStep, RaiseStep, SettleStep, DoneStep, FailedStep, FinishStep, DroppedStep, ElectStep, LookStep, Reply, Refused, NameTaken, DepotFault, Entry, Moment}
+use Rattle.esr_core.specs.Entry.{is_recorded, Read, ReadBlob, RestoredShard, CheckedAll, DrawTest, BeginTest, CommitTest, RemoveTests, VerifiedAll, ReadFails, Step, AskStep, TakeStep, DrawStep, BeginStep, CommitStep, LatestStep, FetchStep, ListStep, RaiseStep, SettleStep, DoneStep, FailedStep, FinishStep, DroppedStep, ElectStep, LookStep, ReadStep, Reply, Refused, NameTaken, DepotFault, Entry, Moment}
 pub use Rattle.esr_opening.specs.Opening.{image_of}
 use Rattle.esr_depot.specs.Look.{Look}
 use Rattle.esr_depot.specs.Calls.{up}
@@ -10,9 +10,21 @@ use Rattle.esr_depot.specs.Calls.{up}
 abbrev pub image_at : Look → ℕ → Option Image
 image_at l k = option_map image_of (l.at k)
 
--- a step that isn't refused calls the container once, or not at all
+-- a step that reads calls the container where it names blobs
+abbrev pub reads_container : Read → Bool
+reads_container (ReadBlob name) = true
+reads_container (RestoredShard files bytes) = false
+reads_container (CheckedAll snapshots blobs) = false
+reads_container DrawTest = false
+reads_container (BeginTest name) = true
+reads_container (CommitTest name) = true
+reads_container (RemoveTests names) = true
+reads_container VerifiedAll = false
+reads_container (ReadFails why) = false
+
+-- a step that isn't refused calls the container once, or not at all; a command is put into its record, or not
 abbrev pub asks_container : Step → Bool
-asks_container (AskStep command) = true
+asks_container (AskStep command) = is_recorded command
 asks_container TakeStep = false
 asks_container (DrawStep n) = false
 asks_container (BeginStep name) = true
@@ -28,6 +40,7 @@ asks_container FinishStep = false
 asks_container DroppedStep = true
 asks_container ElectStep = true
 asks_container LookStep = false
+asks_container (ReadStep read) = reads_container read
 
 -- whether the step called the container, by its answer
 abbrev pub calls : Step → Reply → Bool

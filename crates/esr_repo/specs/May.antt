@@ -7,7 +7,7 @@ use Rattle.esr_model.specs.Names.{BlobName, Latest}
 use Rattle.esr_model.specs.Values.{Bytes, ReadsBack}
 use Rattle.esr_model.specs.Image.{Blobs, Image, Present}
 use Rattle.esr_core.specs.World.{World, record_of}
-use Rattle.esr_core.specs.Entry.{Step, BeginStep, CommitStep, LatestStep, FetchStep, Reply, WasBegun, WasDone, WasThere, WasReplaced, WasFetched, WasAbsent, HasEnded, Refused, DepotFault, NameTaken, Refusal, Moment}
+use Rattle.esr_core.specs.Entry.{Restore, Step, AskStep, BeginStep, CommitStep, LatestStep, FetchStep, Reply, AcceptedRestore, WasBegun, WasDone, WasThere, WasReplaced, WasFetched, WasAbsent, HasEnded, Refused, DepotFault, NameTaken, Refusal, Moment}
 use Rattle.esr_core.specs.After.{answered, done_step, swaps_record}
 use Rattle.esr_core.specs.Allowed.{Allows, Told, Adds, IsMetadata}
 use Rattle.esr_root.specs.Root.{Root}
@@ -30,9 +30,16 @@ Same s log blobs = blobs ≡ (world_of s log).blobs
 abbrev pub next_world : Start → List Moment → ℕ → Step → Reply → Option Image → World
 next_world s log who step reply image = answered (formats_of s) (world_of s log) who step reply image
 
--- A step without a call of the container. Where no plan is given, that which is kept serves the new world too.
+-- a step with this answer opens a restore
+abbrev pub opens_restore : Step → Reply → Bool
+opens_restore (AskStep (Restore name place)) (AcceptedRestore o uuid indices) = true
+opens_restore step reply = false
+
+-- A step without a call of the container, which opens no restore. Where no plan is given, that which is kept serves the new
+-- world too.
 pub record MayNote (s : Start) (log : List Moment) (who : ℕ) (step : Step) (reply : Reply) (plan : Option Plan) (next : ℕ) : Type 0 where
   pub plain : calls step reply ≡ false
+  pub closed : opens_restore step reply ≡ false
   pub allows : MayAnswer s log who step reply (Same s log)
   pub plan_is : (image : Option Image) (old : Plan) → IsPlanOf (world_of s log) old → IsPlanOf (next_world s log who step reply image) (unwrap_or plan old)
   pub next_is : (image : Option Image) → next ≡ (next_world s log who step reply image).next_id

@@ -23,6 +23,10 @@ pub record TellsSo (l : Look) (tells : Bool) : Type 0 where
 abbrev pub NoDeleting : World → Type 0
 NoDeleting w = (k : ℕ) (t : Ticket) (uuids : List ℕ) (plan : Option Swap) → fin.get w.tickets k ≡ Some t → t.work ≡ Deleting uuids plan → ⊥
 
+-- no restore is open, and no ticket is of one
+abbrev pub NoRestore : World → Type 0
+NoRestore w = (w.restores ≡ fin.empty) × (w.readers ≡ fin.empty)
+
 -- what holds of the world, whatever is kept
 pub record IsSteady (s : Start) (log : List Moment) (l : Look) : Type 0 where
   pub legal : Legal s log
@@ -32,6 +36,7 @@ pub record IsSteady (s : Start) (log : List Moment) (l : Look) : Type 0 where
   pub ranked : Ranked (world_of s log)
   pub no_deletes : (world_of s log).deletes ≡ fin.empty
   pub no_deleting : NoDeleting (world_of s log)
+  pub no_restore : NoRestore (world_of s log)
   pub few_ops : (world_of s log).next_op ≤ s.world.next_op + length log
   pub few_tickets : (world_of s log).next_ticket ≤ s.world.next_ticket + length log
 

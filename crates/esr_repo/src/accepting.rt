@@ -1,6 +1,6 @@
 //! What a repository keeps after a command was accepted, or why it is not.
-ghost use Rattle.std.specs.Prelude.{◌≡◌, ◌<◌, ◌^◌, List, length, IfOk, IfErr, IfSome};
-ghost use Rattle.esr_core.specs.Entry.{Asked, AskStep, Accepted, Moment};
+ghost use Rattle.std.specs.Prelude.{◌≡◌, ◌<◌, ◌^◌, List, length, true, IfOk, IfErr, IfSome};
+ghost use Rattle.esr_core.specs.Entry.{Asked, is_recorded, AskStep, Accepted, Moment};
 ghost use Rattle.esr_progress.specs.Asked.{asked_of, IsAskable};
 ghost use Rattle.esr_progress.specs.Accepting.{IsRefused, name_asked};
 ghost use Rattle.esr_desk.specs.Entries.{step_of};
@@ -51,7 +51,8 @@ pub(crate) fn command_copy(alloc: Global, command: &Command) -> Result<Command, 
 
 /// Why a command is not accepted, as an entry tells it; of want of memory none does.
 fn command_refusal(refusal: Refusal) -> Option<EntryRefusal>
-    ensures { (s : Start) (log : List Moment) (command : Asked) → IsRefused (world_of s log) (name_asked command) command refusal
+    requires { (s : Start) × (log : List Moment) × (command : Asked) × IsRefused (world_of s log) (name_asked command) command refusal }
+    ensures { (s : Start) (log : List Moment) (command : Asked) → is_recorded command ≡ true → IsRefused (world_of s log) (name_asked command) command refusal
         → IfSome result (λ e. MayRefuse s log 0 (AskStep command) (refusal_of e)) }
 {
     match refusal {
@@ -60,6 +61,8 @@ fn command_refusal(refusal: Refusal) -> Option<EntryRefusal>
         Refusal::NameInUse { uuid } => Some(EntryRefusal::NameInUse { uuid }),
         Refusal::TooMany { limit } => Some(EntryRefusal::TooMany { limit }),
         Refusal::IdsSpent { next } => Some(EntryRefusal::IdsSpent { next }),
+        // Of a restore alone.
+        Refusal::NoSnapshot | Refusal::BeingDeleted { .. } => unreachable!(),
     }
 }
 
@@ -67,7 +70,7 @@ impl<D: Depot, K: Told> Repo<D, K> {
     /// A command is not accepted, which changes nothing.
     pub(crate) fn refuse_command(&mut self, step: Step, refusal: Refusal) -> StepRefusal
         requires live { IsLive K.start self.old }
-        requires why { (command : Asked) × (step_of step ≡ AskStep command) × IsRefused (world_of K.start self.old) (name_asked command) command refusal }
+        requires why { (command : Asked) × (is_recorded command ≡ true) × (step_of step ≡ AskStep command) × IsRefused (world_of K.start self.old) (name_asked command) command refusal }
         ensures { AddedOr K.start self.old self.new 0 (step_of step) result }
     {
         match command_refusal(refusal) {

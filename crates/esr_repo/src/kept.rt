@@ -11,7 +11,7 @@ ghost use Rattle.esr_formats.specs.Clusters.{count_of, cluster_of, cluster_kind}
 ghost use Rattle.esr_record.specs.Record.{AreNumbers};
 ghost use Rattle.esr_progress.specs.Plan.{IsPlanOf, seat_of, seat_of_code};
 ghost use Rattle.esr_desk.specs.Start.{world_of, ticket_of};
-ghost use Rattle.esr_repo.specs.Repo.{NoDeleting};
+ghost use Rattle.esr_repo.specs.Repo.{NoDeleting, NoRestore};
 ghost use Rattle.esr_repo.specs.Next.{IsLive};
 
 use crate::{Repo, Told};
@@ -28,6 +28,7 @@ impl<D: Depot, K: Told> Repo<D, K> {
         ensures ranked { Ranked (world_of K.start self.now) }
         ensures no_deletes { (world_of K.start self.now).deletes ≡ fin.empty }
         ensures no_deleting { NoDeleting (world_of K.start self.now) }
+        ensures no_restore { NoRestore (world_of K.start self.now) }
         ensures few_ops { length self.now < 2 ^ 41 → (world_of K.start self.now).next_op < 2 ^ 62 }
         ensures few_tickets { length self.now < 2 ^ 41 → (world_of K.start self.now).next_ticket < 2 ^ 62 }
     {

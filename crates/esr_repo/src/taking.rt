@@ -62,6 +62,10 @@ fn given(alloc: Global, unit: &ReadyUnit) -> Result<Given, AllocError>
             shards: ShardResults::from_slice(alloc, shards.as_slice())?,
         }),
         Work::Drop => Ok(Given::Drop),
+        Work::RestoreShard { uuid, shard, .. } => Ok(Given::RestoreShard {
+            shard: *shard,
+            uuid: *uuid,
+        }),
     }
 }
 

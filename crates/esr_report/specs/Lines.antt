@@ -5,7 +5,8 @@ use Rattle.std.specs.Cmp.Lexicographic.{slice_cmp}
 use Rattle.esr_names.specs.IdText.{id_text}
 use Rattle.esr_model.specs.Values.{RootSnap}
 use Rattle.esr_model.specs.Places.{by_order, sorted_by}
-use Rattle.esr_core.specs.Entry.{Why, OfDepot, OfSource, OfChange, OfDamage, Refusal, CleanupRunning, NameInUse, TooMany, DeposedAt, AbortedBy, StaleTerm, GenerationsSpent, TermsSpent, IdsSpent, NameTaken, DepotFault}
+use Rattle.esr_core.specs.Entry.{Why, OfDepot, OfSource, OfChange, OfDamage, OfTaken, OfIdsSpent, OfGenerationsSpent, OfTarget, OfPrint, OfDisagreement}
+use Rattle.esr_core.specs.Entry.{Refusal, CleanupRunning, NameInUse, TooMany, DeposedAt, AbortedBy, StaleTerm, GenerationsSpent, TermsSpent, IdsSpent, NameTaken, DepotFault, NoSnapshot, BeingDeleted}
 use Rattle.esr_formats.specs.Names.{name_kind}
 use Rattle.esr_script.specs.declared.item.Item.{Item}
 use Rattle.esr_script.specs.declared.item.Item.TheVariants as items
@@ -21,6 +22,12 @@ why_text OfDepot = codes "depot"
 why_text OfSource = codes "source"
 why_text (OfChange len digest len2 digest2) = codes "changed"
 why_text (OfDamage name) = codes "damaged " ++ name_kind.text name
+why_text (OfTaken name) = codes "name-taken " ++ name_kind.text name
+why_text (OfIdsSpent next) = codes "spent"
+why_text (OfGenerationsSpent pending) = codes "spent"
+why_text OfTarget = codes "target"
+why_text (OfPrint name stated_len stated_digest found_len found_digest) = codes "damaged " ++ name_kind.text name
+why_text (OfDisagreement name other) = codes "damaged " ++ name_kind.text name
 
 -- a rule that refused a command, or a number that is spent
 abbrev pub refusal_text : Refusal → Text
@@ -35,6 +42,8 @@ refusal_text (TermsSpent term) = codes " failed spent"
 refusal_text (IdsSpent next) = codes " failed spent"
 refusal_text (NameTaken name) = codes " failed name-taken " ++ name_kind.text name
 refusal_text DepotFault = codes " failed depot"
+refusal_text (NoSnapshot name) = codes " refused no-snapshot " ++ name
+refusal_text (BeingDeleted op) = codes " refused being-deleted " ++ decimal op
 
 -- 1 is success and 3 partial
 abbrev pub state_text : ℕ → Text

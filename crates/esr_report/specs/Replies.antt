@@ -3,7 +3,7 @@ use Rattle.std.specs.Prelude.{ℕ, Bool, true, false, ◌==◌, ◌&&◌, ◌||�
 use Rattle.esr_model.specs.Values.{RootSnap}
 use Rattle.esr_core.specs.After.{or_else, swaps_record}
 use Rattle.esr_core.specs.Entry as entry
-use Rattle.esr_core.specs.Entry.{Given, GivenShard, GivenFinalize, GivenDrop, Why, OfDepot, Step, AskStep, SettleStep, FailedStep, LookStep, Refusal, DeposedAt, DepotFault, Accepted, Gave, WasSettled, HasEnded, Looked, Entry}
+use Rattle.esr_core.specs.Entry.{Given, GivenShard, GivenFinalize, GivenDrop, GivenRestore, Why, OfDepot, Step, AskStep, SettleStep, FailedStep, LookStep, Refusal, DeposedAt, DepotFault, Accepted, Gave, WasSettled, HasEnded, Looked, Entry}
 use Rattle.esr_script.specs.declared.item.Item.{Item}
 use Rattle.esr_script.specs.declared.item.Item.TheVariants as items
 use Rattle.esr_script.specs.declared.item.ScriptLine.{ScriptLine}
@@ -36,6 +36,7 @@ abbrev pub uuid_of_unit : Given → Option ℕ
 uuid_of_unit (GivenFinalize info results) = Some info.uuid
 uuid_of_unit (GivenShard index number base) = None
 uuid_of_unit GivenDrop = None
+uuid_of_unit (GivenRestore index number uuid) = None
 
 abbrev pub uuid_by : entry.Reply → ℕ → Option ℕ
 uuid_by (Gave ticket op unit) k = if ticket == k then uuid_of_unit unit else None
@@ -82,7 +83,7 @@ deposed_by false = None
 
 -- ---- lines
 
--- an accepted command is answered by the end of its op, else by a record swap that failed
+-- an accepted command is answered by the end of its op, else by a record swap that failed; an accepted restore has no answer yet
 abbrev pub ask_reply : List Entry → entry.Reply → Option Reply
 ask_reply all (Accepted op) = or_else (end_of_op all op all) (deposed_by (has_fallen all))
 ask_reply all (entry.Refused DepotFault) = Some (Failed OfDepot)

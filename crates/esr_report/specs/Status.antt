@@ -3,7 +3,7 @@ use Rattle.std.specs.Prelude.{ℕ, Bool, true, false, ◌||◌, nat_lt, if◌the
 use Rattle.std.specs.List.{list_any}
 use Rattle.esr_model.specs.Names.{BlobName}
 use Rattle.esr_core.specs.After.{or_else}
-use Rattle.esr_core.specs.Entry.{OfDamage, GenerationsSpent, TermsSpent, IdsSpent, Entry}
+use Rattle.esr_core.specs.Entry.{OfDamage, OfIdsSpent, OfGenerationsSpent, OfPrint, OfDisagreement, GenerationsSpent, TermsSpent, IdsSpent, Entry}
 use Rattle.esr_formats.specs.Names.{name_kind}
 use Rattle.esr_script.specs.declared.item.ScriptLine.{ScriptLine}
 use Rattle.esr_report.specs.Replies.{Reply, Made, Waited, Listed, Refused, Failed, Deposed, replies, end_reply}
@@ -15,6 +15,8 @@ is_deposed reply = false
 
 abbrev pub damaged_name : Reply → Option BlobName
 damaged_name (Failed (OfDamage name)) = Some name
+damaged_name (Failed (OfPrint name stated_len stated_digest found_len found_digest)) = Some name
+damaged_name (Failed (OfDisagreement name other)) = Some name
 damaged_name reply = None
 
 -- the first blob that was damaged, in the order of lines
@@ -26,6 +28,8 @@ abbrev pub is_spent : Reply → Bool
 is_spent (Refused (GenerationsSpent pending)) = true
 is_spent (Refused (TermsSpent term)) = true
 is_spent (Refused (IdsSpent next)) = true
+is_spent (Failed (OfIdsSpent next)) = true
+is_spent (Failed (OfGenerationsSpent pending)) = true
 is_spent reply = false
 
 abbrev pub is_ok : Reply → Bool

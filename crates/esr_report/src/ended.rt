@@ -17,7 +17,7 @@ use esr_script::Script;
 pub enum Ending {
     /// A record swap failed.
     SwapFailed,
-    /// A blob was absent or damaged, the first in the order of lines.
+    /// A blob was absent, damaged or at odds with another, the first in the order of lines.
     BlobDamaged { name: BlobName },
     /// Numbers are spent, or a line has no answer.
     NumbersSpent,
@@ -63,9 +63,16 @@ fn damaged_name(reply: &Reply) -> Option<BlobName>
     ensures { option_map name_of result ≡ damaged_name (reply_of reply.now) }
 {
     match reply {
-        Reply::Failed {
-            why: Why::Damaged { name },
-        } => Some(*name),
+        Reply::Failed { why } => match why {
+            Why::Damaged { name } => Some(*name),
+            Why::Misprinted {
+                name,
+                stated: _,
+                found: _,
+            } => Some(*name),
+            Why::Disagreeing { name, other: _ } => Some(*name),
+            _ => None,
+        },
         _ => None,
     }
 }
@@ -90,6 +97,11 @@ fn is_spent(reply: &Reply) -> bool
             EntryRefusal::GenerationsSpent { number: _ } => true,
             EntryRefusal::TermsSpent { number: _ } => true,
             EntryRefusal::IdsSpent { next: _ } => true,
+            _ => false,
+        },
+        Reply::Failed { why } => match why {
+            Why::IdsSpent { next: _ } => true,
+            Why::GenerationsSpent { number: _ } => true,
             _ => false,
         },
         _ => false,

@@ -9,6 +9,7 @@ ghost use Rattle.esr_report.specs.Code.{reply_of};
 use crate::tickets::{OpEnd, end_of_op, ends_of};
 use crate::{Replies, Reply};
 use esr_desk::{Answer, Entry, EntryRefusal, History, Step, Why};
+use esr_progress::Command;
 use esr_script::{Item, Script};
 use std::alloc::{AllocError, Global};
 
@@ -16,7 +17,9 @@ fn swaps_record(step: &Step) -> bool
     ensures { result ≡ swaps_record (step_of step.now) }
 {
     match step {
-        Step::Ask { command: _ } => true,
+        Step::Ask {
+            command: Command::Create { .. },
+        } => true,
         Step::Raise => true,
         Step::Settle => true,
         Step::Dropped => true,

@@ -38,6 +38,14 @@ pub fn push_id(out: &mut Bytes, id: Id) -> Result<(), AllocError>
     out.extend_from_slice(&id_text(id))
 }
 
+/// Appends these words and the name of a blob.
+fn push_named(out: &mut Bytes, words: &[u8], name: &BlobName) -> Result<(), AllocError>
+    ensures { OnOk result (out.new ≡ out.old ++ (words.now ++ name_kind.text (name_of name.now))) }
+{
+    push(out, words)?;
+    append_name(out, name)
+}
+
 pub fn push_why(out: &mut Bytes, why: &Why) -> Result<(), AllocError>
     ensures { OnOk result (out.new ≡ out.old ++ why_text (why_of why.now)) }
 {
@@ -48,10 +56,17 @@ pub fn push_why(out: &mut Bytes, why: &Why) -> Result<(), AllocError>
             first: _,
             second: _,
         } => push(out, b"changed"),
-        Why::Damaged { name } => {
-            push(out, b"damaged ")?;
-            append_name(out, name)
-        }
+        Why::Damaged { name } => push_named(out, b"damaged ", name),
+        Why::NameTaken { name } => push_named(out, b"name-taken ", name),
+        Why::IdsSpent { next: _ } => push(out, b"spent"),
+        Why::GenerationsSpent { number: _ } => push(out, b"spent"),
+        Why::Target => push(out, b"target"),
+        Why::Misprinted {
+            name,
+            stated: _,
+            found: _,
+        } => push_named(out, b"damaged ", name),
+        Why::Disagreeing { name, other: _ } => push_named(out, b"damaged ", name),
     }
 }
 
@@ -83,11 +98,11 @@ fn push_aborted(out: &mut Bytes, by: u64) -> Result<(), AllocError>
     push_number(out, by)
 }
 
-fn push_taken(out: &mut Bytes, name: &BlobName) -> Result<(), AllocError>
-    ensures { OnOk result (out.new ≡ out.old ++ (codes " failed name-taken " ++ name_kind.text (name_of name.now))) }
+fn push_being_deleted(out: &mut Bytes, op: u64) -> Result<(), AllocError>
+    ensures { OnOk result (out.new ≡ out.old ++ (codes " refused being-deleted " ++ decimal op)) }
 {
-    push(out, b" failed name-taken ")?;
-    append_name(out, name)
+    push(out, b" refused being-deleted ")?;
+    push_number(out, op)
 }
 
 pub fn push_refusal(out: &mut Bytes, refusal: &EntryRefusal) -> Result<(), AllocError>
@@ -103,8 +118,9 @@ pub fn push_refusal(out: &mut Bytes, refusal: &EntryRefusal) -> Result<(), Alloc
         EntryRefusal::GenerationsSpent { number: _ } => push(out, b" failed spent"),
         EntryRefusal::TermsSpent { number: _ } => push(out, b" failed spent"),
         EntryRefusal::IdsSpent { next: _ } => push(out, b" failed spent"),
-        EntryRefusal::NameTaken { name } => push_taken(out, name),
+        EntryRefusal::NameTaken { name } => push_named(out, b" failed name-taken ", name),
         EntryRefusal::DepotFault => push(out, b" failed depot"),
+        EntryRefusal::BeingDeleted { op } => push_being_deleted(out, *op),
     }
 }
 

@@ -7,9 +7,9 @@ use Rattle.std.proofs.lemmas.List.Sums.{sum_by-cons}
 use Rattle.esr_model.specs.Values.{Bytes, Has, Formats}
 use Rattle.esr_model.specs.Image.{Image}
 use Rattle.esr_core.specs.World.{World, Opened}
-use Rattle.esr_core.specs.Entry.{AskedIndex, Asked, Snapshot, Step, AskStep, TakeStep, ElectStep, LookStep, Reply, Refused, DepotFault, DeposedAt, IdsSpent, GenerationsSpent, TermsSpent, Entry, Moment}
+use Rattle.esr_core.specs.Entry.{AskedIndex, Asked, Snapshot, Read, CommitTest, Step, AskStep, TakeStep, ElectStep, LookStep, ReadStep, Reply, Refused, DepotFault, DeposedAt, IdsSpent, GenerationsSpent, TermsSpent, Entry, Moment}
 use Rattle.esr_core.specs.Allowed as allowed
-use Rattle.esr_core.specs.Allowed.{Allows, Allowed}
+use Rattle.esr_core.specs.Allowed.{ReadAllows, VerifyAllows, Allows, Allowed}
 use Rattle.esr_core.specs.History.{world_from, IsLegal, AllKnown, AreTold, AreHonest}
 use Rattle.esr_depot.specs.Image.{Image as Held}
 use Rattle.esr_depot.specs.Look.{Look, now}
@@ -28,7 +28,7 @@ use Rattle.esr_repo.specs.Counted.{is_fault, fault_entries}
 use Rattle.esr_repo.specs.Calm.{IsCalm}
 use Rattle.esr_repo.specs.Deposed.{FailedSwap, AreDeposedSo}
 use Rattle.esr_quiet.specs.Asked.{is_take, is_asked, asked_steps, GrewAsking, IsSteady, AreSteady}
-use Rattle.esr_quiet.specs.Smooth.{IsSmooth, IsSpent, AreCalm, AreUnspent, AreUnelected, NoneFailed}
+use Rattle.esr_quiet.specs.Smooth.{IsSmooth, IsSpent, AreCalm, AreUnspent, AreUnelected, AreTestedOnce, NoneFailed}
 use Rattle.esr_quiet.specs.Refusals.{AreByRule}
 use Rattle.esr_complete.specs.Lines.{index_of_line, command_of_line, steps_of_item, steps_of, IsKnown, AreKnown, entries_of}
 use Rattle.esr_complete.specs.Answers.{AreAnswered, EndsWell}
@@ -141,6 +141,10 @@ record Place (log : List Moment) (m : Moment) : Type 0 where
   back : List Moment
   is : log ≡ front ++ m ∷ back
 
+in_middle : {X : Type 0} (a b : List X) (x : X) → Has (a ++ x ∷ b) x
+in_middle [] b x = inl refl
+in_middle (y ∷ a) b x = inr (in_middle a b x)
+
 place_of : (log : List Moment) (m : Moment) → Has log m → Place log m
 place_of [] m h = absurd h
 place_of (n ∷ log) m (inl e) = record { front = []; back = log; is = ap (λ (x : Moment). x ∷ log) e }
@@ -150,22 +154,36 @@ legal_rest : (f : Formats) (size : ℕ) (front back : List Moment) (w : World) �
 legal_rest f size [] back w legal = legal
 legal_rest f size (m ∷ front) back w legal = legal_rest f size front back _ legal.1
 
--- an ask and an election are nobody's
+-- an ask, an election and the commit of a test blob are nobody's
 abbrev IsNobodys : ℕ → Step → Type 0
 IsNobodys who (AskStep command) = who ≡ 0
 IsNobodys who ElectStep = who ≡ 0
+IsNobodys who (ReadStep (CommitTest name)) = who ≡ 0
 IsNobodys who step = Unit {0}
+
+reads_nobodys : (f : Formats) (w : World) (who : ℕ) (read : Read) (reply : Reply) (image : Option Image) → ReadAllows f w who read reply image → IsNobodys who (ReadStep read)
+reads_nobodys f w who read reply image (allowed.ReadFound k name im stored fetcher told) = tt
+reads_nobodys f w who read reply image a = tt
+
+verifies_nobodys : (f : Formats) (w : World) (read : Read) (reply : Reply) (image : Option Image) → VerifyAllows f w read reply image → IsNobodys 0 (ReadStep read)
+verifies_nobodys f w read reply image (allowed.CommittingTest name bytes im own free told) = refl
+verifies_nobodys f w read reply image (allowed.TestTaken name im own told) = refl
+verifies_nobodys f w read reply image (allowed.CommitTestFails name bytes im own told) = refl
+verifies_nobodys f w read reply image a = tt
 
 nobodys : (f : Formats) (size : ℕ) (w : World) (who : ℕ) (step : Step) (reply : Reply) (image : Option Image) → Allows f size w who step reply image → IsNobodys who step
 nobodys f size w who step reply image (allowed.Accepting name indices moment o im accepts same) = refl
 nobodys f size w who step reply image (allowed.Electing im room same) = refl
-nobodys f size w who step reply image (allowed.Cleaning command d x im there cleans same) = refl
+nobodys f size w who step reply image (allowed.Cleaning command d x im recorded there cleans same) = refl
 nobodys f size w who step reply image (allowed.Used name indices moment uuid im clean is same) = refl
 nobodys f size w who step reply image (allowed.Full name indices moment im clean unused full same) = refl
 nobodys f size w who step reply image (allowed.AskSpent name indices moment im clean unused room spent same) = refl
 nobodys f size w who step reply image (allowed.ElectSpent im last same) = refl
 nobodys f size w who step reply image (allowed.AskFails name indices moment im accepts same) = refl
 nobodys f size w who step reply image (allowed.ElectFails im room same) = refl
+nobodys f size w who step reply image (allowed.AskingRestore name place answer im allows same) = refl
+nobodys f size w who step reply image (allowed.Verifying read answer im allows) = verifies_nobodys f w read answer im allows
+nobodys f size w who step reply image (allowed.Reading k read answer im allows same) = reads_nobodys f w k read answer im allows
 nobodys f size w who step reply image a = tt
 
 module _ (s : Start) (log : List Moment) (es : List Entry) (entries : entries_of log ≡ es) (legal : Legal s log) (none : fault_entries es ≡ 0) (named : AreDeposedSo es) where
@@ -181,10 +199,6 @@ module _ (s : Start) (log : List Moment) (es : List Entry) (entries : entries_of
       in_front [] b e h = absurd h
       in_front (x ∷ a) b e (inl is) = inl is
       in_front (x ∷ a) b e (inr h) = inr (in_front a b e h)
-
-      in_middle : (a b : List Entry) (e : Entry) → Has (a ++ e ∷ b) e
-      in_middle [] b e = inl refl
-      in_middle (x ∷ a) b e = inr (in_middle a b e)
 
   pub asks_nobody : (m : Moment) → Has log m → IsNobodys m.entry.who m.entry.step
   asks_nobody m h =
@@ -245,6 +259,13 @@ no_election moment (items.Snapshot name indices) (inr h) = h
 no_election moment items.List (inl e) = cc
 no_election moment items.List (inr h) = h
 no_election moment item h = h
+
+no_test : (moment : ℕ) (item : Item) (read : Read) → Has (steps_of_item moment item) (ReadStep read) → ⊥
+no_test moment (items.Snapshot name indices) read (inl e) = cc
+no_test moment (items.Snapshot name indices) read (inr h) = h
+no_test moment items.List read (inl e) = cc
+no_test moment items.List read (inr h) = h
+no_test moment item read h = h
 
 -- the indices of a snapshot that was asked are those of the line's
 record OfSnapshot (item : Item) (indices : List AskedIndex) : Type 0 where
@@ -316,6 +337,14 @@ module _ {S F H T : Type 0} (laws : QuietLaws S F H T) (count : Counts S F H T) 
         let from = wanted m h who (ap is_take is) in
         no_election moment from.line.item (subst (λ (step : Step). Has (steps_of_item moment from.line.item) step) is from.step_is)
 
+    -- no line asks for a verification
+    tested : AreTestedOnce s log
+    tested front back m name split is has =
+        let h : Has log m = subst (λ (l : List Moment). Has l m) (sym split) (in_middle front back m) in
+        let who : m.entry.who ≡ 0 = subst (IsNobodys m.entry.who) is (nobody m h) in
+        let from = wanted m h who (ap is_take is) in
+        no_test moment from.line.item (CommitTest name) (subst (λ (step : Step). Has (steps_of_item moment from.line.item) step) is from.step_is)
+
     tells : s.tells ≡ true
     tells = ap is_some quiet_for.holds.told
 
@@ -333,6 +362,7 @@ module _ {S F H T : Type 0} (laws : QuietLaws S F H T) (count : Counts S F H T) 
       told = told tells;
       honest = tells_all.honest;
       once = once;
+      tested = tested;
       steady = steady;
       calm = calm_is s log history entries legal none_faults named;
       unspent = λ m h spent. unspent m.entry (subst (λ (l : List Entry). Has l m.entry) entries (has_entry log m h)) spent;

@@ -6,7 +6,7 @@ use Rattle.std.specs.Cmp.{nat_cmp_total, eq_by_cmp_equiv}
 use Rattle.esr_model.specs.Values.{ClusterRecord, RootData}
 use Rattle.esr_model.specs.Image.{Blobs, Image}
 use Rattle.esr_model.specs.Kept.{first_id}
-use Rattle.esr_core.specs.World.{World, Deletion, record_of, kept_deletes, numbered_deletes}
+use Rattle.esr_core.specs.World.{World, Deletion, no_caller, record_of, kept_deletes, numbered_deletes}
 use Rattle.esr_core.specs.World as core
 use Rattle.esr_depot.specs.Image.{Image as Held, with_text}
 use Rattle.esr_depot.specs.Look.{Look, now}
@@ -42,6 +42,9 @@ idle_world blobs safe pending term root deletes next_op =
       next_id = first_id term;
       doomed = [];
       deposed = false;
+      restores = fin.empty;
+      readers = fin.empty;
+      caller = no_caller;
     }
 
 abbrev pub begun_world : Option Held → ClusterRecord → RootData → World
@@ -147,6 +150,7 @@ begins files size quiet before after k o only =
       order = subst IsInOrder (sym is) o.order;
       live = refl;
       no_tickets = refl;
+      no_restore = (refl, refl);
       roomy = record { ops = omega arith; tickets = omega arith };
       image = λ i now_is. image_now files before after k o i now_is ∙ ap (core.image_of (formats_by files)) (sym is);
       tells = tells_so after;

@@ -47,6 +47,7 @@ start_of telling size quiet l world =
       tells = is_some (now l);
       quiet = quiet;
       steady = steady_by telling;
+      sure_targets = false;
       alone = true;
       world = world;
     }

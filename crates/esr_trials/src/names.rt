@@ -1,5 +1,6 @@
-//! Names that are in use.
-use crate::setting::run_on;
+//! Names that are in use or taken.
+use crate::setting::{put, run_on};
+use esr_depot::{CallError, Depot};
 use esr_memdepot::MemDepot;
 use esr_seq::Seq;
 use std::alloc::{AllocError, Global};
@@ -32,5 +33,36 @@ fn the_name_of_an_open_snapshot_is_in_use(rt: HostRuntime) -> Result<(), Fail> {
     let printed =
         "1 snapshot s0 ok AAAAAAAAAAEAAAAAAAAAAA\n2 snapshot s1 ok AAAAAAAAAAEAAAAAAAAAAQ\n3 snapshot s1 refused name-in-use AAAAAAAAAAEAAAAAAAAAAQ\n";
     assert!(rt; is_refused(&rt, rt.alloc(), script, printed)?);
+    Ok(())
+}
+
+/// A container in which nothing stands but that blob, with a record of no root.
+fn container_with(alloc: Global, name: &str) -> Result<MemDepot, CallError> {
+    let record = r#"{"ops":[],"pending":-1,"safe":-1,"term":0}"#;
+    let mut depot = MemDepot::new(alloc, Seq::new(alloc));
+    put(alloc, &mut depot, name, "1")?;
+    depot.swap_record(alloc, record.as_bytes())?;
+    Ok(depot)
+}
+
+/// Whether a snapshot beside that blob fails, since it needs the blob's name.
+fn fails_beside(rt: &impl Wait, alloc: Global, name: &str) -> Result<bool, Fail> {
+    let depot = container_with(alloc, name)?;
+    let (left, out) = run_on(rt, alloc, depot, "snapshot s1 logs/1/src\n")?;
+    let printed = format!(in alloc; "1 snapshot s1 failed name-taken {name}\n")?;
+    Ok(left.status == 1 && out.as_slice() == printed.as_str().as_bytes())
+}
+
+#[test]
+fn a_blob_that_is_there_has_taken_its_name(rt: HostRuntime) -> Result<(), Fail> {
+    let names = [
+        "indices/AAAAAAAAAAEAAAAAAAAAAQ/0/__AAAAAAAAAAEAAAAAAAAAAg",
+        "indices/AAAAAAAAAAEAAAAAAAAAAQ/0/snap-AAAAAAAAAAEAAAAAAAAAAA.dat",
+        "indices/AAAAAAAAAAEAAAAAAAAAAQ/0/index-AAAAAAAAAAEAAAAAAAAAAw",
+        "index-0",
+    ];
+    for name in names {
+        assert!(rt; fails_beside(&rt, rt.alloc(), name)?, "{name}");
+    }
     Ok(())
 }

@@ -1,6 +1,6 @@
 //! Runs over what an earlier run, or a crash in it, left.
-use crate::setting::{RECORD, ROOT, SCRIPT, has_record, holds, run_on};
-use esr_depot::{CallError, Counted, Depot, Stage};
+use crate::setting::{RECORD, ROOT, SCRIPT, has_record, holds, put, run_on};
+use esr_depot::{Counted, Depot};
 use esr_desk::{FailedObject, Fault};
 use esr_memdepot::{Call, Failing, Leaves, MemDepot, Plan};
 use esr_seq::Seq;
@@ -48,13 +48,6 @@ fn moment_of(alloc: Global, depot: &MemDepot, text: &str) -> Result<u64, Fail> {
 fn cut_before(alloc: Global, depot: &MemDepot, text: &str) -> Result<MemDepot, Fail> {
     let moment = moment_of(alloc, depot, text)?;
     Ok(depot.cut(alloc, moment, Leaves::Old)?)
-}
-
-/// Puts a blob.
-fn put(alloc: Global, depot: &mut MemDepot, name: &str, text: &str) -> Result<(), CallError> {
-    let mut stage = depot.begin(alloc, name, text.len())?;
-    stage.write(text.as_bytes())?;
-    depot.replace(alloc, stage)
 }
 
 #[test]
@@ -151,6 +144,17 @@ fn what_cannot_be_opened(rt: HostRuntime) -> Result<(), Fail> {
         let mut depot = left_by(&rt, alloc, left, "list\n", status, printed)?;
         assert_eq!(rt; has_record(alloc, &mut depot, record)?, !record.is_empty());
     }
+    Ok(())
+}
+
+#[test]
+fn a_snapshot_for_which_no_generation_is_left(rt: HostRuntime) -> Result<(), Fail> {
+    let alloc = rt.alloc();
+    let record = r#"{"ops":[],"pending":9223372036854775807,"safe":-1,"term":0}"#;
+    let mut left = MemDepot::new(alloc, Seq::new(alloc));
+    left.swap_record(alloc, record.as_bytes())?;
+    let printed = "1 snapshot s1 failed spent\nnumbers spent\n";
+    left_by(&rt, alloc, left, "snapshot s1\n", 7, printed)?;
     Ok(())
 }
 

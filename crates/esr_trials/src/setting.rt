@@ -1,5 +1,5 @@
 //! What the runs share: sources, scripts, and what is looked for in a container in memory.
-use esr_depot::{CallError, Depot, Fetch};
+use esr_depot::{CallError, Depot, Fetch, Stage};
 use esr_memdepot::MemDepot;
 use esr_run::{Ended, run};
 use esr_script::Words;
@@ -87,6 +87,18 @@ pub(crate) fn run_on(
         &mut out,
     )?;
     Ok((left, out))
+}
+
+/// Puts a blob.
+pub(crate) fn put(
+    alloc: Global,
+    depot: &mut MemDepot,
+    name: &str,
+    text: &str,
+) -> Result<(), CallError> {
+    let mut stage = depot.begin(alloc, name, text.len())?;
+    stage.write(text.as_bytes())?;
+    depot.replace(alloc, stage)
 }
 
 /// Whether the blob of that name has that text.

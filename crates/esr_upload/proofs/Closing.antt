@@ -29,7 +29,7 @@ use Rattle.esr_desk.specs.Damage.{IsAhead}
 use Rattle.esr_upload.specs.Trouble.{BadBase}
 use Rattle.esr_upload.specs.Entries.{new_count, entries_at, all_blobs, StoredAll}
 use Rattle.esr_upload.specs.Published.{HasDrawn, snap_blob, index_blob, last_blobs, sum_planned, outcome_of}
-use Rattle.esr_upload.proofs.Writing.{writes_on, writes_keep, writes_at, all_wrote, all_noted}
+use Rattle.esr_upload.proofs.Writing.{writes_on, writes_keep, writes_at, all_wrote, wrote_only, all_noted}
 use Rattle.esr_upload.proofs.Modelled.{entries_model, id_model, blobs_model, as_many, sum_model}
 use Rattle.esr_upload.proofs.Adding.{with_snap_is}
 use Rattle.esr_upload.proofs.Snapped.{snap_ahead}
@@ -141,6 +141,16 @@ module _ (s : Start) (told : Option (List (Bytes × Bytes))) (listed : Option (L
       subst (λ (t : Ticket). Has t.wrote (name, bytes)) (sym new_is)
       (all_wrote s written old (name, bytes) tells (subst (λ (ws : List (BlobName × Bytes)). Has ws (name, bytes)) written_is has))
 
+  -- and nothing else
+  only_written : (name : BlobName) (bytes : Bytes) → Has new.wrote (name, bytes) → Has (shard_blobs (formats_of s) s.part_size (shard_index_of base) at.index.number at.number new.uuid new.first stored.files) (name, bytes)
+  only_written name bytes has =
+      let w : BlobName × Bytes = (name, bytes) in
+      let among : Has written w = elim (wrote_only s written old w (subst (λ (t : Ticket). Has t.wrote w) new_is has)) [
+        | inl here ↦ here
+        | inr before ↦ absurd (subst (λ (ws : List (BlobName × Bytes)). Has ws w) drawn.unwritten before)
+      ] in
+      subst (λ (ws : List (BlobName × Bytes)). Has ws w) (sym written_is) among
+
   snap_reads : ReadsBack shard_snap_kind (shard_snap_of (snap_with es uuid)) → ReadsBack shard_snap_kind (record { uuid = new.uuid; files = entries_from (formats_of s) s.part_size (shard_index_of base) new.first stored.files })
   snap_reads back =
       subst (λ (u : ℕ). ReadsBack shard_snap_kind (record { uuid = u; files = entries_from (formats_of s) s.part_size (shard_index_of base) new.first stored.files })) (sym new_uuid)
@@ -174,6 +184,7 @@ module _ (s : Start) (told : Option (List (Bytes × Bytes))) (listed : Option (L
     generation = sym (ap (λ (n : ℕ). id_after (formats_of s) (shard_index_of base) n stored.files) new_first ∙ id_model s first (shard_index_of base) ps stored.files stored.named drawn.planned.each);
     drew = new_last;
     wrote = all_written tells;
+    only = only_written;
     snap_back = snap_reads snap;
     index_back = index_reads index;
     count = as_many ps stored.files stored.named;

@@ -89,6 +89,7 @@ module _ (s : Start) (told : Option (List (Bytes × Bytes))) (is_there : Option 
     from = refl;
     drawn = ap (λ (m : ℕ). m + 1) count;
     unnoted = ap (λ (t : Ticket). t.noted) has.has_base.is ∙ unit.unnoted;
+    unwritten = ap (λ (t : Ticket). t.wrote) has.has_base.is ∙ unit.unwritten;
     based = λ tells. based_in read.base (has.has_base.based tells);
     none = has.none;
     whole = has.whole;
@@ -125,6 +126,7 @@ took_unit s files is_there is_quiet work root op copy t uuid at name place sourc
       at = record { out = refl; unsettled = refl; work = refl };
       undrawn = refl;
       unnoted = refl;
+      unwritten = refl;
       uuid_is = refl;
       base_is = refl;
       tells = λ known. elim (sources.told place name at.number known) [

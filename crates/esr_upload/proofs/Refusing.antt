@@ -9,8 +9,9 @@ use Rattle.esr_names.specs.declared.blob.BlobName.TheVariants as names
 use Rattle.esr_model.specs.Names.{BlobName, ShardIndex}
 use Rattle.esr_model.specs.Values.{Bytes, Has}
 use Rattle.esr_core.specs.World.{Ticket, Work, Shard}
-use Rattle.esr_core.specs.Entry.{Why, OfDepot, OfSource, OfChange, OfDamage, FailedStep, HasEnded, Refused, DepotFault, Moment}
+use Rattle.esr_core.specs.Entry.{Why, OfDepot, OfSource, OfChange, OfDamage, OfTaken, OfIdsSpent, OfGenerationsSpent, OfTarget, OfPrint, OfDisagreement, Step, FailedStep, HasEnded, Refused, Refusal, DepotFault, NameTaken, IdsSpent, GenerationsSpent, Moment}
 use Rattle.esr_formats.specs.Ids.{number_of}
+use Rattle.esr_formats.specs.Names.{name_of}
 use Rattle.esr_source.specs.declared.address.Address.{Address}
 use Rattle.esr_source.specs.Address.{address}
 use Rattle.esr_desk.specs.declared.entry.Why.TheVariants as whys
@@ -25,9 +26,9 @@ use Rattle.esr_desk.specs.Entries.{why_of}
 use Rattle.esr_desk.specs.Start.{Start, ticket_of}
 use Rattle.esr_desk.specs.Sources.{AreSources}
 use Rattle.esr_desk.specs.Outcome.{Waited, Stepped}
-use Rattle.esr_desk.specs.Last.{IsRefusal}
+use Rattle.esr_desk.specs.Last.{IsLast, IsRefusal}
 use Rattle.esr_desk.specs.Damage.{IsBase, IsBad, WasMissing, BaseFault}
-use Rattle.esr_desk.specs.Shown.{Counts, Matters, HadFault, IsOf, IsUntold, FaultyShard, DepotShown, SourceShown, ReadShown, IsShown}
+use Rattle.esr_desk.specs.Shown.{Counts, Matters, HadFault, HadRefusal, IsOf, IsUntold, FaultyShard, DepotShown, SourceShown, ReadShown, StepShown, IsShown}
 use Rattle.esr_upload.specs.declared.cause.Cause.{Cause}
 use Rattle.esr_upload.specs.declared.trouble.Trouble.{Trouble}
 use Rattle.esr_upload.specs.declared.trouble.Trouble.TheVariants as troubles
@@ -57,6 +58,7 @@ refusal_same (steps.Refused (refusals.GenerationsSpent spent)) refusal is = cc
 refusal_same (steps.Refused (refusals.TermsSpent spent)) refusal is = cc
 refusal_same (steps.Refused (refusals.IdsSpent next)) refusal is = cc
 refusal_same (steps.Refused (refusals.NameTaken name)) refusal is = cc
+refusal_same (steps.Refused (refusals.BeingDeleted op)) refusal is = cc
 
 damaged_memory : {S F H T : Type 0} (at : ShardId) (base : Option Id) (refusal : StepRefusal) → damaged_by {S = S} {F = F} {H = H} {T = T} at base ≡ Err refusal → steps.Memory ≡ refusal
 damaged_memory at None refusal is = cc
@@ -106,6 +108,16 @@ had_on s old new who waited h = record {
   matters = subst (λ (t : Ticket). Matters t.work h.moment.entry.step) (sym waited.alone) h.matters;
 }
 
+refusal_on : (s : Start) (old new : List Moment) (who : ℕ) (refusal : Refusal) → Waited s old new who → HadRefusal old who refusal → HadRefusal new who refusal
+refusal_on s old new who refusal waited h = record {
+  front = h.front;
+  moment = h.moment;
+  back = h.back ++ waited.others;
+  is = waited.grew ∙ ap (λ (log : List Moment). log ++ waited.others) h.is ∙ append_assoc h.front (h.moment ∷ h.back) waited.others;
+  of = h.of;
+  reply = h.reply;
+}
+
 fault_on : (s : Start) (old new : List Moment) (who : ℕ) (name : BlobName) → Waited s old new who → BaseFault s old who name → BaseFault s new who name
 fault_on s old new who name waited (inl missing) = inl (missing_on s old new who name waited missing)
 fault_on s old new who name waited (inr bad) =
@@ -130,11 +142,22 @@ module _ {S F H T : Type 0} (c : Counts S F H T) (s : Start) (old new : List Mom
   change_on shows.Entry differ h = h
   change_on shows.Nothing differ h = (h.0, subst (λ (t : Ticket). IsUntold s t) (sym waited.alone) h.1)
 
+  step_on : (b : By S F H T) (refusal : Refusal) → StepShown b (HadRefusal old who refusal) → StepShown b (HadRefusal new who refusal)
+  step_on (shows.Object object) refusal h = h
+  step_on shows.Entry refusal h = refusal_on s old new who refusal waited h
+  step_on shows.Nothing refusal h = h
+
   shown_on : (why : Why) (b : By S F H T) → IsShown c s old who why b → IsShown c s new who why b
   shown_on OfDepot b h = depot_on b h
   shown_on OfSource b h = subst (λ (t : Ticket). SourceShown c s t b) (sym waited.alone) h
   shown_on (OfChange first_len first_digest second_len second_digest) b h = change_on b ((first_len ≡ second_len) → (first_digest ≡ second_digest) → ⊥) h
   shown_on (OfDamage name) b h = damage_on b name h
+  shown_on (OfTaken name) b h = step_on b (NameTaken name) h
+  shown_on (OfIdsSpent next) b h = step_on b (IdsSpent next) h
+  shown_on (OfGenerationsSpent pending) b h = step_on b (GenerationsSpent pending) h
+  shown_on OfTarget b h = h
+  shown_on (OfPrint name stated_len stated_digest found_len found_digest) b h = h
+  shown_on (OfDisagreement name other) b h = h
 
 -- ---- a trouble shows the cause that is made of it
 
@@ -142,6 +165,16 @@ two_parts : (first second : Print) → first ≢ second → (first.len ≡ secon
 two_parts first second differ len digest =
     let made : ℕ → List ℕ → Print = λ n bytes. record { len = n; sha256 = bytes } in
     differ (ap (λ (n : ℕ). made n first.sha256) len ∙ ap (λ (bytes : List ℕ). made second.len bytes) digest)
+
+had_last : (log : List Moment) (who : ℕ) (step : Step) (refusal : Refusal) → IsLast log who step (Refused refusal) → HadRefusal log who refusal
+had_last log who step refusal last = record {
+  front = last.front;
+  moment = record { entry = record { who = who; step = step; reply = Refused refusal }; image = last.image };
+  back = [];
+  is = last.is;
+  of = refl;
+  reply = refl;
+}
 
 module _ {S F H T : Type 0} (c : Counts S F H T) (files : Option (List (Bytes × Bytes))) (s : Start) (log : List Moment) (who : ℕ) where
   -- the cause is shown
@@ -174,8 +207,13 @@ module _ {S F H T : Type 0} (c : Counts S F H T) (files : Option (List (Bytes ×
   refused_shows index number (steps.Refused (refusals.StaleTerm own now)) cause work was is = cc
   refused_shows index number (steps.Refused (refusals.GenerationsSpent spent)) cause work was is = cc
   refused_shows index number (steps.Refused (refusals.TermsSpent spent)) cause work was is = cc
-  refused_shows index number (steps.Refused (refusals.IdsSpent next)) cause work was is = cc
-  refused_shows index number (steps.Refused (refusals.NameTaken name)) cause work was is = cc
+  refused_shows index number (steps.Refused (refusals.IdsSpent next)) cause work was is =
+      let spent : Cause S F H T = record { why = whys.IdsSpent next; by = shows.Entry } in
+      let same : spent ≡ cause = cc in subst Caused same (had_last log who was.0.0 (IdsSpent next.number) was.0.1, tt)
+  refused_shows index number (steps.Refused (refusals.NameTaken name)) cause work was is =
+      let taken : Cause S F H T = record { why = whys.NameTaken name; by = shows.Entry } in
+      let same : taken ≡ cause = cc in subst Caused same (had_last log who was.0.0 (NameTaken (name_of name)) was.0.1, tt)
+  refused_shows index number (steps.Refused (refusals.BeingDeleted op)) cause work was is = cc
 
   -- the fault of the base, under its name
   base_shows : (at : ShardId) (base : Option Id) (cause : Cause S F H T) → (ticket_of s log who).work ≡ Shard at.index.number at.number → (ticket_of s log who).base ≡ option_map number_of base → BadBase s log who

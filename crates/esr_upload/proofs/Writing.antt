@@ -1,5 +1,5 @@
 -- Blobs that are committed one after another.
-use Rattle.std.proofs.Common.{◌≡◌, inl, inr, ℕ, Bool, true, List, [], ◌∷◌, ◌++◌, Option, Some, None, if◌then◌else◌, refl, sym, ap, ◌∙◌, subst}
+use Rattle.std.proofs.Common.{◌≡◌, ◌⊎◌, inl, inr, ℕ, Bool, true, false, List, [], ◌∷◌, ◌++◌, Option, Some, None, if◌then◌else◌, refl, sym, ap, ◌∙◌, subst}
 use Rattle.esr_model.specs.Names.{BlobName}
 use Rattle.esr_model.specs.Values.{Bytes, Has}
 use Rattle.esr_core.specs.World.{Ticket}
@@ -71,6 +71,27 @@ all_wrote s (u ∷ ws) t w tells (inl same) =
     let next = committing u.0 (told_bytes s u.1) t in
     subst (λ (x : BlobName × Bytes). Has (after_writes s ws next).wrote x) same (still_wrote s ws next u (told_wrote s u t tells))
 all_wrote s (u ∷ ws) t w tells (inr has) = all_wrote s ws (committing u.0 (told_bytes s u.1) t) w tells has
+
+-- a commit writes its blob at most
+committing_wrote_only : (name : BlobName) (o : Option Bytes) (t : Ticket) (bytes : Bytes) → ((b : Bytes) → o ≡ Some b → b ≡ bytes) → (w : BlobName × Bytes) → Has (committing name o t).wrote w → ((name, bytes) ≡ w) ⊎ Has t.wrote w
+committing_wrote_only name None t bytes told w has = inr has
+committing_wrote_only name (Some b) t bytes told w (inl same) = inl (ap (λ (x : Bytes). (name, x)) (sym (told b refl)) ∙ same)
+committing_wrote_only name (Some b) t bytes told w (inr has) = inr has
+
+told_is : (tells : Bool) (bytes b : Bytes) → (if tells then Some bytes else None) ≡ Some b → b ≡ bytes
+told_is true bytes b is = cc
+told_is false bytes b is = cc
+
+-- what was written is among the blobs, or was before
+pub wrote_only : (s : Start) (ws : List (BlobName × Bytes)) (t : Ticket) (w : BlobName × Bytes) → Has (after_writes s ws t).wrote w → Has ws w ⊎ Has t.wrote w
+wrote_only s [] t w has = inr has
+wrote_only s (u ∷ ws) t w has = elim (wrote_only s ws (committing u.0 (told_bytes s u.1) t) w has) [
+  | inl later ↦ inl (inr later)
+  | inr before ↦ elim (committing_wrote_only u.0 (told_bytes s u.1) t u.1 (told_is s.tells u.1) w before) [
+    | inl same ↦ inl (inl same)
+    | inr older ↦ inr older
+  ]
+]
 
 -- ---- the names
 

@@ -6,18 +6,21 @@ use Rattle.esr_names.specs.declared.blob.BlobName.TheVariants as names
 use Rattle.esr_desk.specs.declared.entry.Why.TheVariants as whys
 use Rattle.esr_desk.specs.declared.refusal.StepRefusal.{StepRefusal}
 use Rattle.esr_desk.specs.declared.refusal.StepRefusal.TheVariants as steps
-use Rattle.esr_desk.specs.declared.refusal.EntryRefusal.TheVariants.{DepotFault}
+use Rattle.esr_desk.specs.declared.refusal.EntryRefusal.TheVariants.{IdsSpent, NameTaken, DepotFault}
 use Rattle.esr_desk.specs.declared.fault.FailedObject.TheVariants as objects
 use Rattle.esr_desk.specs.declared.fault.By.TheVariants as shows
 use Rattle.esr_upload.specs.declared.cause.Cause.{Cause}
 use Rattle.esr_upload.specs.declared.trouble.Trouble.{Trouble}
 use Rattle.esr_upload.specs.declared.trouble.Trouble.TheVariants as troubles
 
--- a step that the container refused ends the ticket; any other refusal leaves it out
+-- A step in which the container failed ends the ticket, and so does a name that is taken, or too few ids; any other refusal
+-- leaves it out.
 abbrev pub cause_refused : {S F H T : Type 0} → StepRefusal → Result (Cause S F H T) StepRefusal
 cause_refused steps.Memory = Err steps.Memory
 cause_refused steps.TurnsSpent = Err steps.TurnsSpent
 cause_refused (steps.Refused DepotFault) = Ok (record { why = whys.Depot; by = shows.Entry })
+cause_refused (steps.Refused (NameTaken name)) = Ok (record { why = whys.NameTaken name; by = shows.Entry })
+cause_refused (steps.Refused (IdsSpent next)) = Ok (record { why = whys.IdsSpent next; by = shows.Entry })
 cause_refused (steps.Refused refusal) = Err (steps.Refused refusal)
 
 -- the cause where the base is at fault

@@ -30,6 +30,7 @@ pub record IsUnit (s : Start) (told : Option (List (Bytes × Bytes))) (is_there 
   pub at : IsAt t index number
   pub undrawn : t.drawn ≡ 0
   pub unnoted : t.noted ≡ []
+  pub unwritten : t.wrote ≡ []
   pub uuid_is : t.uuid ≡ uuid
   pub base_is : t.base ≡ base
   pub tells : s.known t.place t.name number ≡ true → (told ≡ Some (s.told t.place t.name number)) ⊎ (is_there ≡ Some false)
@@ -80,6 +81,7 @@ pub record HasDrawn (s : Start) (told : Option (List (Bytes × Bytes))) (listed 
   pub from : t.first ≡ first
   pub drawn : t.drawn ≡ new_count ps + 1
   pub unnoted : t.noted ≡ []
+  pub unwritten : t.wrote ≡ []
   pub based : s.tells ≡ true → Based (formats_of s) t index number t.base (shard_index_of base)
   pub none : t.base ≡ None → base ≡ record { files = []; snapshots = [] }
   pub whole : IsShardIndex base

@@ -22,12 +22,14 @@ abbrev pub IsOfShard : Work → Type 0
 IsOfShard (works.Shard uuid shard index place) = Unit {0}
 IsOfShard (works.Finalize info shards) = ⊥
 IsOfShard works.Drop = ⊥
+IsOfShard (works.RestoreShard uuid shard index place) = ⊥
 
 -- the files that are told of the unit's shard
 abbrev pub told_of : (Bytes → Bytes → ℕ → Option (List (Bytes × Bytes))) → Work → Option (List (Bytes × Bytes))
 told_of files (works.Shard uuid shard index place) = files place index shard.number
 told_of files (works.Finalize info shards) = None
 told_of files works.Drop = None
+told_of files (works.RestoreShard uuid shard index place) = None
 
 -- the shard is done, and the ticket has ended
 pub record HasDone (s : Start) (old new : List Moment) (who : ℕ) : Type 0 where
@@ -43,6 +45,12 @@ IsChangeOfUntold files whys.Depot = Unit {0}
 IsChangeOfUntold files whys.Source = Unit {0}
 IsChangeOfUntold files (whys.Changed first second) = files ≡ None
 IsChangeOfUntold files (whys.Damaged name) = Unit {0}
+IsChangeOfUntold files (whys.NameTaken name) = Unit {0}
+IsChangeOfUntold files (whys.IdsSpent next) = Unit {0}
+IsChangeOfUntold files (whys.GenerationsSpent number) = Unit {0}
+IsChangeOfUntold files whys.Target = Unit {0}
+IsChangeOfUntold files (whys.Misprinted name stated found) = Unit {0}
+IsChangeOfUntold files (whys.Disagreeing name other) = Unit {0}
 
 -- the last entry tells that the unit failed, with a cause that was shown before it
 pub record HasFailed {S F H T : Type 0} (c : Counts S F H T) (files : Option (List (Bytes × Bytes))) (s : Start) (log : List Moment) (who : ℕ) (why : Why) : Type 0 where

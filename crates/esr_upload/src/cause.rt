@@ -28,6 +28,12 @@ pub fn cause_of<S: Drop, F: Drop, H: Drop, T: Drop>(
 {
     let (why, by) = match trouble {
         Trouble::Step(StepRefusal::Refused(EntryRefusal::DepotFault)) => (Why::Depot, By::Entry),
+        Trouble::Step(StepRefusal::Refused(EntryRefusal::NameTaken { name })) => {
+            (Why::NameTaken { name }, By::Entry)
+        }
+        Trouble::Step(StepRefusal::Refused(EntryRefusal::IdsSpent { next })) => {
+            (Why::IdsSpent { next }, By::Entry)
+        }
         Trouble::Step(refusal) => return Err(refusal),
         Trouble::Source => {
             let object = FailedObject::Shard { shard };

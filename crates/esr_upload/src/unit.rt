@@ -174,7 +174,8 @@ fn work<Q: Desk, S: Shard, G: Gate>(
 }
 
 /// Stores the files of a shard that its base doesn't have, the snapshot of the shard and its next index, and ends the ticket.
-/// Where an object failed, a file changed or the base is at fault, the ticket ends as failed, and the object is handed over.
+/// Where an object failed, a file changed, the base is at fault, a name is taken or too few ids are left, the ticket ends as
+/// failed, and the object is handed over.
 pub fn run_unit<Q: Desk<Shard = S::Shard>, S: Sources, G: Gate>(
     alloc: Global,
     desk: &mut Q,

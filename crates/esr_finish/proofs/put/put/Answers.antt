@@ -3,8 +3,13 @@ use Rattle.esr_formats.specs.Names.{name_of}
 use Rattle.esr_desk.specs.Start.{ticket_of}
 use Rattle.esr_desk.specs.Outcome.{commit_reply}
 use Rattle.esr_desk.specs.Grew.{outcome_grew_by}
-use Rattle.esr_finish.proofs.Runs.{went_on, worked_to, worked_not}
+use Rattle.esr_finish.proofs.Runs.{went_on, worked_to, worked_not, begin_went}
 use Rattle.esr_finish.proofs.put.put.Goals as goal
+
+pub returns-in_err-named-clause-went : goal.returns-in_err-named-clause-went
+returns-in_err-named-clause-went g c =
+    let seen = g.Q.Desk.seen in
+    begin_went g.Q.Desk.start (seen c.args.desk.now) (seen c.begin.new.self) c.args.ticket (name_of c.args.name) c.begin.result c.begin.ensures.step c.begin.ensures.own
 
 pub returns-in_err-commit-clause-went : goal.returns-in_err-commit-clause-went
 returns-in_err-commit-clause-went g c =

@@ -1,15 +1,15 @@
-use Rattle.std.proofs.Common.{◌≡◌, Err}
+use Rattle.std.proofs.Common.{◌≡◌, Err, sym, ◌∙◌}
 use Rattle.esr_desk.specs.Taken.{IsSettled}
-use Rattle.esr_desk.specs.declared.refusal.StepRefusal.TheVariants as steps
+use Rattle.esr_desk.specs.declared.entry.Why.TheVariants.{Depot}
 use Rattle.esr_formats.specs.Infos.{info_of_code}
 use Rattle.esr_formats.specs.Roots.{root_of}
 use Rattle.esr_desk.specs.Start.{ticket_of}
 use Rattle.esr_finish.specs.Ticket.{MayWrite}
-use Rattle.esr_finish.specs.Refused.{IsUnitRefused}
+use Rattle.esr_finish.specs.Refused.{failed_by, IsUnitRefused}
 use Rattle.esr_desk.specs.Grew.{grew_by_on}
 use Rattle.esr_finish.proofs.Runs.{left_cases}
 use Rattle.esr_finish.proofs.Swaps.{took_writes, settle_next}
-use Rattle.esr_finish.proofs.Ends.{stopped_err, settle_grew, finish_grew, settle_refused, finish_refused, fail_ends, by_stage, fault_was, by_step}
+use Rattle.esr_finish.proofs.Ends.{stopped_err, settle_grew, finish_grew, settle_refused, finish_refused, fail_ends, by_stage, by_step, step_shown, was_refused, put_refused}
 use Rattle.esr_finish.proofs.unit.run_unit.Goals as goal
 use Rattle.esr_finish.proofs.unit.run_unit.Goals.{In-Some}
 
@@ -73,10 +73,10 @@ returns-in-Err-Stage-clause-grew g c =
     let seen = g.Q.Desk.seen in
     grew_by_on g.Q.Desk.start c.args.unit.now.ready.ticket (seen c.args.desk.now) (seen c.write_swap.new.desk) (seen c.fail.new.desk) c.write_swap.ensures.went.grew c.fail.ensures.grew
 
-pub returns-in-Err-Step-Refused-DepotFault-clause-grew : goal.returns-in-Err-Step-Refused-DepotFault-clause-grew
-returns-in-Err-Step-Refused-DepotFault-clause-grew g c =
+pub returns-in-Some-failed_by-clause-grew : goal.returns-in-Some-failed_by-clause-grew
+returns-in-Some-failed_by-clause-grew g c =
     let seen = g.Q.Desk.seen in
-    grew_by_on g.Q.Desk.start c.args.unit.now.ready.ticket (seen c.args.desk.now) (seen c.write_swap.new.desk) (seen c.fail-in-Err-Step-Refused-DepotFault.new.desk) c.write_swap.ensures.went.grew c.fail-in-Err-Step-Refused-DepotFault.ensures.grew
+    grew_by_on g.Q.Desk.start c.args.unit.now.ready.ticket (seen c.args.desk.now) (seen c.write_swap.new.desk) (seen c.fail-in-Some-failed_by.new.desk) c.write_swap.ensures.went.grew c.fail-in-Some-failed_by.ensures.grew
 
 pub returns-in-Err-Stage-clause-refused : goal.returns-in-Err-Stage-clause-refused
 returns-in-Err-Stage-clause-refused g c =
@@ -86,20 +86,39 @@ returns-in-Err-Stage-clause-refused g c =
     let mid = g.Q.Desk.seen c.write_swap.new.desk in
     let new = g.Q.Desk.seen c.fail.new.desk in
     let who = c.args.unit.now.ready.ticket in
-    fail_ends s faults old mid new who (info_of_code c.in-Finalize.info) (root_of c.in-Some.root) c.fail.result (may_write g (goal.at.returns-in-Err-Stage-clause-refused g c).In-Some) c.write_swap.ensures.went
+    fail_ends s faults old mid new who (info_of_code c.in-Finalize.info) (root_of c.in-Some.root) Depot c.fail.result (may_write g (goal.at.returns-in-Err-Stage-clause-refused g c).In-Some) c.write_swap.ensures.went
     (by_stage s faults mid who c.in-Err-Stage.field-0 c.in-Err-Stage.stage c.in-Err-Stage.field-0-is c.in-Err-Stage.ensures.refused)
     c.fail.ensures.reported
 
-pub returns-in-Err-Step-Refused-DepotFault-clause-refused : goal.returns-in-Err-Step-Refused-DepotFault-clause-refused
-returns-in-Err-Step-Refused-DepotFault-clause-refused g c =
+pub fail-requires-in-Some-failed_by-clause-shown : goal.fail-requires-in-Some-failed_by-clause-shown
+fail-requires-in-Some-failed_by-clause-shown g c κs within =
+    let s = g.Q.Desk.start in
+    let mid = g.Q.Desk.seen c.write_swap.new.desk in
+    let who = c.args.unit.now.ready.ticket in
+    let put = c.in-Err-Step in
+    let told : c.failed_by.result ≡ failed_by put.refusal = rw put.field-0-is at c.failed_by.ensures in
+    step_shown (record { stage = g.Q.Stage.Counted.faults; fetch = g.Q.Fetch.Counted.faults; shard = g.Q.Shard.Counted.faults; target = g.Q.Target.Counted.faults; made_for = λ h. (g.Q.Shard.Shard.origin h).address }) s mid who put.refusal c.in-Some-failed_by.why
+    (sym told ∙ c.in-Some-failed_by.is) (was_refused s g.Q.Stage.Counted.faults mid who put.field-0 put.refusal put.field-0-is put.ensures.refused)
+
+pub returns-in-Some-failed_by-clause-refused : goal.returns-in-Some-failed_by-clause-refused
+returns-in-Some-failed_by-clause-refused g c =
     let s = g.Q.Desk.start in
     let faults = g.Q.Stage.Counted.faults in
     let old = g.Q.Desk.seen c.args.desk.now in
     let mid = g.Q.Desk.seen c.write_swap.new.desk in
-    let new = g.Q.Desk.seen c.fail-in-Err-Step-Refused-DepotFault.new.desk in
+    let new = g.Q.Desk.seen c.fail-in-Some-failed_by.new.desk in
     let who = c.args.unit.now.ready.ticket in
-    let at = c.in-Err-Step-Refused-DepotFault in
-    let step_is : at.field-0-0 ≡ steps.Refused at.field-0-0-0 = rw at.field-0-is at at.field-0-0-is in
-    fail_ends s faults old mid new who (info_of_code c.in-Finalize.info) (root_of c.in-Some.root) c.fail-in-Err-Step-Refused-DepotFault.result (may_write g (goal.at.returns-in-Err-Step-Refused-DepotFault-clause-refused g c).In-Some) c.write_swap.ensures.went
-    (by_step s faults mid who (fault_was s faults mid who at.field-0 at.field-0-0 at.field-0-0-0 at.field-0-is step_is (rw (at.field-0-is, step_is) at at.field-0-0-0-is) at.ensures.refused))
-    c.fail-in-Err-Step-Refused-DepotFault.ensures.reported
+    let put = c.in-Err-Step in
+    let told : c.failed_by.result ≡ failed_by put.refusal = rw put.field-0-is at c.failed_by.ensures in
+    let why = c.in-Some-failed_by.why in
+    fail_ends s faults old mid new who (info_of_code c.in-Finalize.info) (root_of c.in-Some.root) why c.fail-in-Some-failed_by.result (may_write g (goal.at.returns-in-Some-failed_by-clause-refused g c).In-Some) c.write_swap.ensures.went
+    (by_step s faults mid who put.refusal why (sym told ∙ c.in-Some-failed_by.is) (was_refused s faults mid who put.field-0 put.refusal put.field-0-is put.ensures.refused))
+    c.fail-in-Some-failed_by.ensures.reported
+
+pub returns-in-None-clause-refused : goal.returns-in-None-clause-refused
+returns-in-None-clause-refused g c =
+    let s = g.Q.Desk.start in
+    let put = c.in-Err-Step in
+    let told : c.failed_by.result ≡ failed_by put.refusal = rw put.field-0-is at c.failed_by.ensures in
+    rw put.field-0-is (put_refused s g.Q.Stage.Counted.faults (g.Q.Desk.seen c.args.desk.now) (g.Q.Desk.seen c.write_swap.new.desk) c.args.unit.now.ready.ticket (info_of_code c.in-Finalize.info) (root_of c.in-Some.root) put.field-0 put.refusal
+    (may_write g (goal.at.returns-in-None-clause-refused g c).In-Some) c.write_swap.ensures.went put.field-0-is (sym told ∙ c.in-None.is) put.ensures.refused)

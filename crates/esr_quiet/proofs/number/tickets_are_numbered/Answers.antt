@@ -1,4 +1,4 @@
-use Rattle.std.proofs.Common.{◌≡◌, ◌≤◌, ℕ, List, [], ◌∷◌, ◌++◌, refl, sym, ap, ◌∙◌, subst, nat_cmp}
+use Rattle.std.proofs.Common.{◌≡◌, ◌≤◌, ℕ, List, [], ◌∷◌, ◌++◌, sym, ap, ◌∙◌, subst, nat_cmp}
 use Rattle.esr_core.specs.Entry.{Given, Gave, Moment}
 use Rattle.std.specs.FinMap as fin
 use Rattle.esr_desk.specs.Start.{Start, Legal, formats_of, no_ticket, or_no_ticket, ticket_of}

@@ -5,13 +5,13 @@ use Rattle.esr_repo.proofs.Accepts.{cleanup_refused, used_refused, full_refused,
 use Rattle.esr_repo.proofs.accepting.command_refusal.Goals as goal
 
 pub returns-in-CleanupRunning : goal.returns-in-CleanupRunning
-returns-in-CleanupRunning c = λ s log command h. cleanup_refused s log command c.in-CleanupRunning.op (subst (IsRefused (world_of s log) (name_asked command) command) c.in-CleanupRunning.is h)
+returns-in-CleanupRunning c = λ s log command kept h. cleanup_refused s log command c.in-CleanupRunning.op kept (subst (IsRefused (world_of s log) (name_asked command) command) c.in-CleanupRunning.is h)
 
 pub returns-in-NameInUse : goal.returns-in-NameInUse
-returns-in-NameInUse c = λ s log command h. used_refused s log command c.in-NameInUse.uuid.number (subst (IsRefused (world_of s log) (name_asked command) command) c.in-NameInUse.is h)
+returns-in-NameInUse c = λ s log command kept h. used_refused s log command c.in-NameInUse.uuid.number kept (subst (IsRefused (world_of s log) (name_asked command) command) c.in-NameInUse.is h)
 
 pub returns-in-TooMany : goal.returns-in-TooMany
-returns-in-TooMany c = λ s log command h. full_refused s log command c.in-TooMany.limit (subst (IsRefused (world_of s log) (name_asked command) command) c.in-TooMany.is h)
+returns-in-TooMany c = λ s log command kept h. full_refused s log command c.in-TooMany.limit kept (subst (IsRefused (world_of s log) (name_asked command) command) c.in-TooMany.is h)
 
 pub returns-in-IdsSpent : goal.returns-in-IdsSpent
-returns-in-IdsSpent c = λ s log command h. spent_refused s log command c.in-IdsSpent.next.number (subst (IsRefused (world_of s log) (name_asked command) command) c.in-IdsSpent.is h)
+returns-in-IdsSpent c = λ s log command kept h. spent_refused s log command c.in-IdsSpent.next.number kept (subst (IsRefused (world_of s log) (name_asked command) command) c.in-IdsSpent.is h)

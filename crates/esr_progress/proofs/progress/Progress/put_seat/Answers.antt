@@ -16,5 +16,5 @@ index_mut-requires c =
 
 pub returns : goal.returns
 returns c =
-    seat_put _ _ _ c.self.inside.seats.items _ c.args.ticket c.args.seat (ap (λ (p : Plan). is_some (fin.get p.seats c.args.ticket)) c.self.view_is ∙ c.requires)
+    seat_put _ _ _ c.self.inside.seats.items _ _ c.args.ticket c.args.seat (ap (λ (p : Plan). is_some (fin.get p.seats c.args.ticket)) c.self.view_is ∙ c.requires)
     ∙ ap (λ (p : Plan). with_seat p c.args.ticket (seat_of_code c.args.seat)) c.self.view_is

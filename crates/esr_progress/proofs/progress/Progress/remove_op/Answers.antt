@@ -16,10 +16,10 @@ deletes : (c : goal.After-retain-2) → c.retain-2.new.self.items ≡ filter (λ
 deletes c = filter_same _ _ _ (λ x b f' k. search rules) _ _ c.retain-2.ensures.filtered
 
 pub invariant_of-self : goal.invariant_of-self
-invariant_of-self c = rw (ops c, deletes c) (left_keeps c.self.inside.ops.items c.self.inside.deletes.items c.args.number c.self.inside.next_op c.self.invariant)
+invariant_of-self c = rw (ops c, deletes c) (left_keeps c.self.inside.ops.items c.self.inside.deletes.items c.args.number c.self.inside.next_op c.self.inside.restores.items c.self.invariant)
 
 pub returns : goal.returns
 returns c =
-    (λ j. plan_with (ops c j) (deletes c j) c.self.inside.completed.items c.self.inside.seats.items c.self.inside.next_op)
-    ∙ left_is c.self.inside.ops.items c.self.inside.deletes.items c.args.number c.self.inside.completed.items c.self.inside.seats.items c.self.inside.next_op
+    (λ j. plan_with (ops c j) (deletes c j) c.self.inside.completed.items c.self.inside.seats.items c.self.inside.next_op c.self.inside.restores.items)
+    ∙ left_is c.self.inside.ops.items c.self.inside.deletes.items c.args.number c.self.inside.completed.items c.self.inside.seats.items c.self.inside.next_op c.self.inside.restores.items
     ∙ ap (λ (p : Plan). without_op p c.args.number) c.self.view_is

@@ -6,4 +6,7 @@ use Rattle.esr_repo.proofs.repo.Repo.refuse_command.Goals as goal
 
 pub refuse-requires-clause-may : goal.refuse-requires-clause-may
 refuse-requires-clause-may g c =
-    subst (λ (step : Step). MayRefuse g.K.Told.start c.args.self.now 0 step (refusal_of c.in-Some.refusal)) (sym c.requires.why.1) (c.in-Some.ensures g.K.Told.start c.args.self.now c.requires.why.0 c.requires.why.2)
+    subst (λ (step : Step). MayRefuse g.K.Told.start c.args.self.now 0 step (refusal_of c.in-Some.refusal)) (sym c.requires.why.2) (c.in-Some.ensures g.K.Told.start c.args.self.now c.requires.why.0 c.requires.why.1 c.requires.why.3)
+
+pub command_refusal-requires : goal.command_refusal-requires
+command_refusal-requires g c = (g.K.Told.start, c.args.self.now, c.requires.why.0, c.requires.why.3)

@@ -1,0 +1,168 @@
+-- What a step that reads leaves: all that the law of snapshots, deletes and swaps speaks of.
+use Rattle.std.proofs.Common.{◌≡◌, ℕ, zero, suc, ◌<◌, ◌≤◌, List, Option, Some, None, refl, sym, subst, arith, nat_cmp}
+use Rattle.std.specs.FinMap.{FinMap}
+use Rattle.std.specs.FinMap as fin
+use Rattle.esr_model.specs.Names.{BlobName}
+use Rattle.esr_model.specs.Values.{Bytes, IndexRef, Formats}
+use Rattle.esr_model.specs.Shelf.{Shelved}
+use Rattle.esr_model.specs.Image.{Image}
+use Rattle.esr_core.specs.World.{World, ReadState, Restored, NotRestored, RestoreShard, Restoring, Reader, Caller}
+use Rattle.esr_core.specs.Restores.{restore_shard, restore_opened, shard_handed, more_read, shard_ended}
+use Rattle.esr_core.specs.Entry.{Read, ReadBlob, RestoredShard, CheckedAll, DrawTest, BeginTest, CommitTest, RemoveTests, VerifiedAll, ReadFails, Reply, WasFetched}
+use Rattle.esr_core.specs.After.{told_blob, taken_restore_shard, taken_restore, read_told, shard_over, read_over, read_step, read_by}
+use Rattle.esr_core.specs.Turns.{ReadTurn, OpensRestore, HandsShard, ReadsMore, EndsShard, Calls}
+use Rattle.esr_core.specs.Sound.{Sound}
+use Rattle.esr_core.specs.Queue.{QueueIn, Lawful}
+use Rattle.esr_core.specs.Ids.{InTerm}
+use Rattle.esr_core.specs.Tracked.{Tracked}
+
+-- restores, their tickets and what who 0 has done may change, and more numbers of ops and tickets be given
+pub record Aside (w new : World) : Type 0 where
+  pub restores : FinMap nat_cmp Restoring
+  pub readers : FinMap nat_cmp Reader
+  pub caller : Caller
+  pub next_op : ℕ
+  pub next_ticket : ℕ
+  pub ops : w.next_op ≤ next_op
+  pub tickets : w.next_ticket ≤ next_ticket
+  pub new_is : new ≡ record w { restores = restores; readers = readers; caller = caller; next_op = next_op; next_ticket = next_ticket }
+
+pub aside_same : (w : World) → Aside w w
+aside_same w = record { restores = w.restores; readers = w.readers; caller = w.caller; next_op = w.next_op; next_ticket = w.next_ticket; ops = omega arith; tickets = omega arith; new_is = refl }
+
+pub aside_opened : (w new : World) (uuid : ℕ) (place : Bytes) (indices : List IndexRef) → new ≡ restore_opened w uuid place indices → Aside w new
+aside_opened w new uuid place indices e =
+    record { restores = (restore_opened w uuid place indices).restores; readers = w.readers; caller = w.caller; next_op = suc w.next_op; next_ticket = w.next_ticket; ops = omega arith; tickets = omega arith; new_is = e }
+
+pub aside_handed : (w new : World) (o : ℕ) (r : Restoring) (s : RestoreShard) → new ≡ shard_handed w o r s → Aside w new
+aside_handed w new o r s e =
+    record { restores = (shard_handed w o r s).restores; readers = (shard_handed w o r s).readers; caller = w.caller; next_op = w.next_op; next_ticket = suc w.next_ticket; ops = omega arith; tickets = omega arith; new_is = e }
+
+pub aside_read : (w new : World) (k : ℕ) (q : Reader) (name : BlobName) (bytes : Bytes) → new ≡ more_read w k q name bytes → Aside w new
+aside_read w new k q name bytes e =
+    record { restores = w.restores; readers = (more_read w k q name bytes).readers; caller = w.caller; next_op = w.next_op; next_ticket = w.next_ticket; ops = omega arith; tickets = omega arith; new_is = e }
+
+pub aside_ended : (w new : World) (k : ℕ) (q : Reader) (r : Restoring) (state : ReadState) → new ≡ shard_ended w k q r state → Aside w new
+aside_ended w new k q r state e =
+    record { restores = (shard_ended w k q r state).restores; readers = (shard_ended w k q r state).readers; caller = w.caller; next_op = w.next_op; next_ticket = w.next_ticket; ops = omega arith; tickets = omega arith; new_is = e }
+
+pub aside_called : (w new : World) (caller : Caller) → new ≡ record w { caller = caller } → Aside w new
+aside_called w new caller e =
+    record { restores = w.restores; readers = w.readers; caller = caller; next_op = w.next_op; next_ticket = w.next_ticket; ops = omega arith; tickets = omega arith; new_is = e }
+
+pub aside_of : (f : Formats) (w new : World) → ReadTurn f w new → Aside w new
+aside_of f w new (OpensRestore m uuid place indices h) = aside_opened w m uuid place indices h.new_is
+aside_of f w new (HandsShard m o r s h) = aside_handed w m o r s h.new_is
+aside_of f w new (ReadsMore m k name bytes h) = aside_read w m k h.q name bytes h.new_is
+aside_of f w new (EndsShard m k state h) = aside_ended w m k h.q h.r state h.new_is
+aside_of f w new (Calls m caller e) = aside_called w m caller e
+
+-- ---- the steps of a history
+
+aside_taken_shard : (w : World) (o : ℕ) (r : Restoring) (s : Option RestoreShard) → Aside w (taken_restore_shard w o r s)
+aside_taken_shard w o r None = aside_same w
+aside_taken_shard w o r (Some s) = aside_handed w _ o r s refl
+
+pub aside_taken : (w : World) (o index number : ℕ) (r : Option Restoring) → Aside w (taken_restore w o index number r)
+aside_taken w o index number None = aside_same w
+aside_taken w o index number (Some r) = aside_taken_shard w o r (restore_shard r.shards index number)
+
+aside_told : (w : World) (k : ℕ) (name : BlobName) (bytes : Option Bytes) (q : Option Reader) → Aside w (read_told w k name bytes q)
+aside_told w k name bytes None = aside_same w
+aside_told w k name None (Some q) = aside_same w
+aside_told w k name (Some bytes) (Some q) = aside_read w _ k q name bytes refl
+
+aside_shard : (w : World) (k : ℕ) (state : ReadState) (q : Reader) (r : Option Restoring) → Aside w (shard_over w k state q r)
+aside_shard w k state q None = aside_same w
+aside_shard w k state q (Some r) = aside_ended w _ k q r state refl
+
+aside_over : (w : World) (k : ℕ) (state : ReadState) (q : Option Reader) → Aside w (read_over w k state q)
+aside_over w k state None = aside_same w
+aside_over w k state (Some q) = aside_shard w k state q (fin.get w.restores q.op)
+
+pub aside_step : (f : Formats) (w : World) (k : ℕ) (read : Read) (reply : Reply) (image : Option Image) → Aside w (read_step f w k read reply image)
+aside_step f w k (ReadBlob name) WasFetched image = aside_told w k name (told_blob f image name) (fin.get w.readers k)
+aside_step f w k (ReadBlob name) reply image = aside_same w
+aside_step f w k (RestoredShard files bytes) reply image = aside_over w k (Restored files bytes) (fin.get w.readers k)
+aside_step f w k (CheckedAll snapshots blobs) reply image = aside_same w
+aside_step f w k (ReadFails why) reply image = aside_over w k (NotRestored why) (fin.get w.readers k)
+aside_step f w k read reply image = aside_same w
+
+-- a step that isn't one of a verification
+abbrev pub IsNoTest : Read → Type 0
+IsNoTest (ReadBlob name) = Unit {0}
+IsNoTest (RestoredShard files bytes) = Unit {0}
+IsNoTest (CheckedAll snapshots blobs) = Unit {0}
+IsNoTest (ReadFails why) = Unit {0}
+IsNoTest read = ⊥
+
+aside_zero : (f : Formats) (w : World) (read : Read) (reply : Reply) (image : Option Image) → IsNoTest read → Aside w (read_by f w 0 read reply image)
+aside_zero f w (ReadBlob name) reply image h = aside_same w
+aside_zero f w (RestoredShard files bytes) reply image h = aside_same w
+aside_zero f w (CheckedAll snapshots blobs) reply image h = aside_same w
+aside_zero f w (ReadFails why) reply image h = aside_same w
+aside_zero f w DrawTest reply image h = absurd h
+aside_zero f w (BeginTest name) reply image h = absurd h
+aside_zero f w (CommitTest name) reply image h = absurd h
+aside_zero f w (RemoveTests names) reply image h = absurd h
+aside_zero f w VerifiedAll reply image h = absurd h
+
+pub aside_by : (f : Formats) (w : World) (k : ℕ) (read : Read) (reply : Reply) (image : Option Image) → IsNoTest read → Aside w (read_by f w k read reply image)
+aside_by f w zero read reply image h = aside_zero f w read reply image h
+aside_by f w (suc k) read reply image h = aside_step f w (suc k) read reply image
+
+-- ---- what of the law reads the numbers
+
+sound_aside : (f : Formats) (w new : World) (shelf : List Shelved) → Aside w new → Sound f w shelf → Sound f new shelf
+sound_aside f w new shelf a l = subst (λ x. Sound f x shelf) (sym a.new_is) (record {
+  rooted = record { kept = l.rooted.kept; doomed_begun = l.rooted.doomed_begun; tickets = l.rooted.tickets; single = l.rooted.single };
+  carried = l.carried;
+  fresh = λ k t e. let b : k < w.next_ticket = l.fresh k t e in let c : w.next_ticket ≤ a.next_ticket = a.tickets in omega (arith, b, c);
+})
+
+queue_aside : (w new : World) → Aside w new → QueueIn w → QueueIn new
+queue_aside w new a q = subst QueueIn (sym a.new_is) (record {
+  numbers = λ o op e. let b : o < w.next_op = q.numbers o op e in let c : w.next_op ≤ a.next_op = a.ops in omega (arith, b, c);
+  delete_numbers = λ d x e. let b : d < w.next_op = q.delete_numbers d x e in let c : w.next_op ≤ a.next_op = a.ops in omega (arith, b, c);
+  apart = q.apart;
+  behind = q.behind;
+  queued = q.queued;
+  given_up = q.given_up;
+  completes = q.completes;
+  completed_numbers = λ o m. let b : o < w.next_op = q.completed_numbers o m in let c : w.next_op ≤ a.next_op = a.ops in omega (arith, b, c);
+  completed_done = q.completed_done;
+  lone = q.lone;
+  sources = q.sources;
+  sole = q.sole;
+  deleting = q.deleting;
+  drops = q.drops;
+  one_swap = q.one_swap;
+})
+
+pub lawful_aside : (f : Formats) (w new : World) (shelf : List Shelved) → Aside w new → Lawful f w shelf → Lawful f new shelf
+lawful_aside f w new shelf a l = record { sound = sound_aside f w new shelf a l.sound; queue = queue_aside w new a l.queue }
+
+pub term_aside : (w new : World) → Aside w new → InTerm w → InTerm new
+term_aside w new a h = subst InTerm (sym a.new_is) (record { from = h.from; below = h.below })
+
+-- a fact that reads none of what changes
+pub kept_aside : (P : World → Type 0) (w new : World) (a : Aside w new) → P (record w { restores = a.restores; readers = a.readers; caller = a.caller; next_op = a.next_op; next_ticket = a.next_ticket }) → P new
+kept_aside P w new a h = subst P (sym a.new_is) h
+
+-- the order of a world
+pub tracked_aside_of : (w new : World) → Aside w new → Tracked w → Tracked new
+tracked_aside_of w new a l = subst Tracked (sym a.new_is) (record {
+  numbers = λ o op e. let b : o < w.next_op = l.numbers o op e in let c : w.next_op ≤ a.next_op = a.ops in omega (arith, b, c);
+  delete_numbers = λ d x e. let b : d < w.next_op = l.delete_numbers d x e in let c : w.next_op ≤ a.next_op = a.ops in omega (arith, b, c);
+  apart = l.apart;
+  tickets = λ k t e. let h = l.tickets k t e in let b : k < w.next_ticket = h.0 in let c : w.next_ticket ≤ a.next_ticket = a.tickets in (omega (arith, b, c), h.1, h.2);
+  begun = λ k t e. let b : t.op < w.next_op = l.begun k t e in let c : w.next_op ≤ a.next_op = a.ops in omega (arith, b, c);
+  first_ticket = let b : 1 ≤ w.next_ticket = l.first_ticket in let c : w.next_ticket ≤ a.next_ticket = a.tickets in omega (arith, b, c);
+  shards = l.shards;
+  held = l.held;
+  finals = l.finals;
+  drops = l.drops;
+  one_swap = l.one_swap;
+  named = l.named;
+  in_term = record { from = l.in_term.from; below = l.in_term.below };
+})

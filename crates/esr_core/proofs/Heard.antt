@@ -1,0 +1,38 @@
+-- What a moment makes of what who 0 has done.
+use Rattle.std.proofs.Common.{◌≡◌, ℕ, zero, suc, Bool, true, false, Option, refl, ap, ◌∙◌}
+use Rattle.std.specs.Prelude.{if◌then◌else◌}
+use Rattle.esr_model.specs.Values.{Formats}
+use Rattle.esr_model.specs.Image.{Image}
+use Rattle.esr_core.specs.World.{World, Caller, no_caller}
+use Rattle.esr_core.specs.Entry.{Step, AskStep, LookStep, ReadStep, Read, ReadBlob, RestoredShard, CheckedAll, DrawTest, BeginTest, CommitTest, RemoveTests, VerifiedAll, ReadFails, Refusal, Refused, Moment}
+use Rattle.esr_core.specs.After.{is_heard, caller_after, caller_by, stepped, heard, after}
+use Rattle.esr_core.proofs.Besides.{Aside, aside_called}
+
+read_unheard : (f : Formats) (c : Caller) (who : ℕ) (read : Read) (refusal : Refusal) (image : Option Image) → caller_by f c who read (Refused refusal) image ≡ c
+read_unheard f c zero (ReadBlob name) refusal image = refl
+read_unheard f c zero (RestoredShard files bytes) refusal image = refl
+read_unheard f c zero (CheckedAll snapshots blobs) refusal image = refl
+read_unheard f c zero (ReadFails why) refusal image = refl
+read_unheard f c zero DrawTest refusal image = refl
+read_unheard f c zero (BeginTest name) refusal image = refl
+read_unheard f c zero (CommitTest name) refusal image = refl
+read_unheard f c zero (RemoveTests names) refusal image = refl
+read_unheard f c zero VerifiedAll refusal image = refl
+read_unheard f c (suc k) read refusal image = refl
+
+-- a refusal that isn't heard leaves it
+unheard : (f : Formats) (c : Caller) (who : ℕ) (step : Step) (refusal : Refusal) (image : Option Image) → is_heard (Refused refusal) ≡ false → caller_after f c who step (Refused refusal) image ≡ c
+unheard f c who (AskStep command) refusal image e = ap (λ (b : Bool). if b then no_caller else c) e
+unheard f c who LookStep refusal image e = ap (λ (b : Bool). if b then record no_caller { looked = true } else c) e
+unheard f c who (ReadStep read) refusal image e = read_unheard f c who read refusal image
+unheard f c who step refusal image e = refl
+
+pub unheard_stays : (f : Formats) (w : World) (m : Moment) (refusal : Refusal) → m.entry.reply ≡ Refused refusal → is_heard (Refused refusal) ≡ false → stepped f w m ≡ w → after f w m ≡ w
+unheard_stays f w m refusal is quiet same =
+    (λ j. record (same j) { caller = caller_after f (same j).caller m.entry.who m.entry.step m.entry.reply m.image })
+    ∙ (λ j. record w { caller = caller_after f w.caller m.entry.who m.entry.step (is j) m.image })
+    ∙ (λ j. record w { caller = unheard f w.caller m.entry.who m.entry.step refusal m.image quiet j })
+
+-- it changes nothing else
+pub aside_heard : (f : Formats) (v : World) (m : Moment) → Aside v (heard f v m)
+aside_heard f v m = aside_called v (heard f v m) (caller_after f v.caller m.entry.who m.entry.step m.entry.reply m.image) refl

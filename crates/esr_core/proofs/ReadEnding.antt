@@ -1,0 +1,200 @@
+-- In a lawful world a restore's ticket can read its whole shard: step by step, to its end.
+use Rattle.std.proofs.Common.{◌≡◌, ◌⊎◌, ℕ, zero, suc, ◌≤◌, List, [], ◌∷◌, ◌++◌, false, Some, map, refl, sym, ap, ◌∙◌, subst, inl, inr, arith}
+use Rattle.std.specs.Prelude.{length, sum_by, min, ◌-◌, ◌^◌}
+use Rattle.std.specs.FinMap as fin
+use Rattle.esr_model.specs.Names.{BlobName, ShardSnap}
+use Rattle.esr_model.specs.Values.{Bytes, Has, FileEntry, ShardSnapshot, ReadsBack, Formats}
+use Rattle.esr_model.specs.Shelf.{Shelved}
+use Rattle.esr_model.specs.Parts.{part_names}
+use Rattle.esr_model.specs.Image.{Image, AllPairs, At, Reads, FileStands}
+use Rattle.esr_core.specs.World.{World, Reader, HeldIn, record_of, image_of}
+use Rattle.esr_core.specs.Restores.{IsReading, WasRead, IsPiece, read_more, more_read}
+use Rattle.esr_core.specs.Entry.{ReadBlob, RestoredShard, ReadStep, Read, Reply, WasFetched, HasEnded, Moment}
+use Rattle.esr_core.specs.After.{read_told, after}
+use Rattle.esr_core.specs.Ids.{Law}
+use Rattle.esr_core.specs.Allowed as allowed
+use Rattle.esr_core.specs.Allowed.{MayRead, ByReader, RestoredBy, ReadAllows, ReadFound, RestoringShard, Allowed}
+use Rattle.esr_core.specs.History.{IsLegal}
+use Rattle.esr_core.specs.ReadLaw.{ReadLaw}
+use Rattle.esr_core.specs.ReadEnds.{CanEnd}
+use Rattle.esr_core.proofs.Reading.{some_same, Has-left, Has-right, Has-either}
+use Rattle.esr_core.proofs.Frames.{AllPairs-map, file_kept}
+use Rattle.esr_core.proofs.Queues.{same_in}
+use Rattle.esr_core.proofs.Recording.{record_stays}
+use Rattle.esr_core.proofs.Pieces.{in_parts}
+use Rattle.esr_core.proofs.ReadLaws.{Serves, serves_now, serves_snap}
+
+-- a part of a file of the shard is a piece of it
+part_piece : (index number : ℕ) (e : FileEntry) (name : BlobName) → Has (part_names index number e) name → IsPiece index number name
+part_piece index number e name part = elim (in_parts index number e name part) [
+  | inl h ↦ subst (IsPiece index number) (sym h) (refl, refl)
+  | inr h ↦ subst (IsPiece index number) (sym h.1) (refl, refl)
+]
+
+-- ---- what is to be read
+
+zipped : List BlobName → List Bytes → List (BlobName × Bytes)
+zipped [] parts = []
+zipped (n ∷ names) [] = []
+zipped (n ∷ names) (b ∷ parts) = (n, b) ∷ zipped names parts
+
+zipped_is : (has : BlobName → Bytes → Type 0) (names : List BlobName) (parts : List Bytes) → AllPairs has names parts → (n : BlobName) (b : Bytes) → Has (zipped names parts) (n, b) → has n b × Has names n
+unfolding zipped
+zipped_is has [] parts h n b m = absurd m
+zipped_is has (x ∷ names) [] h n b m = absurd m
+zipped_is has (x ∷ names) (y ∷ parts) h n b (inl e) = (subst (λ (p : BlobName × Bytes). has p.0 p.1) e h.0, inl (ap (λ (p : BlobName × Bytes). p.0) e))
+zipped_is has (x ∷ names) (y ∷ parts) h n b (inr m) = let r = zipped_is has names parts h.1 n b m in (r.0, inr r.1)
+
+zipped_all : (has : BlobName → Bytes → Type 0) (names : List BlobName) (parts : List Bytes) → AllPairs has names parts → AllPairs (λ (n : BlobName) (b : Bytes). Has (zipped names parts) (n, b)) names parts
+unfolding zipped
+zipped_all has [] [] h = tt
+zipped_all has [] (y ∷ parts) h = h
+zipped_all has (x ∷ names) [] h = h
+zipped_all has (x ∷ names) (y ∷ parts) h = (inl refl, AllPairs-map (λ n b m. inr m) names parts (zipped_all has names parts h.1))
+
+module _ (f : Formats) (has : BlobName → Bytes → Type 0) (index number : ℕ) where
+  -- the parts of these files
+  needed : (es : List FileEntry) (files : List (Bytes × Bytes)) → AllPairs (λ (e : FileEntry) (file : Bytes × Bytes). (e.physical ≡ file.0) × FileStands f has index number e file.1) es files → List (BlobName × Bytes)
+  needed [] files h = []
+  needed (e ∷ es) [] h = []
+  needed (e ∷ es) (y ∷ files) h = zipped (part_names index number e) h.0.1.parts ++ needed es files h.1
+
+  needed_is : (es : List FileEntry) (files : List (Bytes × Bytes)) (h : AllPairs (λ (e : FileEntry) (file : Bytes × Bytes). (e.physical ≡ file.0) × FileStands f has index number e file.1) es files) (n : BlobName) (b : Bytes) → Has (needed es files h) (n, b)
+      → has n b × ((e : FileEntry) × Has es e × Has (part_names index number e) n)
+  unfolding needed
+  needed_is [] files h n b m = absurd m
+  needed_is (e ∷ es) [] h n b m = absurd m
+  needed_is (e ∷ es) (y ∷ files) h n b m = elim (Has-either (zipped (part_names index number e) h.0.1.parts) (needed es files h.1) (n, b) m) [
+    | inl z ↦ let r = zipped_is has (part_names index number e) h.0.1.parts h.0.1.there n b z in (r.0, (e, inl refl, r.1))
+    | inr z ↦ let (there, (x, xm, part)) = needed_is es files h.1 n b z in (there, (x, inr xm, part))
+  ]
+
+  needed_all : (es : List FileEntry) (files : List (Bytes × Bytes)) (h : AllPairs (λ (e : FileEntry) (file : Bytes × Bytes). (e.physical ≡ file.0) × FileStands f has index number e file.1) es files)
+      → AllPairs (FileStands f (λ n b. Has (needed es files h) (n, b)) index number) es (map (λ (file : Bytes × Bytes). file.1) files)
+  unfolding needed
+  needed_all [] [] h = tt
+  needed_all [] (y ∷ files) h = h
+  needed_all (e ∷ es) [] h = h
+  needed_all (e ∷ es) (y ∷ files) h =
+      let mine = zipped (part_names index number e) h.0.1.parts in
+      let rest = needed es files h.1 in (
+        record {
+          parts = h.0.1.parts;
+          there = AllPairs-map (λ n b m. Has-left mine rest (n, b) m) (part_names index number e) h.0.1.parts (zipped_all has (part_names index number e) h.0.1.parts h.0.1.there);
+          full = h.0.1.full;
+          joined = h.0.1.joined;
+          len = h.0.1.len;
+          digest = h.0.1.digest;
+        },
+        AllPairs-map (λ x b s. file_kept f (λ n c. Has rest (n, c)) (λ n c. Has (mine ++ rest) (n, c)) (λ n c m. Has-right mine rest (n, c) m) index number x b s) es (map (λ (file : Bytes × Bytes). file.1) files) (needed_all es files h.1),
+      )
+
+-- ---- the steps
+
+abbrev shown : Formats → World → ℕ → Read → Reply → Moment
+shown f w k read reply = record { entry = record { who = k; step = ReadStep read; reply = reply }; image = Some (image_of f w) }
+
+-- a step that reads leaves the record, and so its text
+legal_one : (f : Formats) (size : ℕ) (w : World) (k : ℕ) (read : Read) (reply : Reply) → w.deposed ≡ false → ReadsBack f.cluster (record_of w) → ReadAllows f w k read reply (Some (image_of f w)) → Allowed f size w (shown f w k read reply)
+legal_one f size w k read reply alive back allows =
+    let m : Moment = shown f w k read reply in
+    record {
+      answered = inl (alive, allowed.Reading k read reply (Some (image_of f w)) allows refl);
+      record_back = subst (ReadsBack f.cluster) (sym (record_stays f w m refl)) back;
+      text = λ image same. ap (λ (x : Image). x.text) (sym (some_same _ _ same)) ∙ ap (λ r. Some (f.cluster.text r)) (sym (record_stays f w m refl));
+    }
+
+-- what the ticket has before each step: its reader has read the snapshot of its shard, and of what is needed some is still to be read
+record Going (f : Formats) (w : World) (k : ℕ) (q : Reader) (snap : ShardSnapshot) (todo need : List (BlobName × Bytes)) (contents : List Bytes) : Type 0 where
+  alive : w.deposed ≡ false
+  back : ReadsBack f.cluster (record_of w)
+  reading : IsReading w k q
+  snap_read : Reads (WasRead q.read) (ShardSnap q.index q.number q.uuid) f.shard_snap snap
+  there : (n : BlobName) (b : Bytes) → Has todo (n, b) → At f w.blobs n b
+  listed : (n : BlobName) (b : Bytes) → Has todo (n, b) → (e : FileEntry) × Has snap.files e × Has (part_names q.index q.number e) n
+  covered : (n : BlobName) (b : Bytes) → Has need (n, b) → Has todo (n, b) ⊎ Has q.read (n, b)
+  stand : AllPairs (FileStands f (λ n b. Has need (n, b)) q.index q.number) snap.files contents
+
+fetched_is : (f : Formats) (w : World) (j : ℕ) (q : Reader) (name : BlobName) (bytes : Bytes) → fin.get w.readers (suc j) ≡ Some q → fin.get w.blobs (f.names.text name) ≡ Some bytes → after f w (shown f w (suc j) (ReadBlob name) WasFetched) ≡ more_read w (suc j) q name bytes
+fetched_is f w j q name bytes there at = λ i. record (read_told w (suc j) name (at i) (there i)) { blobs = w.blobs }
+
+-- one more is fetched
+fetch : (f : Formats) (size : ℕ) (w : World) (j : ℕ) (q : Reader) (name : BlobName) (bytes : Bytes) → w.deposed ≡ false → ReadsBack f.cluster (record_of w) → IsReading w (suc j) q → At f w.blobs name bytes → MayRead f q name (Some (image_of f w))
+    → CanEnd f size (more_read w (suc j) q name bytes) (suc j) → CanEnd f size w (suc j)
+fetch f size w j q name bytes alive back reading at may rest =
+    let m : Moment = shown f w (suc j) (ReadBlob name) WasFetched in
+    record {
+      front = m ∷ rest.front;
+      last = rest.last;
+      legal = (
+        legal_one f size w (suc j) (ReadBlob name) WasFetched alive back (ReadFound (suc j) name (Some (image_of f w)) at.1 (ByReader (suc j) q reading may) (bytes, at.0)),
+        subst (λ v. IsLegal f size v (rest.front ++ rest.last ∷ [])) (sym (fetched_is f w j q name bytes reading.there at.0)) rest.legal,
+      );
+      told = ((image_of f w, refl), rest.told);
+      files = rest.files;
+      bytes = rest.bytes;
+      ends = rest.ends;
+    }
+
+finish : (f : Formats) (size : ℕ) (j : ℕ) (snap : ShardSnapshot) (todo need : List (BlobName × Bytes)) (contents : List Bytes) (w : World) (q : Reader) → Going f w (suc j) q snap todo need contents → CanEnd f size w (suc j)
+finish f size j snap [] need contents w q g =
+    record {
+      front = [];
+      last = shown f w (suc j) (RestoredShard (length snap.files) (min (sum_by (λ (b : Bytes). length b) contents) (2 ^ 64 - 1))) HasEnded;
+      legal = (
+        legal_one f size w (suc j) _ HasEnded g.alive g.back (RestoringShard (suc j) (length snap.files) (min (sum_by (λ (b : Bytes). length b) contents) (2 ^ 64 - 1)) (Some (image_of f w)) q g.reading (record {
+          snap = snap;
+          snap_read = g.snap_read;
+          contents = contents;
+          stand = AllPairs-map (λ e b s. file_kept f (λ n c. Has need (n, c)) (WasRead q.read) (λ n c m. elim (g.covered n c m) [ inl none ↦ absurd none | inr has ↦ has ]) q.index q.number e b s) snap.files contents g.stand;
+          count = refl;
+          sum = refl;
+        })),
+        tt,
+      );
+      told = ((image_of f w, refl), tt);
+      files = length snap.files;
+      bytes = min (sum_by (λ (b : Bytes). length b) contents) (2 ^ 64 - 1);
+      ends = refl;
+    }
+finish f size j snap ((name, bytes) ∷ todo) need contents w q g =
+    let (e, em, part) = g.listed name bytes (inl refl) in
+    fetch f size w j q name bytes g.alive g.back g.reading (g.there name bytes (inl refl))
+    (inr (part_piece q.index q.number e name part, record { snap = snap; snap_read = g.snap_read; e = e; listed = em; part = part }))
+    (finish f size j snap todo need contents (more_read w (suc j) q name bytes) (read_more q name bytes) (record {
+      alive = g.alive;
+      back = g.back;
+      reading = record { there = same_in w.readers (suc j) (read_more q name bytes); out = g.reading.out };
+      snap_read = record { bytes = g.snap_read.bytes; there = inr g.snap_read.there; reads = g.snap_read.reads };
+      there = λ n b m. g.there n b (inr m);
+      listed = λ n b m. g.listed n b (inr m);
+      covered = λ n b m. elim (g.covered n b m) [ inl (inl same) ↦ inr (inl same) | inl (inr has) ↦ inl has | inr has ↦ inr (inr has) ];
+      stand = g.stand;
+    }))
+
+-- the snapshot of the shard first, then each part
+begin : (f : Formats) (size : ℕ) (w : World) (shelf : List Shelved) (j : ℕ) (q : Reader) → Law f w shelf → ReadLaw f w → w.deposed ≡ false → ReadsBack f.cluster (record_of w) → IsReading w (suc j) q → CanEnd f size w (suc j)
+begin f size w shelf j q l r alive back reading =
+    let s : Serves f w shelf q = serves_now f w shelf l r (suc j) q reading.there reading.out in
+    let now = serves_snap f w shelf q s in
+    let name : BlobName = ShardSnap q.index q.number q.uuid in
+    let snap : ShardSnapshot = s.found.stands.snap in
+    let files : AllPairs (λ (e : FileEntry) (file : Bytes × Bytes). (e.physical ≡ file.0) × FileStands f (HeldIn f w) q.index q.number e file.1) snap.files s.found.shard.files =
+    subst (λ i. AllPairs (λ (e : FileEntry) (file : Bytes × Bytes). (e.physical ≡ file.0) × FileStands f (HeldIn f w) i q.number e file.1) snap.files s.found.shard.files) s.index_is
+    (subst (λ n. AllPairs (λ (e : FileEntry) (file : Bytes × Bytes). (e.physical ≡ file.0) × FileStands f (HeldIn f w) s.place.0.id n e file.1) snap.files s.found.shard.files) s.number_is s.found.stands.files) in
+    let need : List (BlobName × Bytes) = needed f (HeldIn f w) q.index q.number snap.files s.found.shard.files files in
+    fetch f size w j q name now.bytes alive back reading now.there.0 (inl refl)
+    (finish f size j snap need need (map (λ (file : Bytes × Bytes). file.1) s.found.shard.files) (more_read w (suc j) q name now.bytes) (read_more q name now.bytes) (record {
+      alive = alive;
+      back = back;
+      reading = record { there = same_in w.readers (suc j) (read_more q name now.bytes); out = reading.out };
+      snap_read = record { bytes = now.bytes; there = inl refl; reads = now.reads };
+      there = λ n b m. (needed_is f (HeldIn f w) q.index q.number snap.files s.found.shard.files files n b m).0.0;
+      listed = λ n b m. (needed_is f (HeldIn f w) q.index q.number snap.files s.found.shard.files files n b m).1;
+      covered = λ n b m. inl m;
+      stand = needed_all f (HeldIn f w) q.index q.number snap.files s.found.shard.files files;
+    }))
+
+pub can_end : (f : Formats) (size : ℕ) (w : World) (shelf : List Shelved) (k : ℕ) (q : Reader) → Law f w shelf → ReadLaw f w → w.deposed ≡ false → ReadsBack f.cluster (record_of w) → IsReading w k q → CanEnd f size w k
+can_end f size w shelf zero q l r alive back reading = absurd (let b : 1 ≤ 0 = (r.tracked.tickets 0 q reading.there).0 in omega (arith, b))
+can_end f size w shelf (suc j) q l r alive back reading = begin f size w shelf j q l r alive back reading

@@ -1,0 +1,106 @@
+-- What the steps of restores make of a plan.
+use Rattle.std.proofs.Common.{◌≡◌, ℕ, Bool, true, false, cond, ◌||◌, eqb, List, [], ◌∷◌, Option, Some, None, option_map, map, refl, sym, ap, ◌∙◌, subst, true≢false}
+use Rattle.std.specs.Prelude.{◌&&◌, ◌==◌}
+use Rattle.std.specs.List.{list_any}
+use Rattle.std.specs.FinMap as fin
+use Rattle.esr_model.specs.Values.{Bytes}
+use Rattle.esr_core.specs.World.{World, ShardState, Pending, Out, GivenUp, ShardWork, ReadState, Unread, BeingRead, Restored, NotRestored, RestoreShard, Restoring, Reader, marked, marked_by}
+use Rattle.esr_core.specs.Restores.{waits, any_waits, put_restore, handed, ended, ended_by, shard_ended}
+use Rattle.esr_core.specs.Steps.{given}
+use Rattle.esr_core.specs.After.{shard_over, read_over}
+use Rattle.esr_progress.specs.Plan.{Plan, ReaderSeat, RestorePlan, read_state, read_work, restore_plan, reader_seat, IsPlanOf}
+use Rattle.esr_progress.specs.Shards as shards
+use Rattle.esr_progress.specs.Restores.{is_waiting}
+use Rattle.esr_progress.specs.Changes.{reader_ended, restore_over, put_plan, read_by, read_in}
+use Rattle.esr_progress.proofs.Plans.{readers_put, restores_put, restores_put_count, restores_left, restores_left_count}
+
+module _ (place : Bytes) where
+  handed_one : (k : ℕ) (s : RestoreShard) (b : Bool)
+      → ◌≡◌ {A = ShardWork} (read_work place (cond b (record s { state = BeingRead k }) s)) (cond b (record (read_work place s) { state = Out k }) (read_work place s))
+  handed_one k s true = refl
+  handed_one k s false = refl
+
+  pub works-handed : (k index number : ℕ) (xs : List RestoreShard) → map (read_work place) (map (handed k index number) xs) ≡ map (given k index number) (map (read_work place) xs)
+  works-handed k index number [] = refl
+  works-handed k index number (s ∷ xs) = λ j. handed_one k s ((s.ref.id == index) && (s.number == number)) j ∷ works-handed k index number xs j
+
+  over_state : (state : ReadState) → waits state ≡ false → read_state state ≡ GivenUp
+  over_state Unread e = absurd (true≢false e)
+  over_state (BeingRead k) e = absurd (true≢false e)
+  over_state (Restored files bytes) e = refl
+  over_state (NotRestored why) e = refl
+
+  module _ (k : ℕ) (new : ReadState) (over : waits new ≡ false) where
+    ended_one : (s : RestoreShard) (state : ReadState)
+        → ◌≡◌ {A = ShardWork} (read_work place (ended_by k new (record s { state = state }) state)) (marked_by k GivenUp (record (read_work place s) { state = read_state state }) (read_state state))
+    ended_one s Unread = refl
+    ended_one s (Restored files bytes) = refl
+    ended_one s (NotRestored why) = refl
+    ended_one s (BeingRead j) = go (eqb j k)
+      where
+        go : (b : Bool) → ◌≡◌ {A = ShardWork} (read_work place (cond b (record s { state = new }) (record s { state = BeingRead j }))) (cond b (record (read_work place s) { state = GivenUp }) (record (read_work place s) { state = Out j }))
+        go true = λ i. record (read_work place s) { state = over_state new over i }
+        go false = refl
+
+    pub works-ended : (xs : List RestoreShard) → map (read_work place) (map (ended k new) xs) ≡ map (marked k GivenUp) (map (read_work place) xs)
+    works-ended [] = refl
+    works-ended (s ∷ xs) = λ j. ended_one s s.state j ∷ works-ended xs j
+
+  waits_one : (state : ReadState) → waits state ≡ shards.waits (read_state state)
+  waits_one Unread = refl
+  waits_one (BeingRead k) = refl
+  waits_one (Restored files bytes) = refl
+  waits_one (NotRestored why) = refl
+
+  pub any_waits-works : (xs : List RestoreShard) → any_waits xs ≡ list_any is_waiting (map (read_work place) xs)
+  any_waits-works [] = refl
+  any_waits-works (s ∷ xs) = λ j. waits_one s.state j || any_waits-works xs j
+
+module _ (w : World) (p : Plan) (is : IsPlanOf w p) (k : ℕ) (state : ReadState) (over : waits state ≡ false) where
+  -- its shard is over
+  pub plan_over : (r : Restoring) → restore_plan (record r { shards = map (ended k state) r.shards }) ≡ restore_over k (restore_plan r)
+  plan_over r = λ j. record { uuid = r.uuid; shards = works-ended r.place k state over r.shards j }
+
+  ended_with : (q : Reader) (r : Restoring) (b c : Bool) → b ≡ c → IsPlanOf (record w { restores = cond b (fin.insert w.restores q.op (record r { shards = map (ended k state) r.shards })) (fin.remove w.restores q.op); readers = fin.insert w.readers k (record q { out = false }) })
+      (record p { restores = cond c (fin.insert p.restores q.op (restore_over k (restore_plan r))) (fin.remove p.restores q.op); readers = fin.insert p.readers k (reader_ended (reader_seat q)) })
+  ended_with q r true true e = record {
+    ops = is.ops;
+    deletes = is.deletes;
+    completed = is.completed;
+    seats = is.seats;
+    next_op = is.next_op;
+    next_ticket = is.next_ticket;
+    restores = restores_put w p is q.op (record r { shards = map (ended k state) r.shards }) (restore_over k (restore_plan r)) (plan_over r);
+    restore_count = restores_put_count w p is q.op (record r { shards = map (ended k state) r.shards }) (restore_over k (restore_plan r));
+    readers = readers_put w p is k (record q { out = false }) (reader_ended (reader_seat q)) refl;
+  }
+  ended_with q r false false e = record {
+    ops = is.ops;
+    deletes = is.deletes;
+    completed = is.completed;
+    seats = is.seats;
+    next_op = is.next_op;
+    next_ticket = is.next_ticket;
+    restores = restores_left w p is q.op;
+    restore_count = restores_left_count w p is q.op;
+    readers = readers_put w p is k (record q { out = false }) (reader_ended (reader_seat q)) refl;
+  }
+  ended_with q r true false e = absurd (true≢false e)
+  ended_with q r false true e = absurd (true≢false (sym e))
+
+  same_waits : (r : Restoring) → any_waits (map (ended k state) r.shards) ≡ list_any is_waiting (restore_over k (restore_plan r)).shards
+  same_waits r = any_waits-works r.place (map (ended k state) r.shards) ∙ ap (list_any is_waiting) (works-ended r.place k state over r.shards)
+
+  pub read_there : IsPlanOf (read_over w k state (fin.get w.readers k)) (read_in p k (fin.get p.readers k))
+  read_there = subst (λ o. IsPlanOf (read_over w k state (fin.get w.readers k)) (read_in p k o)) (sym (is.readers k)) (go (fin.get w.readers k))
+    where
+      inner : (q : Reader) (o : Option Restoring) → IsPlanOf (shard_over w k state q o) (read_by p k (reader_seat q) (option_map restore_plan o))
+      inner q None = is
+      inner q (Some r) = ended_with q r _ _ (same_waits r)
+
+      go : (o : Option Reader) → IsPlanOf (read_over w k state o) (read_in p k (option_map reader_seat o))
+      go None = is
+      go (Some q) = subst (λ o. IsPlanOf (shard_over w k state q (fin.get w.restores q.op)) (read_by p k (reader_seat q) o)) (sym (is.restores q.op)) (inner q (fin.get w.restores q.op))
+
+pub read_is : (p q new : Plan) (k : ℕ) → q ≡ p → new ≡ read_in q k (fin.get q.readers k) → (w : World) (state : ReadState) → waits state ≡ false → IsPlanOf w p → IsPlanOf (read_over w k state (fin.get w.readers k)) new
+read_is p q new k copied e w state over is = subst (IsPlanOf (read_over w k state (fin.get w.readers k))) (sym (e ∙ ap (λ (z : Plan). read_in z k (fin.get z.readers k)) copied)) (read_there w p is k state over)

@@ -1,0 +1,19 @@
+use Rattle.std.proofs.Common.{◌∙◌, ◌≡◌, ◌++◌, ◌∷◌, [], List, true, ap}
+use Rattle.esr_progress.specs.declared.unit.ReaderSeat.{ReaderSeat as CodeReader}
+use Rattle.esr_progress.specs.declared.unit.Slot.{Slot}
+use Rattle.esr_progress.specs.declared.unit.Slot.TheVariants as slots
+use Rattle.esr_progress.proofs.Takes.{progress_read, plan_read}
+use Rattle.esr_progress.proofs.progress.Progress.with_reader.Goals as goal
+
+pub invariant_of-result : goal.invariant_of-result
+invariant_of-result c =
+    progress_read c.self.inside.ops.items c.in_ok-copy_ops.field-0.items c.self.inside.deletes.items c.in_ok-copy_deletes.field-0.items c.self.inside.completed.items [] c.self.inside.seats.items [] c.self.inside.next_op
+    c.self.inside.restores.items c.args.restores.items c.args.self.now c.self.view_is (c.in_ok-copy_ops.ensures ∙ c.deref.ensures.value) (c.in_ok-copy_deletes.ensures ∙ c.deref-2.ensures.value) c.self.invariant c.requires
+
+pub returns : goal.returns
+returns c =
+    let seat : CodeReader = record { op = c.args.op; shard = c.args.shard; out = true } in
+    let seats : c.in_ok-seats.seats.items ≡ c.self.inside.seats.items = c.in_ok-seats.ensures.items ∙ c.as_slice.ensures.value in
+    let done : c.in_ok-from_slice.field-0.items ≡ c.self.inside.completed.items = c.in_ok-from_slice.ensures.items ∙ c.as_slice-2.ensures.value in
+    plan_read c.self.inside.ops.items c.in_ok-copy_ops.field-0.items c.self.inside.deletes.items c.in_ok-copy_deletes.field-0.items c.self.inside.completed.items c.in_ok-from_slice.field-0.items c.self.inside.seats.items _ c.self.inside.next_op
+    c.self.inside.restores.items c.args.restores.items c.args.self.now c.self.view_is (c.in_ok-copy_ops.ensures ∙ c.deref.ensures.value) (c.in_ok-copy_deletes.ensures ∙ c.deref-2.ensures.value) seat done (c.in_ok-push.ensures.items ∙ ap (λ (xs : List Slot). xs ++ slots.Reader seat ∷ []) seats)
