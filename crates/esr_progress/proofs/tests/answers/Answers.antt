@@ -1,16 +1,17 @@
-use Rattle.std.proofs.Common.{◌≡◌, ℕ, suc, ◌+◌, ◌<◌, [], false, None, Some, option_map, refl, sym, ap, subst, ◌∙◌, arith, nat_cmp}
+use Rattle.std.proofs.Common.{◌≡◌, ℕ, suc, ◌+◌, ◌<◌, [], false, None, Some, option_map, map, refl, sym, ap, subst, ◌∙◌, arith, nat_cmp}
 use Rattle.std.specs.FinMap as fin
 use Rattle.esr_model.specs.Values.{RootData}
 use Rattle.esr_model.specs.Kept.{first_id}
-use Rattle.esr_core.specs.World.{World, Op}
-use Rattle.esr_core.specs.Entry.{Asked, Snapshot}
+use Rattle.esr_core.specs.World.{World, Op, Restoring, Reader, no_caller}
 use Rattle.esr_core.specs.After.{asked_op, new_names}
 use Rattle.esr_core.specs.Tracked.{Named}
 use Rattle.esr_core.proofs.Naming.{named_asked}
 use Rattle.esr_formats.specs.Roots.{root_of}
 use Rattle.esr_progress.specs.declared.command.Accepted.{Accepted}
-use Rattle.esr_progress.specs.Asked.{asked_of, IsAskable}
-use Rattle.esr_progress.specs.Plan.{Plan, IsAskedIn, seat_of}
+use Rattle.esr_progress.specs.declared.command.Command.{Command}
+use Rattle.esr_progress.specs.declared.command.Command.TheVariants as commands
+use Rattle.esr_progress.specs.Asked.{asked_of, asked_index_of, IsAskable}
+use Rattle.esr_progress.specs.Plan.{Plan, RestorePlan, ReaderSeat, IsAskedIn, seat_of, restore_plan, reader_seat}
 use Rattle.esr_progress.specs.Accepting.{MayAccept, IsAccepted, name_asked}
 use Rattle.esr_progress.proofs.Lists.{none_some}
 use Rattle.esr_progress.proofs.tests.answers.Goals as goal
@@ -61,29 +62,56 @@ world_with p next =
       next_id = next;
       doomed = [];
       deposed = false;
+      restores = fin.empty;
+      readers = fin.empty;
+      caller = no_caller;
     }
 
-asked_in : (p : Plan) (next : ℕ) → ((k : ℕ) → fin.get p.seats k ≡ None) → IsAskedIn p no_root 1 next (world_with p next)
-asked_in p next none = record {
-  plan = record { ops = refl; deletes = refl; completed = refl; seats = λ k. none k ∙ sym (ap (option_map seat_of) (fin.get-empty nat_cmp k)); next_op = refl; next_ticket = refl };
+-- no restore is in the plan
+record NoRestore (p : Plan) : Type 0 where
+  restores : (o : ℕ) → fin.get p.restores o ≡ None
+  count : fin.len p.restores ≡ 0
+  readers : (k : ℕ) → fin.get p.readers k ≡ None
+
+asked_in : (p : Plan) (next : ℕ) → ((k : ℕ) → fin.get p.seats k ≡ None) → NoRestore p → IsAskedIn p no_root 1 next (world_with p next)
+asked_in p next none unrestored = record {
+  plan = record {
+    ops = refl;
+    deletes = refl;
+    completed = refl;
+    seats = λ k. none k ∙ sym (ap (option_map seat_of) (fin.get-empty nat_cmp k));
+    next_op = refl;
+    next_ticket = refl;
+    restores = λ o. unrestored.restores o ∙ sym (ap (option_map restore_plan) (fin.get-empty nat_cmp o));
+    restore_count = unrestored.count ∙ sym (fin.len-empty nat_cmp Restoring);
+    readers = λ k. unrestored.readers k ∙ sym (ap (option_map reader_seat) (fin.get-empty nat_cmp k));
+  };
   root_is = refl;
   term_is = refl;
   next_is = refl;
 }
 
-named_more : (p new : Plan) (next : ℕ) (accepted : Accepted) (command : Asked) → IsAskable command → Named no_root p.ops next → MayAccept (world_with p next) (name_asked command) → IsAccepted (world_with p next) command new accepted
+named_more : (p new : Plan) (next : ℕ) (accepted : Accepted) (command : Command) → IsAskable (asked_of command) → Named no_root p.ops next → MayAccept (world_with p next) (name_asked (asked_of command)) → IsAccepted (world_with p next) (asked_of command) new accepted
     → Named no_root new.ops (next + accepted.drawn)
-named_more p new next accepted (Snapshot name indices moment) askable named may is =
+named_more p new next accepted (commands.Create name asked moment) askable named may is =
     let w : World = world_with p next in
+    let indices = map asked_index_of asked in
     let there : Named no_root (fin.insert p.ops p.next_op (asked_op w name indices moment)) (next + suc (new_names w indices)) = named_asked w named name indices moment askable.0 may.unused in
     subst (λ ops. Named no_root ops (next + accepted.drawn)) (sym is.plan.ops)
     (subst (λ (drawn : ℕ). Named no_root (fin.insert p.ops p.next_op (asked_op w name indices moment)) (next + drawn)) (sym is.drawn) there)
 
-seats_more : (p new : Plan) (next : ℕ) (accepted : Accepted) (command : Asked) → IsAccepted (world_with p next) command new accepted → (k : ℕ) → fin.get new.seats k ≡ None
-seats_more p new next accepted (Snapshot name indices moment) is k = is.plan.seats k ∙ ap (option_map seat_of) (fin.get-empty nat_cmp k)
+seats_more : (p new : Plan) (next : ℕ) (accepted : Accepted) (command : Command) → IsAccepted (world_with p next) (asked_of command) new accepted → (k : ℕ) → fin.get new.seats k ≡ None
+seats_more p new next accepted (commands.Create name indices moment) is k = is.plan.seats k ∙ ap (option_map seat_of) (fin.get-empty nat_cmp k)
 
-op_more : (p new : Plan) (next : ℕ) (accepted : Accepted) (command : Asked) → IsAccepted (world_with p next) command new accepted → new.next_op ≡ suc p.next_op
-op_more p new next accepted (Snapshot name indices moment) is = is.plan.next_op
+restores_more : (p new : Plan) (next : ℕ) (accepted : Accepted) (command : Command) → IsAccepted (world_with p next) (asked_of command) new accepted → NoRestore new
+restores_more p new next accepted (commands.Create name indices moment) is = record {
+  restores = λ o. is.plan.restores o ∙ ap (option_map restore_plan) (fin.get-empty nat_cmp o);
+  count = is.plan.restore_count ∙ fin.len-empty nat_cmp Restoring;
+  readers = λ k. is.plan.readers k ∙ ap (option_map reader_seat) (fin.get-empty nat_cmp k);
+}
+
+op_more : (p new : Plan) (next : ℕ) (accepted : Accepted) (command : Command) → IsAccepted (world_with p next) (asked_of command) new accepted → new.next_op ≡ suc p.next_op
+op_more p new next accepted (commands.Create name indices moment) is = is.plan.next_op
 
 pub loop-number-init : goal.loop-number-init
 loop-number-init c =
@@ -93,6 +121,9 @@ loop-number-init c =
       seats = λ k. subst (λ (p : Plan). fin.get p.seats k ≡ None) (sym at_start) (fin.get-empty nat_cmp k);
       op = ap (λ (p : Plan). p.next_op) at_start;
       in_term = c.requires;
+      restores = λ o. subst (λ (p : Plan). fin.get p.restores o ≡ None) (sym at_start) (fin.get-empty nat_cmp o);
+      restore_count = subst (λ (p : Plan). fin.len p.restores ≡ 0) (sym at_start) (fin.len-empty nat_cmp RestorePlan);
+      readers = λ k. subst (λ (p : Plan). fin.get p.readers k ≡ None) (sym at_start) (fin.get-empty nat_cmp k);
     }
 
 pub accept-requires-clause-named : goal.accept-requires-clause-named
@@ -108,7 +139,7 @@ pub overflow_add-next : goal.overflow_add-next
 overflow_add-next c =
     let list = c.loop-number.list in
     let next = c.loop-number.next.number in
-    let h = c.in-Ok.ensures (world_with list next) (subst (λ (r : RootData). IsAskedIn list r 1 next (world_with list next)) (sym (ap root_of c.new-root.ensures)) (asked_in list next c.loop-number.invariant.seats)) in
+    let h = c.in-Ok.ensures (world_with list next) (subst (λ (r : RootData). IsAskedIn list r 1 next (world_with list next)) (sym (ap root_of c.new-root.ensures)) (asked_in list next c.loop-number.invariant.seats (record { restores = c.loop-number.invariant.restores; count = c.loop-number.invariant.restore_count; readers = c.loop-number.invariant.readers }))) in
     let fits : next + c.in-Ok.accepted.drawn < first_id 2 = h.1.fits in
     omega (arith, fits, c.from.ensures)
 
@@ -116,14 +147,18 @@ pub loop-number-preserved : goal.loop-number-preserved
 loop-number-preserved c =
     let list = c.loop-number.list in
     let next = c.loop-number.next.number in
-    let command = asked_of c.in_ok-command.command in
-    let h = c.in-Ok.ensures (world_with list next) (subst (λ (r : RootData). IsAskedIn list r 1 next (world_with list next)) (sym (ap root_of c.new-root.ensures)) (asked_in list next c.loop-number.invariant.seats)) in
+    let command = c.in_ok-command.command in
+    let h = c.in-Ok.ensures (world_with list next) (subst (λ (r : RootData). IsAskedIn list r 1 next (world_with list next)) (sym (ap root_of c.new-root.ensures)) (asked_in list next c.loop-number.invariant.seats (record { restores = c.loop-number.invariant.restores; count = c.loop-number.invariant.restore_count; readers = c.loop-number.invariant.readers }))) in
     let fits : next + c.in-Ok.accepted.drawn < first_id 2 = h.1.fits in
     let op : c.in-Ok.new.next_op ≡ suc list.next_op = op_more list c.in-Ok.new next c.in-Ok.accepted command h.1 in
     let was : list.next_op ≡ c.loop-number.number-counter + 1 = c.loop-number.invariant.op in
+    let unrestored = restores_more list c.in-Ok.new next c.in-Ok.accepted command h.1 in
     record {
       named = subst (λ (drawn : ℕ). Named no_root c.in-Ok.new.ops (next + drawn)) (sym c.from.ensures) (named_more list c.in-Ok.new next c.in-Ok.accepted command c.in_ok-command.ensures c.loop-number.invariant.named h.0 h.1);
       seats = seats_more list c.in-Ok.new next c.in-Ok.accepted command h.1;
       op = omega (arith, op, was);
       in_term = omega (arith, fits, c.from.ensures);
+      restores = unrestored.restores;
+      restore_count = unrestored.count;
+      readers = unrestored.readers;
     }

@@ -4,7 +4,7 @@ use Rattle.esr_model.specs.Kept.{first_id}
 use Rattle.esr_core.specs.Tracked.{Named}
 use Rattle.esr_progress.proofs.tests.answers.Given as goal
 
--- so many ops are open, and no ticket was given
+-- so many ops are open, no restore is, and no ticket was given
 abbrev pub invariant-loop-number : goal.invariant-loop-number
 invariant-loop-number l =
     record {
@@ -12,4 +12,7 @@ invariant-loop-number l =
       seats : (k : ℕ) → fin.get l.list.seats k ≡ None;
       op : l.list.next_op ≡ l.number-counter + 1;
       in_term : l.next.number < first_id 2;
+      restores : (o : ℕ) → fin.get l.list.restores o ≡ None;
+      restore_count : fin.len l.list.restores ≡ 0;
+      readers : (k : ℕ) → fin.get l.list.readers k ≡ None;
     }

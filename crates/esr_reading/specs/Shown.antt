@@ -1,0 +1,122 @@
+-- What shows why a shard wasn't restored.
+use Rattle.std.specs.Prelude.{◌≡◌, ◌⊎◌, ◌<◌, ℕ, Bool, true, false, List, ◌∷◌, ◌++◌, length, None}
+use Rattle.std.specs.List.{concat}
+use Rattle.esr_model.specs.Names.{BlobName, File, ShardSnap}
+use Rattle.esr_model.specs.Values.{Bytes, Has, FileEntry, ShardSnapshot}
+use Rattle.esr_model.specs.Image.{Reads}
+use Rattle.esr_core.specs.World.{Reader}
+use Rattle.esr_core.specs.Restores.{WasRead}
+use Rattle.esr_core.specs.Entry.{Why, OfDepot, OfSource, OfChange, OfDamage, OfTaken, OfIdsSpent, OfGenerationsSpent, OfTarget, OfPrint, OfDisagreement, ReadStep, ReadBlob, WasAbsent, Refused, DepotFault, Moment}
+use Rattle.esr_formats.specs.Shards.{shard_snap_kind}
+use Rattle.esr_source.specs.declared.address.Address.{Address}
+use Rattle.esr_desk.specs.declared.fault.FailedObject.TheVariants as objects
+use Rattle.esr_desk.specs.declared.fault.By.{By}
+use Rattle.esr_desk.specs.declared.fault.By.TheVariants as by
+use Rattle.esr_desk.specs.Start.{Start, formats_of}
+use Rattle.esr_desk.specs.Shown.{Faulty}
+use Rattle.esr_reading.specs.Readers.{reader_of}
+use Rattle.esr_reading.specs.Parts.{AreFronts, AreExact}
+
+-- How often a fetch or a target has failed, and for which address a target was made.
+pub record Counts (F T : Type 0) : Type 0 where
+  pub fetch : F → ℕ
+  pub target : T → ℕ
+  pub made_for : T → Address
+
+-- a fetch of the ticket was refused, since the container failed in it
+pub record HadFault (log : List Moment) (who : ℕ) : Type 0 where
+  pub front : List Moment
+  pub moment : Moment
+  pub back : List Moment
+  pub name : BlobName
+  pub is : log ≡ front ++ moment ∷ back
+  pub of : moment.entry.who ≡ who
+  pub step : moment.entry.step ≡ ReadStep (ReadBlob name)
+  pub reply : moment.entry.reply ≡ Refused DepotFault
+
+-- a fetch of the ticket found no blob of this name
+pub record WasMissing (log : List Moment) (who : ℕ) (name : BlobName) : Type 0 where
+  pub front : List Moment
+  pub moment : Moment
+  pub back : List Moment
+  pub is : log ≡ front ++ moment ∷ back
+  pub of : moment.entry.who ≡ who
+  pub step : moment.entry.step ≡ ReadStep (ReadBlob name)
+  pub reply : moment.entry.reply ≡ WasAbsent
+
+-- the address is that of the ticket's shard
+pub record IsOf (q : Reader) (address : Address) : Type 0 where
+  pub place : address.place ≡ q.place
+  pub index : address.index ≡ q.name
+  pub number : address.number ≡ q.number
+
+-- a fetch has failed, or the container did in a step of the ticket
+abbrev pub DepotShown : {S F H T : Type 0} → Counts F T → Start → List Moment → ℕ → By S F H T → Type 0
+DepotShown c s log who (by.Object (objects.Stage stage)) = ⊥
+DepotShown c s log who (by.Object (objects.Fetch fetch)) = Faulty s (c.fetch fetch)
+DepotShown c s log who (by.Object (objects.Shard shard)) = ⊥
+DepotShown c s log who (by.Object (objects.Target target)) = ⊥
+DepotShown c s log who by.Entry = HadFault log who
+DepotShown c s log who by.Nothing = ⊥
+
+-- the target of the unit has failed, which it can't where targets are sure
+abbrev pub TargetShown : {S F H T : Type 0} → Counts F T → Start → Reader → By S F H T → Type 0
+TargetShown c s q (by.Object (objects.Stage stage)) = ⊥
+TargetShown c s q (by.Object (objects.Fetch fetch)) = ⊥
+TargetShown c s q (by.Object (objects.Shard shard)) = ⊥
+TargetShown c s q (by.Object (objects.Target target)) = (0 < c.target target) × (s.sure_targets ≡ false) × IsOf q (c.made_for target)
+TargetShown c s q by.Entry = ⊥
+TargetShown c s q by.Nothing = ⊥
+
+-- what was read shows it: no object failed
+abbrev pub ReadShown : {S F H T : Type 0} → By S F H T → Type 0 → Type 0
+ReadShown (by.Object object) shown = ⊥
+ReadShown by.Entry shown = ⊥
+ReadShown by.Nothing shown = shown
+
+-- the blob was absent; or it is that of the shard's snapshot, and its bytes, which were read where the container tells, are none
+abbrev pub IsDamaged : Start → List Moment → ℕ → BlobName → Type 0
+IsDamaged s log who name =
+    let q : Reader = reader_of s log who in
+    WasMissing log who name
+    ⊎ ((name ≡ ShardSnap q.index q.number q.uuid) × ((bytes : Bytes) × (s.tells ≡ true → WasRead q.read name bytes) × (shard_snap_kind.read bytes ≡ None)))
+
+-- The snapshot of the shard lists the file, whose blob without a part number has this name, and this was read of its parts.
+pub record HasReadFile (s : Start) (q : Reader) (name : BlobName) (fronts : List Bytes) : Type 0 where
+  pub snap : ShardSnapshot
+  pub snap_read : s.tells ≡ true → Reads (WasRead q.read) (ShardSnap q.index q.number q.uuid) (formats_of s).shard_snap snap
+  pub e : FileEntry
+  pub listed : Has snap.files e
+  pub name_is : name ≡ File q.index q.number e.name
+  pub read : s.tells ≡ true → AreFronts (WasRead q.read) q.index q.number e fronts
+
+-- the print of what was read of a file isn't the stated one
+pub record IsMisprinted (s : Start) (q : Reader) (name : BlobName) (stated_len : ℕ) (stated_digest : Bytes) (found_len : ℕ) (found_digest : Bytes) : Type 0 where
+  pub fronts : List Bytes
+  pub file : HasReadFile s q name fronts
+  pub stated_len_is : stated_len ≡ file.e.len
+  pub stated_digest_is : stated_digest ≡ file.e.digest
+  pub found_len_is : found_len ≡ length (concat fronts)
+  pub found_digest_is : found_digest ≡ (formats_of s).digest (concat fronts)
+  pub differ : stated_len ≡ found_len → stated_digest ≡ found_digest → ⊥
+
+-- the parts of a file aren't cut as the snapshot of the shard says
+pub record IsMiscut (s : Start) (q : Reader) (name other : BlobName) : Type 0 where
+  pub fronts : List Bytes
+  pub file : HasReadFile s q name fronts
+  pub other_is : other ≡ ShardSnap q.index q.number q.uuid
+  pub cut : AreExact q.index q.number file.e fronts → ⊥
+
+-- By its cause: an object that failed, or a step; or what was read is absent or no snapshot of a shard, or isn't what that states.
+abbrev pub IsShown : {S F H T : Type 0} → Counts F T → Start → List Moment → ℕ → Why → By S F H T → Type 0
+IsShown c s log who OfDepot b = DepotShown c s log who b
+IsShown c s log who OfTarget b = TargetShown c s (reader_of s log who) b
+IsShown c s log who (OfDamage name) b = ReadShown b (IsDamaged s log who name)
+IsShown c s log who (OfPrint name stated_len stated_digest found_len found_digest) b = ReadShown b (IsMisprinted s (reader_of s log who) name stated_len stated_digest found_len found_digest)
+IsShown c s log who (OfDisagreement name other) b = ReadShown b (IsMiscut s (reader_of s log who) name other)
+-- these are of snapshots
+IsShown c s log who OfSource b = ⊥
+IsShown c s log who (OfChange first_len first_digest second_len second_digest) b = ⊥
+IsShown c s log who (OfTaken name) b = ⊥
+IsShown c s log who (OfIdsSpent next) b = ⊥
+IsShown c s log who (OfGenerationsSpent pending) b = ⊥

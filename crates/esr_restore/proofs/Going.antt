@@ -1,0 +1,109 @@
+-- Histories and tickets of restores that go on.
+use Rattle.std.proofs.Common.{◌≡◌, inr, ℕ, List, [], ◌∷◌, ◌++◌, append_assoc, Option, Some, None, Result, Ok, Err, IfErr, refl, sym, ap, ◌∙◌, subst}
+use Rattle.std.specs.Result.{IsErrAnd}
+use Rattle.esr_model.specs.Names.{BlobName}
+use Rattle.esr_model.specs.Values.{Bytes}
+use Rattle.esr_core.specs.World.{Reader}
+use Rattle.esr_core.specs.Entry.{Read, ReadStep, ReadBlob, Reply, Refusal, Refused, Moment}
+use Rattle.esr_desk.specs.declared.refusal.StepRefusal.{StepRefusal}
+use Rattle.esr_desk.specs.Refusals.{told_refusal}
+use Rattle.esr_desk.specs.Start.{Start}
+use Rattle.esr_desk.specs.Last.{WasRefused, IsRefusal}
+use Rattle.esr_desk.specs.Grew.{GrewBy, AllOf, grew_by_none, grew_by_on}
+use Rattle.esr_desk.specs.Outcome.{Spends}
+use Rattle.esr_reading.specs.Readers.{reader_of, with_read}
+use Rattle.esr_reading.specs.Outcome.{Stepped, Refusing, Outcome}
+use Rattle.esr_restore.specs.Worked.{Worked}
+use Rattle.esr_restore.specs.Went.{Went}
+use Rattle.esr_restore.specs.Snapped.{IsAt}
+use Rattle.esr_restore.specs.Trouble.{WasReadRefused, IsReadRefusal}
+
+pub passed : {T E : Type 0} (r : Result T E) (P : E → Type 0) (e : E) → IsErrAnd r (λ x. x ≡ e) → P e → IfErr r P
+passed (Ok x) P e is holds = tt
+passed (Err y) P e is holds = subst P (sym is) holds
+
+-- ---- tickets
+
+pub worked_none : (q : Reader) → Worked q q
+worked_none q = record { same = refl; more = λ blob has. has }
+
+pub worked_on : (a b c : Reader) → Worked a b → Worked b c → Worked a c
+worked_on a b c one two = record {
+  same = two.same ∙ ap (λ (q : Reader). record q { read = c.read }) one.same;
+  more = λ blob has. two.more blob (one.more blob has);
+}
+
+pub with_read_worked : (q : Reader) (name : BlobName) (left : Option Bytes) → Worked q (with_read name left q)
+with_read_worked q name None = worked_none q
+with_read_worked q name (Some bytes) = record { same = refl; more = λ blob has. inr has }
+
+-- it stays out, and for its shard of the snapshot
+pub worked_at : (a b : Reader) (index number uuid : ℕ) → Worked a b → IsAt a index number uuid → IsAt b index number uuid
+worked_at a b index number uuid worked at = record {
+  out = ap (λ (q : Reader). q.out) worked.same ∙ at.out;
+  index_is = ap (λ (q : Reader). q.index) worked.same ∙ at.index_is;
+  number_is = ap (λ (q : Reader). q.number) worked.same ∙ at.number_is;
+  uuid_is = ap (λ (q : Reader). q.uuid) worked.same ∙ at.uuid_is;
+}
+
+pub worked_same : (a b : Reader) → b ≡ a → Worked a b
+worked_same a b is = subst (λ (q : Reader). Worked a q) (sym is) (worked_none a)
+
+-- ---- histories
+
+all_none : (who : ℕ) (others : List Moment) → others ≡ [] → AllOf who others
+all_none who others is = subst (AllOf who) (sym is) tt
+
+all_last : (who : ℕ) (others : List Moment) (m : Moment) → others ≡ [] → m.entry.who ≡ who → AllOf who (others ++ m ∷ [])
+all_last who others m is own = subst (λ (l : List Moment). AllOf who (l ++ m ∷ [])) (sym is) (own, tt)
+
+pub stepped_grew : (s : Start) (old new : List Moment) (who : ℕ) (read : Read) (reply : Reply) → Stepped s old new who read reply → GrewBy s who old new
+stepped_grew s old new who read reply h =
+    let last : Moment = record { entry = record { who = who; step = ReadStep read; reply = reply }; image = h.image } in
+    record {
+      more = h.waited.others ++ last ∷ [];
+      is = h.is ∙ ap (λ (log : List Moment). log ++ last ∷ []) h.waited.grew ∙ append_assoc old h.waited.others (last ∷ []);
+      legal = λ was. h.legal;
+      own = λ alone. all_last who h.waited.others last (h.waited.nobody alone) refl;
+    }
+
+refusing_grew : (s : Start) (old new : List Moment) (who : ℕ) (read : Read) (refusal : Option Refusal) → Refusing s old new who read refusal → GrewBy s who old new
+refusing_grew s old new who read None h = record {
+  more = h.others;
+  is = h.grew;
+  legal = λ was. h.legal;
+  own = λ alone. all_none who h.others (h.nobody alone);
+}
+refusing_grew s old new who read (Some refusal) h = stepped_grew s old new who read (Refused refusal) h
+
+pub outcome_grew : {X : Type 0} (s : Start) (old new : List Moment) (who : ℕ) (read : Read) (ok : X → Reply) (result : Result X StepRefusal) → Outcome s old new who read ok result → GrewBy s who old new
+outcome_grew s old new who read ok (Ok x) h = stepped_grew s old new who read (ok x) h
+outcome_grew s old new who read ok (Err e) h = refusing_grew s old new who read (told_refusal e) h.0
+
+pub went_none : (s : Start) (log : List Moment) (who : ℕ) → Went s log log who
+went_none s log who = record { grew = grew_by_none s who log; worked = worked_none (reader_of s log who) }
+
+pub went_on : (s : Start) (old mid new : List Moment) (who : ℕ) → Went s old mid who → Went s mid new who → Went s old new who
+went_on s old mid new who first second = record {
+  grew = grew_by_on s who old mid new first.grew second.grew;
+  worked = worked_on (reader_of s old who) (reader_of s mid who) (reader_of s new who) first.worked second.worked;
+}
+
+pub went_at : (s : Start) (old new : List Moment) (who index number uuid : ℕ) → Went s old new who → IsAt (reader_of s old who) index number uuid → IsAt (reader_of s new who) index number uuid
+went_at s old new who index number uuid went at = worked_at (reader_of s old who) (reader_of s new who) index number uuid went.worked at
+
+-- ---- what a refusal says
+
+refused_last : (s : Start) (old new : List Moment) (who : ℕ) (read : Read) (refusal : Option Refusal) → Refusing s old new who read refusal → WasRefused new who refusal
+refused_last s old new who read None h = tt
+refused_last s old new who read (Some refusal) h = (ReadStep read, record { front = h.front; image = h.image; is = h.is })
+
+pub step_refusal : (s : Start) (old new : List Moment) (who : ℕ) (read : Read) (e : StepRefusal) → Refusing s old new who read (told_refusal e) × Spends s new e → IsRefusal s new who e
+step_refusal s old new who read e h = (refused_last s old new who read (told_refusal e) h.0, h.1)
+
+was_refused : (log : List Moment) (who : ℕ) (refusal : Option Refusal) → WasReadRefused log who refusal → WasRefused log who refusal
+was_refused log who None h = tt
+was_refused log who (Some refusal) h = (ReadStep (ReadBlob h.0), h.1)
+
+pub refusal_of_read : (s : Start) (log : List Moment) (who : ℕ) (e : StepRefusal) → IsReadRefusal s log who e → IsRefusal s log who e
+refusal_of_read s log who e h = (was_refused log who (told_refusal e) h.0, h.1)

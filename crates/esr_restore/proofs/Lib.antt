@@ -1,0 +1,9 @@
+pub mod Going
+pub mod Reading
+pub mod Pairs
+pub mod Sizes
+pub mod Parts
+pub mod Standing
+pub mod Listing
+pub mod Ending
+pub mod Finishing

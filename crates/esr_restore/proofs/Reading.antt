@@ -1,0 +1,70 @@
+-- What a restore's ticket reads of its shard's snapshot.
+use Rattle.std.proofs.Common.{◌≡◌, ◌<◌, inl, ℕ, Bool, true, false, Some, None, refl, sym, ap, ◌∙◌, subst}
+use Rattle.std.specs.Prelude.{if◌then◌else◌}
+use Rattle.esr_names.specs.declared.ids.Id.{Id}
+use Rattle.esr_names.specs.declared.blob.ShardId.{ShardId}
+use Rattle.esr_names.specs.declared.blob.BlobName.TheVariants as names
+use Rattle.esr_names.specs.Layout.{IsName}
+use Rattle.esr_model.specs.Names.{BlobName, ShardSnap}
+use Rattle.esr_model.specs.Values.{Bytes, ShardSnapshot, Kind}
+use Rattle.esr_model.specs.Image.{Reads}
+use Rattle.esr_core.specs.World.{Reader}
+use Rattle.esr_core.specs.Restores.{WasRead}
+use Rattle.esr_shardidx.specs.declared.entry.FileEntry.{FileEntry as CodeEntry}
+use Rattle.esr_shardidx.specs.Snapshots.{SnapValue}
+use Rattle.esr_formats.specs.Formats.{formats}
+use Rattle.esr_formats.specs.Shards.{shard_snap_of, shard_snap_kind}
+use Rattle.esr_desk.specs.Start.{Start, formats_of, told_bytes}
+use Rattle.esr_reading.specs.Readers.{with_read}
+use Rattle.esr_restore.specs.Worked.{Worked}
+use Rattle.esr_restore.specs.Snapped.{IsAt, ReadAs, HasSnap, IsListed}
+use Rattle.esr_restore.proofs.Going.{worked_at, with_read_worked}
+
+-- ---- the snapshot
+
+-- its name is one of the layout
+pub snap_name : (shard : ShardId) (uuid : Id) → shard.number < 1024 → IsName (names.ShardSnap shard uuid)
+unfolding IsName
+snap_name shard uuid few = few
+
+-- the name of the snapshot of the ticket's shard
+pub snap_is : (q : Reader) (index number uuid : ℕ) → IsAt q index number uuid → ShardSnap index number uuid ≡ ShardSnap q.index q.number q.uuid
+snap_is q index number uuid at =
+    ap (λ (i : ℕ). ShardSnap i number uuid) (sym at.index_is) ∙ ap (λ (k : ℕ). ShardSnap q.index k uuid) (sym at.number_is) ∙ ap (λ (u : ℕ). ShardSnap q.index q.number u) (sym at.uuid_is)
+
+-- what was read is noted where the container tells
+was_read : (tells : Bool) (old new : Reader) (name : BlobName) (b : Bytes) → new ≡ with_read name (if tells then Some b else None) old → tells ≡ true → WasRead new.read name b
+was_read true old new name b is yes_is = subst (λ (q : Reader). WasRead q.read name b) (sym is) (inl refl)
+was_read false old new name b is yes_is = absurd cc
+
+pub told_read : (s : Start) (old new : Reader) (name : BlobName) (b : Bytes) → new ≡ with_read name (told_bytes s b) old → s.tells ≡ true → WasRead new.read name b
+told_read s old new name b is tells = was_read s.tells old new name b is tells
+
+read_at : (s : Start) (old new : Reader) (name : BlobName) (b : Bytes) (index number uuid : ℕ) → new ≡ with_read name (told_bytes s b) old → IsAt old index number uuid → IsAt new index number uuid
+read_at s old new name b index number uuid is at = subst (λ (q : Reader). IsAt q index number uuid) (sym is) (worked_at old (with_read name (told_bytes s b) old) index number uuid (with_read_worked old name (told_bytes s b)) at)
+
+-- it reads
+pub has_snap : (s : Start) (old new : Reader) (index number uuid : ℕ) (b : Bytes) (value : SnapValue) → IsAt old index number uuid → new ≡ with_read (ShardSnap index number uuid) (told_bytes s b) old
+    → shard_snap_kind.read b ≡ Some (shard_snap_of value) → HasSnap s new value
+unfolding formats
+has_snap s old new index number uuid b value at is reads =
+    let name = snap_is new index number uuid (read_at s old new (ShardSnap index number uuid) b index number uuid is at) in
+    λ tells. subst (λ (n : BlobName). Reads (WasRead new.read) n shard_snap_kind (shard_snap_of value)) name (record { bytes = b; there = told_read s old new (ShardSnap index number uuid) b is tells; reads = reads })
+
+-- ---- while more is read
+
+pub reads_more : {V : Type 0} (a b : Reader) (name : BlobName) (kind : Kind V) (v : V) → Worked a b → Reads (WasRead a.read) name kind v → Reads (WasRead b.read) name kind v
+reads_more a b name kind v worked h = record { bytes = h.bytes; there = worked.more (name, h.bytes) h.there; reads = h.reads }
+
+same_shard : (a b : Reader) → Worked a b → ShardSnap a.index a.number a.uuid ≡ ShardSnap b.index b.number b.uuid
+same_shard a b worked = sym (ap (λ (q : Reader). ShardSnap q.index q.number q.uuid) worked.same)
+
+pub read_as_more : (s : Start) (a b : Reader) (snap : ShardSnapshot) → Worked a b → ReadAs s a snap → ReadAs s b snap
+read_as_more s a b snap worked read =
+    λ tells. subst (λ (n : BlobName). Reads (WasRead b.read) n (formats_of s).shard_snap snap) (same_shard a b worked) (reads_more a b (ShardSnap a.index a.number a.uuid) (formats_of s).shard_snap snap worked (read tells))
+
+pub listed_more : (s : Start) (a b : Reader) (e : CodeEntry) → Worked a b → IsListed s a e → IsListed s b e
+listed_more s a b e worked h = record { snap = h.snap; snap_read = read_as_more s a b h.snap worked h.snap_read; listed = h.listed }
+
+pub snap_more : (s : Start) (a b : Reader) (snap : SnapValue) → Worked a b → HasSnap s a snap → HasSnap s b snap
+snap_more s a b snap worked read = read_as_more s a b (shard_snap_of snap) worked read

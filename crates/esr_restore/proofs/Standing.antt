@@ -1,0 +1,162 @@
+-- A file as it was read: whether it is as the snapshot states.
+use Rattle.std.proofs.Common.{◌≡◌, ◌⊎◌, inl, inr, ℕ, suc, ◌+◌, ◌-◌, ◌≤◌, min, Bool, true, false, List, [], ◌∷◌, ◌++◌, length, Option, Some, None, option_map, refl, sym, ap, ◌∙◌, subst, arith}
+use Rattle.std.proofs.lemmas.List.{take_all, length-take}
+use Rattle.std.specs.List.{concat}
+use Rattle.esr_names.specs.declared.ids.Id.{Id}
+use Rattle.esr_names.specs.declared.blob.ShardId.{ShardId}
+use Rattle.esr_model.specs.Names.{BlobName, File, ShardSnap}
+use Rattle.esr_model.specs.Values.{Bytes}
+use Rattle.esr_model.specs.Parts.{part_names, AreFull}
+use Rattle.esr_model.specs.Image as image
+use Rattle.esr_model.specs.Image.{AllPairs, FileStands}
+use Rattle.esr_core.specs.World.{Reader}
+use Rattle.esr_core.specs.Restores.{WasRead}
+use Rattle.esr_core.specs.Entry.{Moment}
+use Rattle.esr_hash.specs.declared.hasher.Hasher.{Hasher}
+use Rattle.esr_hash.specs.declared.print.Print.{Print}
+use Rattle.esr_hash.specs.Fed.{HasFed}
+use Rattle.esr_hash.specs.Prints.{print_of}
+use Rattle.esr_source.specs.Begun.{Begun, begun_file, more, with_ended}
+use Rattle.esr_shardidx.specs.declared.entry.FileEntry.{FileEntry as CodeEntry}
+use Rattle.esr_formats.specs.Formats.{formats}
+use Rattle.esr_formats.specs.Shards.{entry_of}
+use Rattle.esr_desk.specs.declared.entry.Why.{Why}
+use Rattle.esr_desk.specs.Start.{Start, formats_of}
+use Rattle.esr_reading.specs.Readers.{reader_of}
+use Rattle.esr_reading.specs.Parts.{sized, IsFront, front_of, AreFronts, AreExact}
+use Rattle.esr_reading.specs.Shown.{HasReadFile, IsMisprinted, IsMiscut}
+use Rattle.esr_restore.specs.Snapped.{IsAt, IsListed}
+use Rattle.esr_restore.specs.Parts.{ReadParts}
+use Rattle.esr_restore.specs.Files.{RestoredFile}
+use Rattle.esr_restore.specs.Trouble.{IsFound, IsOther, IsCutOtherwise, Judged}
+use Rattle.esr_restore.proofs.Parts.{IsExact}
+use Rattle.esr_restore.proofs.Reading.{snap_is}
+
+-- ---- parts that have their sizes
+
+-- such a front is the whole blob
+whole_blob : (size : ℕ) (bytes front : Bytes) → front ≡ front_of size bytes → length front ≡ size → bytes ≡ front
+whole_blob size bytes front is len =
+    let cut : length front ≡ min (suc size) (length bytes) = ap (λ (l : Bytes). length l) is ∙ length-take (suc size) bytes in
+    let fits : length bytes ≤ suc size = omega (arith, cut, len) in
+    sym (is ∙ take_all (suc size) bytes fits)
+
+module _ (has : BlobName → Bytes → Type 0) where
+  has_front : (part : BlobName × ℕ) (front : Bytes) → IsFront has part front → IsExact part front → has part.0 front
+  has_front part front h exact = subst (λ (b : Bytes). has part.0 b) (whole_blob part.1 h.0 front h.2 exact) h.1
+
+  there_sized : (len size : ℕ) (parts : List BlobName) (fronts : List Bytes) → AllPairs (IsFront has) (sized len size parts) fronts → AllPairs IsExact (sized len size parts) fronts → AllPairs has parts fronts
+  there_sized len size [] [] h k = tt
+  there_sized len size [] (y ∷ ys) h k = absurd h
+  there_sized len size (p ∷ []) [] h k = absurd h
+  there_sized len size (p ∷ []) (y ∷ []) h k = (has_front (p, len) y h.0 k.0, tt)
+  there_sized len size (p ∷ []) (y ∷ z ∷ ys) h k = absurd h.1
+  there_sized len size (p ∷ n ∷ ps) [] h k = absurd h
+  there_sized len size (p ∷ n ∷ ps) (y ∷ ys) h k = (has_front (p, size) y h.0 k.0, there_sized (len - size) size (n ∷ ps) ys h.1 k.1)
+
+full_sized : (len size : ℕ) (parts : List BlobName) (fronts : List Bytes) → AllPairs IsExact (sized len size parts) fronts → AreFull size fronts
+full_sized len size [] [] k = tt
+full_sized len size [] (y ∷ ys) k = absurd k
+full_sized len size (p ∷ []) [] k = absurd k
+full_sized len size (p ∷ []) (y ∷ []) k = tt
+full_sized len size (p ∷ []) (y ∷ z ∷ ys) k = absurd k.1
+full_sized len size (p ∷ n ∷ ps) [] k = absurd k
+full_sized len size (p ∷ n ∷ ps) (y ∷ []) k = tt
+full_sized len size (p ∷ n ∷ ps) (y ∷ z ∷ ys) k = (k.0, full_sized (len - size) size (n ∷ ps) (z ∷ ys) k.1)
+
+same_concat : (xs : List Bytes) → image.concat xs ≡ concat xs
+same_concat [] = refl
+same_concat (x ∷ xs) = ap (λ (l : Bytes). x ++ l) (same_concat xs)
+
+-- the file stands as it was read
+stands : (s : Start) (q : Reader) (at : ShardId) (e : CodeEntry) (fronts : List Bytes) → AreFronts (WasRead q.read) at.index.number at.number (entry_of e) fronts → AreExact at.index.number at.number (entry_of e) fronts
+    → e.print ≡ print_of (concat fronts) → FileStands (formats_of s) (WasRead q.read) at.index.number at.number (entry_of e) (concat fronts)
+unfolding formats
+stands s q at e fronts read exact print = record {
+  parts = fronts;
+  there = there_sized (WasRead q.read) e.print.len e.part_size (part_names at.index.number at.number (entry_of e)) fronts read exact;
+  full = full_sized e.print.len e.part_size (part_names at.index.number at.number (entry_of e)) fronts exact;
+  joined = same_concat fronts;
+  len = sym (ap (λ (p : Print). p.len) print);
+  digest = sym (ap (λ (p : Print). p.sha256) print);
+}
+
+-- ---- the file joins the target
+
+ended : (files : Option (List (Bytes × Bytes))) (name bytes : Bytes) (room : ℕ) → with_ended files (option_map (more bytes) (Some (begun_file name files room))) ≡ option_map (λ fs. fs ++ (name, bytes) ∷ []) files
+ended None name bytes room = refl
+ended (Some fs) name bytes room = refl
+
+pub restored_file : (s : Start) (q : Reader) (hasher : Hasher) (begun_old begun_new : Option Begun) (at : ShardId) (e : CodeEntry) (found : Print) (exact : Bool) (files mid files_new : Option (List (Bytes × Bytes)))
+    → ReadParts s q hasher begun_old begun_new at e exact → ((m : List ℕ) → HasFed hasher m → found ≡ print_of m) → e.print ≡ found → exact ≡ true
+    → begun_old ≡ Some (begun_file e.physical files e.print.len) → mid ≡ files → files_new ≡ with_ended mid begun_new → RestoredFile s q at e files files_new
+restored_file s q hasher begun_old begun_new at e found exact files mid files_new read hashed same whole was kept added =
+    let bytes = concat read.fronts in
+    record {
+      bytes = bytes;
+      stands = (refl, λ tells. stands s q at e read.fronts (read.read tells) (read.whole whole) (same ∙ hashed bytes read.fed));
+      added =
+          added
+          ∙ ap (λ (o : Option (List (Bytes × Bytes))). with_ended o begun_new) kept
+          ∙ ap (λ (o : Option Begun). with_ended files o) (read.grew whole ∙ ap (λ (o : Option Begun). option_map (more bytes) o) was)
+          ∙ ended files e.physical bytes e.print.len;
+    }
+
+-- ---- what is wrong with it
+
+module _ (s : Start) (log : List Moment) (who : ℕ) (hasher : Hasher) (begun_old begun_new : Option Begun) (at : ShardId) (uuid : Id) (e : CodeEntry) (found : Print) (exact : Bool)
+    (is_at : IsAt (reader_of s log who) at.index.number at.number uuid.number) (listed : IsListed s (reader_of s log who) e) (read : ReadParts s (reader_of s log who) hasher begun_old begun_new at e exact)
+    (hashed : (m : List ℕ) → HasFed hasher m → found ≡ print_of m) where
+  fronts_own : s.tells ≡ true → AreFronts (WasRead (reader_of s log who).read) (reader_of s log who).index (reader_of s log who).number (entry_of e) read.fronts
+  fronts_own tells =
+      subst (λ (i : ℕ). AreFronts (WasRead (reader_of s log who).read) i (reader_of s log who).number (entry_of e) read.fronts) (sym is_at.index_is)
+      (subst (λ (n : ℕ). AreFronts (WasRead (reader_of s log who).read) at.index.number n (entry_of e) read.fronts) (sym is_at.number_is) (read.read tells))
+
+  has_read : HasReadFile s (reader_of s log who) (File at.index.number at.number e.name.number) read.fronts
+  has_read = record {
+    snap = listed.snap;
+    snap_read = listed.snap_read;
+    e = entry_of e;
+    listed = listed.listed;
+    name_is = ap (λ (i : ℕ). File i at.number e.name.number) (sym is_at.index_is) ∙ ap (λ (n : ℕ). File (reader_of s log who).index n e.name.number) (sym is_at.number_is);
+    read = fronts_own;
+  }
+
+  same_print : (a b : Print) → a.len ≡ b.len → a.sha256 ≡ b.sha256 → a ≡ b
+  same_print a b len digest =
+      let made : ℕ → List ℕ → Print = λ len sha256. record { len = len; sha256 = sha256 } in
+      ap (λ (n : ℕ). made n a.sha256) len ∙ ap (λ (d : List ℕ). made b.len d) digest
+
+  misprinted : (e.print ≡ found → ⊥) → IsMisprinted s (reader_of s log who) (File at.index.number at.number e.name.number) e.print.len e.print.sha256 found.len found.sha256
+  unfolding formats has_read
+  misprinted differ = record {
+    fronts = read.fronts;
+    file = has_read;
+    stated_len_is = refl;
+    stated_digest_is = refl;
+    found_len_is = ap (λ (p : Print). p.len) (hashed (concat read.fronts) read.fed);
+    found_digest_is = ap (λ (p : Print). p.sha256) (hashed (concat read.fronts) read.fed);
+    differ = λ len digest. differ (same_print e.print found len digest);
+  }
+
+  miscut : exact ≡ false → IsMiscut s (reader_of s log who) (File at.index.number at.number e.name.number) (ShardSnap at.index.number at.number uuid.number)
+  unfolding has_read
+  miscut short = record {
+    fronts = read.fronts;
+    file = has_read;
+    other_is = snap_is (reader_of s log who) at.index.number at.number uuid.number is_at;
+    cut = λ exactly. read.other short
+        (subst (λ (n : ℕ). AreExact at.index.number n (entry_of e) read.fronts) is_at.number_is (subst (λ (i : ℕ). AreExact i (reader_of s log who).number (entry_of e) read.fronts) is_at.index_is exactly));
+  }
+
+  found_by : (why : Why) → IsOther at e found why ⊎ IsCutOtherwise at uuid e found exact why → IsFound s log who why
+  found_by why (inl other) = subst (λ (w : Why). IsFound s log who w) (sym other.0) (misprinted other.1)
+  found_by why (inr cut) = subst (λ (w : Why). IsFound s log who w) (sym cut.0) (miscut cut.2)
+
+  pub judged_so : (judged : Option Why) (why : Why) → Judged at uuid e found exact judged → judged ≡ Some why → IsFound s log who why
+  judged_so None why h is = absurd cc
+  judged_so (Some other) why h is = let same : other ≡ why = cc in subst (λ (w : Why). IsFound s log who w) same (found_by other h)
+
+pub judged_well : (at : ShardId) (uuid : Id) (e : CodeEntry) (found : Print) (exact : Bool) (judged : Option Why) → Judged at uuid e found exact judged → judged ≡ None → (e.print ≡ found) × (exact ≡ true)
+judged_well at uuid e found exact None h is = h
+judged_well at uuid e found exact (Some why) h is = absurd cc

@@ -1,0 +1,31 @@
+use Rattle.std.proofs.Common.{◌∙◌}
+use Rattle.esr_reading.specs.Readers.{reader_of}
+use Rattle.esr_restore.proofs.Going.{went_none, went_at}
+use Rattle.esr_restore.proofs.Reading.{listed_more}
+use Rattle.esr_restore.proofs.Standing.{judged_so, judged_well, restored_file}
+use Rattle.esr_restore.proofs.file.restore_file.Goals as goal
+
+pub returns-in_err-begin_file-clause-went : goal.returns-in_err-begin_file-clause-went
+returns-in_err-begin_file-clause-went g c = went_none g.Q.Desk.start (g.Q.Desk.seen c.args.desk.now) c.args.ticket
+
+pub returns-in-Some-clause-trouble : goal.returns-in-Some-clause-trouble
+returns-in-Some-clause-trouble g c =
+    let s = g.Q.Desk.start in
+    let who = c.args.ticket in
+    let old = g.Q.Desk.seen c.args.desk.now in
+    let new = g.Q.Desk.seen c.read_parts.new.desk in
+    let done = c.in_ok-is_exact.ensures in
+    judged_so s new who c.read_parts.new.hasher (g.Q.Target.Target.begun c.begin_file.new.target) (g.Q.Target.Target.begun c.read_parts.new.target) c.args.at c.args.uuid c.args.entry.now c.end.result c.in_ok-is_exact.is_exact
+    (went_at s old new who c.args.at.index.number c.args.at.number c.args.uuid.number done.went c.requires.at)
+    (listed_more s (reader_of s old who) (reader_of s new who) c.args.entry.now done.went.worked c.requires.listed)
+    done.read c.end.ensures.joined c.judge.result c.in-Some.why c.judge.ensures c.in-Some.is
+
+pub returns-in-Ok-clause-restored : goal.returns-in-Ok-clause-restored
+returns-in-Ok-clause-restored g c =
+    let s = g.Q.Desk.start in
+    let who = c.args.ticket in
+    let e = c.args.entry.now in
+    let well = judged_well c.args.at c.args.uuid e c.end.result c.in_ok-is_exact.is_exact c.judge.result c.judge.ensures c.in_default.is in
+    restored_file s (reader_of s (g.Q.Desk.seen c.read_parts.new.desk) who) c.read_parts.new.hasher (g.Q.Target.Target.begun c.begin_file.new.target) (g.Q.Target.Target.begun c.read_parts.new.target) c.args.at e c.end.result c.in_ok-is_exact.is_exact
+    (g.Q.Target.Target.files c.args.target.now) (g.Q.Target.Target.files c.read_parts.new.target) (g.Q.Target.Target.files c.end-2.new.self)
+    c.in_ok-is_exact.ensures.read c.end.ensures.joined well.0 well.1 c.in_ok-begin_file.ensures.begun (c.read_parts.ensures.files ∙ c.begin_file.ensures.files) c.in-Ok.ensures.added

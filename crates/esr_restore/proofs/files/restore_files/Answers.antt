@@ -1,0 +1,69 @@
+use Rattle.std.proofs.Common.{◌∙◌, ◌≤◌, List, length, refl, subst}
+use Rattle.esr_shardidx.specs.declared.entry.FileEntry.{FileEntry as CodeEntry}
+use Rattle.esr_reading.specs.Readers.{reader_of}
+use Rattle.esr_restore.proofs.Going.{went_none, went_on}
+use Rattle.esr_restore.proofs.Reading.{snap_more}
+use Rattle.esr_restore.proofs.Listing.{entry_at, listed_at, files_none, next_free, files_next, files_all, at_same}
+use Rattle.esr_restore.proofs.files.restore_files.Goals as goal
+
+pub loop-entry-init : goal.loop-entry-init
+loop-entry-init g c = record {
+  holds = c.requires.mine;
+  buffer = refl;
+  begun = c.requires.none_begun;
+  made_for = refl;
+  is_sure = refl;
+  went = went_none g.Q.Desk.start (g.Q.Desk.seen c.args.desk.now) c.args.ticket;
+  first = files_none g.Q.Desk.start (reader_of g.Q.Desk.start (g.Q.Desk.seen c.args.desk.now) c.args.ticket) c.args.at c.args.snap.now.files (g.Q.Target.Target.files c.args.target.now) c.requires.empty;
+}
+
+pub restore_file-requires-clause-entry : goal.restore_file-requires-clause-entry
+restore_file-requires-clause-entry g c κs within =
+    let here = at_same c.files-entry-items.result.now c.args.snap.now.files c.loop-entry.entry-index c.entry-item.result c.files-entry-items.ensures.files c.loop-entry-test.true c.entry-item.is in
+    entry_at c.args.snap.now c.loop-entry.entry-index c.entry-item.result c.files-entry-items.ensures.whole here.0 here.1
+
+pub restore_file-requires-clause-listed : goal.restore_file-requires-clause-listed
+restore_file-requires-clause-listed g c κs within =
+    let s = g.Q.Desk.start in
+    let who = c.args.ticket in
+    let old = reader_of s (g.Q.Desk.seen c.args.desk.now) who in
+    let now = reader_of s (g.Q.Desk.seen c.loop-entry.desk) who in
+    let here = at_same c.files-entry-items.result.now c.args.snap.now.files c.loop-entry.entry-index c.entry-item.result c.files-entry-items.ensures.files c.loop-entry-test.true c.entry-item.is in
+    listed_at s now c.args.snap.now c.loop-entry.entry-index c.entry-item.result (snap_more s old now c.args.snap.now c.loop-entry.invariant.went.worked c.requires.snap) here.0 here.1
+
+pub restore_file-requires-clause-free : goal.restore_file-requires-clause-free
+restore_file-requires-clause-free g c κs within =
+    let s = g.Q.Desk.start in
+    let here = at_same c.files-entry-items.result.now c.args.snap.now.files c.loop-entry.entry-index c.entry-item.result c.files-entry-items.ensures.files c.loop-entry-test.true c.entry-item.is in
+    next_free s (reader_of s (g.Q.Desk.seen c.loop-entry.desk) c.args.ticket) c.args.at c.args.snap.now c.loop-entry.entry-index c.entry-item.result (g.Q.Target.Target.files c.args.target.now) (g.Q.Target.Target.files c.loop-entry.target)
+    c.files-entry-items.ensures.whole here.0 here.1 c.loop-entry.invariant.first
+
+pub returns-in_err-restore_file-clause-went : goal.returns-in_err-restore_file-clause-went
+returns-in_err-restore_file-clause-went g c = went_on g.Q.Desk.start (g.Q.Desk.seen c.args.desk.now) (g.Q.Desk.seen c.loop-entry.desk) (g.Q.Desk.seen c.restore_file.new.desk) c.args.ticket c.loop-entry.invariant.went c.restore_file.ensures.went
+
+pub loop-entry-preserved : goal.loop-entry-preserved
+loop-entry-preserved g c =
+    let s = g.Q.Desk.start in
+    let who = c.args.ticket in
+    let inv = c.loop-entry.invariant in
+    let done = c.in_ok-restore_file.ensures in
+    let mid = g.Q.Desk.seen c.loop-entry.desk in
+    let new = g.Q.Desk.seen c.restore_file.new.desk in
+    let here = at_same c.files-entry-items.result.now c.args.snap.now.files c.loop-entry.entry-index c.entry-item.result c.files-entry-items.ensures.files c.loop-entry-test.true c.entry-item.is in
+    record {
+      holds = done.holds;
+      buffer = done.buffer ∙ inv.buffer;
+      begun = done.begun;
+      made_for = done.made_for ∙ inv.made_for;
+      is_sure = done.is_sure ∙ inv.is_sure;
+      went = went_on s (g.Q.Desk.seen c.args.desk.now) mid new who inv.went done.went;
+      first = files_next s (reader_of s mid who) (reader_of s new who) c.args.at c.args.snap.now.files c.loop-entry.entry-index c.entry-item.result (g.Q.Target.Target.files c.args.target.now) (g.Q.Target.Target.files c.loop-entry.target)
+          (g.Q.Target.Target.files c.restore_file.new.target) done.went.worked here.0 here.1 inv.first done.restored;
+    }
+
+pub returns-clause-restored : goal.returns-clause-restored
+returns-clause-restored g c =
+    let s = g.Q.Desk.start in
+    let all : length c.files-entry-items.result.now ≤ c.loop-entry.entry-index = c.loop-entry-test.false in
+    let le = subst (λ (l : List CodeEntry). length l ≤ c.loop-entry.entry-index) c.files-entry-items.ensures.files all in
+    files_all s (reader_of s (g.Q.Desk.seen c.loop-entry.desk) c.args.ticket) c.args.at c.args.snap.now.files c.loop-entry.entry-index (g.Q.Target.Target.files c.args.target.now) (g.Q.Target.Target.files c.loop-entry.target) le c.loop-entry.invariant.first

@@ -1,0 +1,17 @@
+use Rattle.std.proofs.Common.{◌≡◌, length, None}
+use Rattle.esr_reading.specs.Readers.{reader_of}
+use Rattle.esr_restore.specs.Went.{Went}
+use Rattle.esr_restore.proofs.Listing.{FirstFiles}
+use Rattle.esr_restore.proofs.files.restore_files.Given as goal
+
+abbrev pub invariant-loop-entry : goal.invariant-loop-entry
+invariant-loop-entry g l =
+    record {
+      holds : g.Q.Desk.holds l.desk l.ticket;
+      buffer : length l.buf ≡ length l.fn.buf;
+      begun : g.Q.Target.Target.begun l.target ≡ None;
+      made_for : g.Q.Target.Target.made_for l.target ≡ g.Q.Target.Target.made_for l.fn.target;
+      is_sure : g.Q.Target.Target.is_sure l.target ≡ g.Q.Target.Target.is_sure l.fn.target;
+      went : Went g.Q.Desk.start (g.Q.Desk.seen l.fn.desk) (g.Q.Desk.seen l.desk) l.ticket;
+      first : FirstFiles g.Q.Desk.start (reader_of g.Q.Desk.start (g.Q.Desk.seen l.desk) l.ticket) l.at l.snap.files l.entry-index (g.Q.Target.Target.files l.fn.target) (g.Q.Target.Target.files l.target);
+    }

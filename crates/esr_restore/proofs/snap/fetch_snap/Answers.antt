@@ -1,0 +1,14 @@
+use Rattle.std.proofs.Common.{◌≡◌, Some, subst}
+use Rattle.esr_model.specs.Values.{Bytes}
+use Rattle.esr_formats.specs.Shards.{shard_snap_of, shard_snap_kind}
+use Rattle.esr_reading.specs.Readers.{reader_of}
+use Rattle.esr_restore.proofs.Reading.{has_snap}
+use Rattle.esr_restore.proofs.snap.fetch_snap.Goals as goal
+
+pub returns-in-Ok-clause-snap : goal.returns-in-Ok-clause-snap
+returns-in-Ok-clause-snap g c =
+    let s = g.Q.Desk.start in
+    let who = c.args.ticket in
+    let value = shard_snap_of c.in-Ok.snap in
+    has_snap s (reader_of s (g.Q.Desk.seen c.args.desk.now) who) (reader_of s (g.Q.Desk.seen c.fetch_bytes.new.desk) who) c.args.at.index.number c.args.at.number c.args.uuid.number c.in_ok-bytes.bytes c.in-Ok.snap
+    c.requires.at c.in_ok-bytes.ensures.fetched (subst (λ (b : Bytes). shard_snap_kind.read b ≡ Some value) c.as_slice.ensures c.in-Ok.ensures.read)

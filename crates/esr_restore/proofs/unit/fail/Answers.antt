@@ -1,0 +1,57 @@
+use Rattle.std.proofs.Common.{◌∙◌, sym}
+use Rattle.esr_core.specs.Entry.{ReadFails, HasEnded}
+use Rattle.esr_desk.specs.Entries.{why_of}
+use Rattle.esr_desk.specs.Grew.{grew_by_none}
+use Rattle.esr_reading.specs.Readers.{reader_of}
+use Rattle.esr_restore.proofs.Going.{worked_none, worked_same, outcome_grew, step_refusal}
+use Rattle.esr_restore.proofs.Ending.{cause_shown, stopped, has_failed}
+use Rattle.esr_restore.proofs.unit.fail.Goals as goal
+
+pub unrestored-requires-clause-shown : goal.unrestored-requires-clause-shown
+unrestored-requires-clause-shown g c =
+    let s = g.Q.Desk.start in
+    cause_shown (record { fetch = g.Q.Fetch.Counted.faults; target = g.Q.Target.Counted.faults; made_for = g.Q.Target.Target.made_for }) s (g.Q.Desk.seen c.args.desk.now) c.args.ticket (g.Q.Target.Target.is_sure c.args.target) c.args.target c.args.trouble c.in-Ok.cause
+    c.requires.sure c.requires.of c.requires.trouble (sym c.cause_of.ensures ∙ c.in-Ok.is)
+
+pub returns-in-Ok-unrestored-clause-refused : goal.returns-in-Ok-unrestored-clause-refused
+returns-in-Ok-unrestored-clause-refused g c =
+    let s = g.Q.Desk.start in
+    let who = c.args.ticket in
+    let old = g.Q.Desk.seen c.args.desk.now in
+    let new = g.Q.Desk.seen c.unrestored.new.self in
+    let done = c.in-Ok-unrestored.ensures in (
+      (reader_of s old who, worked_none (reader_of s old who), done.own),
+      has_failed (record { fetch = g.Q.Fetch.Counted.faults; target = g.Q.Target.Counted.faults; made_for = g.Q.Target.Target.made_for }) s old new who c.in-Ok.cause.why c.in-Ok.cause.by
+          (cause_shown (record { fetch = g.Q.Fetch.Counted.faults; target = g.Q.Target.Counted.faults; made_for = g.Q.Target.Target.made_for }) s old who (g.Q.Target.Target.is_sure c.args.target) c.args.target c.args.trouble c.in-Ok.cause
+          c.requires.sure c.requires.of c.requires.trouble (sym c.cause_of.ensures ∙ c.in-Ok.is)) done.step,
+    )
+
+pub returns-in-Ok-unrestored-clause-grew : goal.returns-in-Ok-unrestored-clause-grew
+returns-in-Ok-unrestored-clause-grew g c =
+    outcome_grew g.Q.Desk.start (g.Q.Desk.seen c.args.desk.now) (g.Q.Desk.seen c.unrestored.new.self) c.args.ticket (ReadFails (why_of c.in-Ok.cause.why)) (λ x. HasEnded) c.unrestored.result c.unrestored.ensures.step
+
+pub returns-in-Err-unrestored-clause-refused : goal.returns-in-Err-unrestored-clause-refused
+returns-in-Err-unrestored-clause-refused g c =
+    let s = g.Q.Desk.start in
+    let who = c.args.ticket in
+    let old = g.Q.Desk.seen c.args.desk.now in
+    let new = g.Q.Desk.seen c.unrestored.new.self in (
+      worked_same (reader_of s old who) (reader_of s new who) c.in-Err-unrestored.ensures.kept,
+      step_refusal s old new who (ReadFails (why_of c.in-Ok.cause.why)) c.in-Err-unrestored.refusal c.in-Err-unrestored.ensures.step,
+    )
+
+pub returns-in-Err-unrestored-clause-grew : goal.returns-in-Err-unrestored-clause-grew
+returns-in-Err-unrestored-clause-grew g c =
+    outcome_grew g.Q.Desk.start (g.Q.Desk.seen c.args.desk.now) (g.Q.Desk.seen c.unrestored.new.self) c.args.ticket (ReadFails (why_of c.in-Ok.cause.why)) (λ x. HasEnded) c.unrestored.result c.unrestored.ensures.step
+
+pub returns-in-Err-clause-refused : goal.returns-in-Err-clause-refused
+returns-in-Err-clause-refused g c =
+    let s = g.Q.Desk.start in
+    let who = c.args.ticket in
+    let old = g.Q.Desk.seen c.args.desk.now in (
+      worked_none (reader_of s old who),
+      stopped g.Q.Fetch.Counted.faults (g.Q.Target.Counted.faults c.args.target) (g.Q.Target.Target.is_sure c.args.target) s old who c.args.target c.args.trouble c.in-Err.refusal c.requires.trouble (sym c.cause_of.ensures ∙ c.in-Err.is),
+    )
+
+pub returns-in-Err-clause-grew : goal.returns-in-Err-clause-grew
+returns-in-Err-clause-grew g c = grew_by_none g.Q.Desk.start c.args.ticket (g.Q.Desk.seen c.args.desk.now)

@@ -1,0 +1,24 @@
+use Rattle.esr_reading.specs.Readers.{reader_of}
+use Rattle.esr_restore.specs.Trouble.{Shown}
+use Rattle.esr_restore.proofs.Going.{passed, went_on}
+use Rattle.esr_restore.proofs.Reading.{snap_more}
+use Rattle.esr_restore.proofs.unit.restore.Goals as goal
+
+pub returns-in_err-snap-clause-trouble : goal.returns-in_err-snap-clause-trouble
+returns-in_err-snap-clause-trouble g c =
+    let s = g.Q.Desk.start in
+    let count = g.Q.Target.Counted.faults c.args.target.now in
+    let sure = g.Q.Target.Target.is_sure c.args.target.now in
+    passed c.from_residual.result (Shown g.Q.Fetch.Counted.faults count sure s (g.Q.Desk.seen c.fetch_snap.new.desk) c.args.ticket) c.in_err-snap.field-0.0 c.from_residual.ensures.1 (c.in_err-snap.ensures.trouble count sure)
+
+pub returns-in_err-restore_files-clause-went : goal.returns-in_err-restore_files-clause-went
+returns-in_err-restore_files-clause-went g c = went_on g.Q.Desk.start (g.Q.Desk.seen c.args.desk.now) (g.Q.Desk.seen c.fetch_snap.new.desk) (g.Q.Desk.seen c.restore_files.new.desk) c.args.ticket c.fetch_snap.ensures.went c.restore_files.ensures.went
+
+pub returns-clause-went : goal.returns-clause-went
+returns-clause-went g c = went_on g.Q.Desk.start (g.Q.Desk.seen c.args.desk.now) (g.Q.Desk.seen c.fetch_snap.new.desk) (g.Q.Desk.seen c.restore_files.new.desk) c.args.ticket c.fetch_snap.ensures.went c.restore_files.ensures.went
+
+pub returns-clause-snap : goal.returns-clause-snap
+returns-clause-snap g c =
+    let s = g.Q.Desk.start in
+    let who = c.args.ticket in
+    snap_more s (reader_of s (g.Q.Desk.seen c.fetch_snap.new.desk) who) (reader_of s (g.Q.Desk.seen c.restore_files.new.desk) who) c.in_ok-snap.snap c.restore_files.ensures.went.worked c.in_ok-snap.ensures.snap

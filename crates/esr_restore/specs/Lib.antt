@@ -1,0 +1,9 @@
+pub mod Worked
+pub mod Went
+pub mod Snapped
+pub mod Trouble
+pub mod Cause
+pub mod Parts
+pub mod Files
+pub mod Restored
+pub mod Refused

@@ -1,0 +1,111 @@
+//! A file is restored.
+ghost use Rattle.std.specs.Prelude.{◌≡◌, ◌<◌, Some, None, map, length, Contains, IfErr, IfSome, OnOk};
+ghost use Rattle.esr_source.specs.Begun.{begun_file};
+ghost use Rattle.esr_shardidx.specs.Entries.{IsEntry};
+ghost use Rattle.esr_reading.specs.Readers.{reader_of};
+ghost use Rattle.esr_restore.specs.Files.{RestoredFile};
+ghost use Rattle.esr_restore.specs.Snapped.{IsAt, IsListed};
+ghost use Rattle.esr_restore.specs.Trouble.{Shown, IsOfStart, Judged};
+ghost use Rattle.esr_restore.specs.Went.{Went};
+
+use crate::part::read_parts;
+use crate::trouble::Trouble;
+use esr_depot::CallError;
+use esr_desk::{Desk, StepRefusal, Why};
+use esr_hash::{Hasher, Print};
+use esr_names::{BlobName, Id, ShardId};
+use esr_reading::RestoreDesk;
+use esr_shardidx::FileEntry;
+use esr_source::Target;
+use std::alloc::Global;
+
+/// Begins the file of an entry.
+fn begin_file<Q: RestoreDesk>(
+    alloc: Global,
+    target: &mut Q::Target,
+    entry: &FileEntry,
+) -> Result<(), Trouble<Q::Fetch>>
+    requires none_begun { Q.Target.begun target.old ≡ None }
+    requires free { IfSome (Q.Target.files target.old) (λ fs. Contains (map (λ f. f.0) fs) entry.now.physical → ⊥) }
+    ensures begun { OnOk result (Q.Target.begun target.new ≡ Some (begun_file entry.now.physical (Q.Target.files target.old) entry.now.print.len)) }
+    ensures files { Q.Target.files target.new ≡ Q.Target.files target.old }
+    ensures made_for { Q.Target.made_for target.new ≡ Q.Target.made_for target.old }
+    ensures is_sure { Q.Target.is_sure target.new ≡ Q.Target.is_sure target.old }
+    ensures trouble { IfErr result (IsOfStart (Q.Target.faults target.new) (Q.Target.is_sure target.new)) }
+{
+    match target.create(alloc, entry.physical.as_str(), entry.print.len) {
+        Ok(()) => Ok(()),
+        Err(CallError::Memory) => Err(Trouble::Step(StepRefusal::Memory)),
+        Err(CallError::Failed) => Err(Trouble::Target),
+    }
+}
+
+/// What is wrong with a file by the print of what was read, and by whether each part has the size that is stated.
+fn judge(at: ShardId, uuid: Id, entry: &FileEntry, found: Print, is_exact: bool) -> Option<Why>
+    ensures { Judged at uuid entry.now found is_exact result }
+{
+    let name = BlobName::Whole(at, entry.name);
+    let stated = entry.print;
+    if stated != found {
+        return Some(Why::Misprinted {
+            name,
+            stated,
+            found,
+        });
+    }
+    if is_exact {
+        return None;
+    }
+    let other = BlobName::ShardSnap(at, uuid);
+    Some(Why::Disagreeing { name, other })
+}
+
+/// Reads the file of an entry and writes it to the target, which it joins if it is as the entry states.
+pub fn restore_file<Q: RestoreDesk>(
+    alloc: Global,
+    desk: &mut Q,
+    ticket: u64,
+    at: ShardId,
+    uuid: Id,
+    entry: &FileEntry,
+    target: &mut Q::Target,
+    buf: &mut [u8],
+) -> Result<(), Trouble<Q::Fetch>>
+    requires mine { Q.holds desk.old ticket }
+    requires at { IsAt (reader_of Q.start (Q.seen desk.old) ticket) at.index.number at.number uuid.number }
+    requires few { at.number < 1024 }
+    requires entry { IsEntry entry.now }
+    requires listed { IsListed Q.start (reader_of Q.start (Q.seen desk.old) ticket) entry.now }
+    requires none_begun { Q.Target.begun target.old ≡ None }
+    requires free { IfSome (Q.Target.files target.old) (λ fs. Contains (map (λ f. f.0) fs) entry.now.physical → ⊥) }
+    requires buffer { 0 < length buf.old }
+    ensures buffer { length buf.new ≡ length buf.old }
+    ensures restored { OnOk result (RestoredFile Q.start (reader_of Q.start (Q.seen desk.new) ticket) at entry.now (Q.Target.files target.old) (Q.Target.files target.new)) }
+    ensures begun { OnOk result (Q.Target.begun target.new ≡ None) }
+    ensures made_for { Q.Target.made_for target.new ≡ Q.Target.made_for target.old }
+    ensures is_sure { Q.Target.is_sure target.new ≡ Q.Target.is_sure target.old }
+    ensures trouble { IfErr result (Shown Q.Fetch.faults (Q.Target.faults target.new) (Q.Target.is_sure target.new) Q.start (Q.seen desk.new) ticket) }
+    ensures went { Went Q.start (Q.seen desk.old) (Q.seen desk.new) ticket }
+    ensures holds { Q.holds desk.new ticket }
+{
+    begin_file::<Q>(alloc, target, entry)?;
+    let mut hasher = Hasher::start();
+    let is_exact = read_parts(
+        alloc,
+        desk,
+        ticket,
+        at,
+        uuid,
+        entry,
+        target,
+        &mut hasher,
+        buf,
+    )?;
+    if let Some(why) = judge(at, uuid, entry, hasher.end(), is_exact) {
+        return Err(Trouble::Found { why });
+    }
+    match target.end() {
+        Ok(()) => Ok(()),
+        Err(_) => Err(Trouble::Target),
+    }
+}

@@ -1,0 +1,58 @@
+//! The files of a shard, one after another.
+ghost use Rattle.std.specs.Prelude.{◌≡◌, ◌<◌, [], None, length, IfErr, IfSome, OnOk};
+ghost use Rattle.esr_restore.specs.Files.{sum_files, RestoredAll};
+ghost use Rattle.esr_reading.specs.Readers.{reader_of};
+ghost use Rattle.esr_restore.specs.Snapped.{IsAt, HasSnap};
+ghost use Rattle.esr_restore.specs.Trouble.{Shown};
+ghost use Rattle.esr_restore.specs.Went.{Went};
+
+use crate::file::restore_file;
+use crate::trouble::Trouble;
+use esr_desk::Desk;
+use esr_names::{Id, ShardId};
+use esr_reading::RestoreDesk;
+use esr_shardidx::{FileEntry, ShardSnap};
+use esr_source::Target;
+use std::alloc::Global;
+
+/// The sum of the files' lengths in bytes, at most 2^64 - 1.
+pub fn sum_of(entries: &[FileEntry]) -> u64
+    ensures { result ≡ sum_files entries.now }
+{
+    let mut sum: u64 = 0;
+    for entry in entries {
+        sum = sum.saturating_add(entry.print.len);
+    }
+    sum
+}
+
+/// Restores each file that the snapshot has of the shard.
+pub fn restore_files<Q: RestoreDesk>(
+    alloc: Global,
+    desk: &mut Q,
+    ticket: u64,
+    at: ShardId,
+    uuid: Id,
+    snap: &ShardSnap,
+    target: &mut Q::Target,
+    buf: &mut [u8],
+) -> Result<(), Trouble<Q::Fetch>>
+    requires mine { Q.holds desk.old ticket }
+    requires at { IsAt (reader_of Q.start (Q.seen desk.old) ticket) at.index.number at.number uuid.number }
+    requires few { at.number < 1024 }
+    requires snap { HasSnap Q.start (reader_of Q.start (Q.seen desk.old) ticket) snap.now }
+    requires none_begun { Q.Target.begun target.old ≡ None }
+    requires empty { IfSome (Q.Target.files target.old) (λ fs. fs ≡ []) }
+    requires buffer { 0 < length buf.old }
+    ensures restored { OnOk result (RestoredAll Q.start (reader_of Q.start (Q.seen desk.new) ticket) at snap.now.files (Q.Target.files target.old) (Q.Target.files target.new)) }
+    ensures made_for { Q.Target.made_for target.new ≡ Q.Target.made_for target.old }
+    ensures is_sure { Q.Target.is_sure target.new ≡ Q.Target.is_sure target.old }
+    ensures trouble { IfErr result (Shown Q.Fetch.faults (Q.Target.faults target.new) (Q.Target.is_sure target.new) Q.start (Q.seen desk.new) ticket) }
+    ensures went { Went Q.start (Q.seen desk.old) (Q.seen desk.new) ticket }
+    ensures holds { Q.holds desk.new ticket }
+{
+    for entry in snap.files() {
+        restore_file(alloc, desk, ticket, at, uuid, entry, target, buf)?;
+    }
+    Ok(())
+}
