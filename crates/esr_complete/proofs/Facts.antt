@@ -32,10 +32,11 @@ unfallen_rule : (command : Asked) (refusal : Refusal) → IsByRule command refus
 unfallen_rule (Snapshot name indices moment) (NameInUse uuid) rule = refl
 unfallen_rule (Snapshot name indices moment) (TooMany limit) rule = refl
 unfallen_rule (Snapshot name indices moment) refusal rule = absurd rule
-unfallen_rule (Restore name place) (NoSnapshot of) rule = refl
+unfallen_rule (Restore name place) (NoSnapshot at) rule = refl
 unfallen_rule (Restore name place) (BeingDeleted op) rule = refl
 unfallen_rule (Restore name place) (TooMany limit) rule = refl
 unfallen_rule (Restore name place) refusal rule = absurd rule
+unfallen_rule command refusal rule = absurd rule
 
 unfallen_by : (step : Step) (reply : entry.Reply) → IsCalm reply step → fails_swap step reply ≡ false
 unfallen_by (AskStep command) (entry.Refused refusal) calm = unfallen_rule command refusal calm

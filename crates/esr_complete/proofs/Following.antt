@@ -6,7 +6,7 @@ use Rattle.esr_model.specs.Values.{Has, SnapInfo, ShardResult}
 use Rattle.esr_model.specs.Shelf.{Shelved}
 use Rattle.esr_core.specs.World.{World, Op, Deletion, Finalize, Drop, Ticket}
 use Rattle.esr_core.specs.Ready.{Goes}
-use Rattle.esr_core.specs.Entry.{Snapshot, Restore, Given, Step, AskStep, TakeStep, SettleStep, LookStep, Reply, Accepted, Gave, WasSettled, Looked, Refused, Entry}
+use Rattle.esr_core.specs.Entry.{Snapshot, Given, Step, AskStep, TakeStep, SettleStep, LookStep, Reply, Accepted, Gave, WasSettled, Looked, Refused, Entry}
 use Rattle.esr_report.specs.Replies.{op_by, op_of_ticket, uuid_of_unit, uuid_by, uuid_of_ticket}
 use Rattle.esr_core.proofs.Besides.{Aside}
 use Rattle.esr_core.proofs.Reading.{Has-left, Has-append}
@@ -18,7 +18,7 @@ abbrev pub IsSaid : Step → Reply → Type 0
 IsSaid (AskStep (Snapshot name indices moment)) (Accepted op) = Unit {0}
 IsSaid (AskStep (Snapshot name indices moment)) (Refused refusal) = Unit {0}
 IsSaid (AskStep (Snapshot name indices moment)) reply = ⊥
-IsSaid (AskStep (Restore name place)) reply = Unit {0}
+IsSaid (AskStep command) reply = Unit {0}
 IsSaid LookStep (Looked snapshots safe) = Unit {0}
 IsSaid LookStep reply = ⊥
 IsSaid step reply = Unit {0}

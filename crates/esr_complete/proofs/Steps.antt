@@ -8,7 +8,7 @@ use Rattle.esr_model.specs.Image.{Image}
 use Rattle.esr_core.specs.World.{World, Op, ShardWork, Done, Shard, Finalize, Drop, Ticket, RestoreShard, Restoring, marked, info_of, shelved_of}
 use Rattle.esr_core.specs.Ready.{Goes, Stopped, ReadyDrop}
 use Rattle.esr_core.specs.Steps.{shard_ticket, final_ticket, given}
-use Rattle.esr_core.specs.Entry.{AskedIndex, Snapshot, Restore, Given, GivenShard, GivenFinalize, GivenDrop, GivenRestore, Read, ReadBlob, RestoredShard, CheckedAll, DrawTest, BeginTest, CommitTest, RemoveTests, VerifiedAll, ReadFails, Step, AskStep, TakeStep, DrawStep, BeginStep, CommitStep, LatestStep, FetchStep, ListStep, RaiseStep, SettleStep, DoneStep, FinishStep, ElectStep, LookStep, ReadStep, NameInUse, TooMany, NoSnapshot, BeingDeleted, Reply, Accepted, NothingReady, Gave, DrawnFrom, WasBegun, WasDone, WasThere, WasReplaced, WasFetched, WasAbsent, WasListed, RaisedTo, WasSettled, HasEnded, ElectedTerm, Looked, Refused, WasRemoved, AcceptedRestore, Entry, Moment}
+use Rattle.esr_core.specs.Entry.{AskedIndex, Snapshot, Restore, Given, GivenShard, GivenFinalize, GivenDrop, GivenRestore, GivenClone, GivenDelete, GivenCleanup, Read, ReadBlob, RestoredShard, CheckedAll, DrawTest, BeginTest, CommitTest, RemoveTests, VerifiedAll, ReadFails, Step, AskStep, TakeStep, DrawStep, BeginStep, CommitStep, LatestStep, FetchStep, ListStep, RaiseStep, SettleStep, DoneStep, FinishStep, ElectStep, LookStep, ReadStep, NameInUse, TooMany, NoSnapshot, BeingDeleted, Reply, Accepted, NothingReady, Gave, DrawnFrom, WasBegun, WasDone, WasThere, WasReplaced, WasFetched, WasAbsent, WasListed, RaisedTo, WasSettled, HasEnded, ElectedTerm, Looked, Refused, WasRemoved, AcceptedRestore, Entry, Moment}
 use Rattle.esr_core.specs.After.{asked, asked_op, taken_by, taken_shard, taken_restore, taken_restore_shard, read_by, with_given, change, committing, fetching, told_blob, settled_of, done_of, done_by, after}
 use Rattle.esr_core.specs.Allowed as allowed
 use Rattle.esr_core.specs.Allowed.{Accepts, Gives, GivesShard, GivesFinalize, GivesRestore, Settles, Dones, RestoreAllows, OpeningRestore, NotListed, NamedByDelete, FullOfRestores, ReadAllows, ReadFound, ReadMissing, ReadFault, RestoringShard, ReaderFailing, CheckingAll, CheckFailing, VerifyAllows, DrawingTest, TestSpent, BeginningTest, BeginTestFails, CommittingTest, TestTaken, CommitTestFails, RemovingTests, RemoveTestsFails, VerifyingAll, VerifyFailing, Allows, Allowed}
@@ -117,6 +117,9 @@ module _ (f : Formats) (size : ℕ) (w : World) (es : List Entry) (h : FollowsIn
   gives o (GivenFinalize info results) g = gives_final o info results g
   gives o GivenDrop g = absurd (no_drop o g)
   gives o (GivenRestore index number uuid) g = gives_restore o index number uuid g
+  gives o (GivenClone index number source base) g = absurd g
+  gives o (GivenDelete uuids) g = absurd g
+  gives o GivenCleanup g = absurd g
 
   gives_as : (k o : ℕ) (unit : Given) → k ≡ w.next_ticket → Gives f w o unit → FollowsIn (taken_by f w o unit (fin.get w.ops o)) (es ++ gave k o unit ∷ [])
   gives_as k o unit is g = subst (λ (j : ℕ). FollowsIn (taken_by f w o unit (fin.get w.ops o)) (es ++ gave j o unit ∷ [])) (sym is) (gives o unit g)
@@ -174,7 +177,7 @@ module _ (f : Formats) (size : ℕ) (w : World) (es : List Entry) (h : FollowsIn
 
   asks_restore : (name place : Bytes) (reply : Reply) (image : Option Image) → RestoreAllows f w name reply image → FollowsIn (after f w (moment 0 (AskStep (Restore name place)) reply image)) (es ++ told 0 (AskStep (Restore name place)) reply ∷ [])
   asks_restore name place reply image (OpeningRestore o uuid indices im acc) = stays (told 0 (AskStep (Restore name place)) (AcceptedRestore o uuid indices)) tt tt
-  asks_restore name place reply image (NotListed im none) = stays (told 0 (AskStep (Restore name place)) (Refused (NoSnapshot name))) tt tt
+  asks_restore name place reply image (NotListed im none) = stays (told 0 (AskStep (Restore name place)) (Refused (NoSnapshot 0))) tt tt
   asks_restore name place reply image (NamedByDelete uuid d im listed named) = stays (told 0 (AskStep (Restore name place)) (Refused (BeingDeleted d))) tt tt
   asks_restore name place reply image (FullOfRestores uuid im listed spared full) = stays (told 0 (AskStep (Restore name place)) (Refused (TooMany 1000))) tt tt
 

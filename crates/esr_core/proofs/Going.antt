@@ -9,7 +9,7 @@ use Rattle.esr_model.specs.Image.{Image}
 use Rattle.esr_core.specs.World.{World, Op, ShardWork, Drop, Swap, Ticket, swap, record_of}
 use Rattle.esr_core.specs.Steps.{noting, with_ticket, shard_ticket, final_ticket}
 use Rattle.esr_core.specs.Turns.{plain_ticket}
-use Rattle.esr_core.specs.Entry.{Snapshot, Restore, Given, GivenShard, GivenFinalize, GivenDrop, GivenRestore, Step, AskStep, TakeStep, DrawStep, BeginStep, CommitStep, LatestStep, FetchStep, RaiseStep, SettleStep, DoneStep, FailedStep, FinishStep, DroppedStep, ElectStep, ReadStep, DepotFault, Reply, Gave, WasDone, WasThere, WasFetched, HasEnded, Refused}
+use Rattle.esr_core.specs.Entry.{Snapshot, Restore, Given, GivenShard, GivenFinalize, GivenDrop, GivenRestore, Step, AskStep, TakeStep, DrawStep, BeginStep, CommitStep, LatestStep, FetchStep, RaiseStep, SettleStep, DoneStep, FailedStep, FinishStep, DroppedStep, ElectStep, ReadStep, DepotFault, Reply, Gave, WasDone, WasThere, WasFetched, HasEnded, Refused, Clone, DeleteSnapshots, Cleanup}
 use Rattle.esr_core.specs.After.{asked_op, taken_shard, taken_by, shard_of, with_given, committing, told_blob, fetching, settled_by, settled_of, done_by, done_of, is_stale, failed_by, failed_of, dropped_of, done_step, has_text, fallen, is_latest, tried, faulted, answered}
 use Rattle.esr_core.proofs.Queues.{was_in, left_in}
 
@@ -76,6 +76,7 @@ IsOldUnit (GivenShard index number base) = Unit {0}
 IsOldUnit (GivenFinalize info results) = Unit {0}
 IsOldUnit GivenDrop = Unit {0}
 IsOldUnit (GivenRestore index number uuid) = ⊥
+IsOldUnit unit = Unit {0}
 
 abbrev pub IsOld : Step → Reply → Type 0
 IsOld (AskStep (Restore name place)) reply = ⊥
@@ -90,6 +91,7 @@ goes_taken f w o (GivenFinalize info results) (Some op) old is = goes_new w (fin
 goes_taken f w o (GivenFinalize info results) None old is = goes_same w
 goes_taken f w o GivenDrop op old is = goes_new w (plain_ticket w o Drop) w.ops (as_was w.ops w.next_op)
 goes_taken f w o (GivenRestore index number uuid) op old is = absurd old
+goes_taken f w o unit op old is = goes_same w
 
 goes_settled_by : (f : Formats) (w : World) (k : ℕ) (t : Ticket) (s : Option Swap) (n : Option ℕ) → fin.get w.tickets k ≡ Some t → Goes w (settled_by f w k t s n)
 goes_settled_by f w k t (Some s) (Some n) is =
@@ -158,6 +160,9 @@ goes_fault : (f : Formats) (w : World) (room : w.next_id ≤ first_id (suc w.ter
 goes_fault f w room k LatestStep image old = goes_change w k (λ t. record t { tried_latest = true }) (fin.get w.tickets k) refl
 goes_fault f w room k (BeginStep name) image old = goes_either w (tried w k) w (is_latest name) (goes_change w k (λ t. record t { tried_latest = true }) (fin.get w.tickets k) refl) (goes_same w)
 goes_fault f w room k (AskStep (Snapshot name indices moment)) image old = goes_fallen f w _ image (goes_step f w room k (AskStep (Snapshot name indices moment)) HasEnded image tt)
+goes_fault f w room k (AskStep (Clone source name indices moment)) image old = goes_fallen f w w image (goes_same w)
+goes_fault f w room k (AskStep (DeleteSnapshots names)) image old = goes_fallen f w w image (goes_same w)
+goes_fault f w room k (AskStep Cleanup) image old = goes_fallen f w w image (goes_same w)
 goes_fault f w room k RaiseStep image old = goes_fallen f w _ image (goes_step f w room k RaiseStep HasEnded image tt)
 goes_fault f w room k SettleStep image old = goes_fallen f w _ image (goes_step f w room k SettleStep HasEnded image tt)
 goes_fault f w room k DroppedStep image old = goes_fallen f w _ image (goes_step f w room k DroppedStep HasEnded image tt)

@@ -59,6 +59,9 @@ left_safe w name (Some was) now = refl
 fault_safe : (f : Formats) (w : World) (k : ℕ) (step : Step) (image : Option Image) → is_settle step ≡ false → (faulted f w k step image).safe ≡ w.safe
 fault_safe f w k (AskStep (Snapshot name indices time)) image e =
     let up : World = asked w (Snapshot name indices time) in either_safe w up (has_text image (f.cluster.text (record_of up))) refl
+fault_safe f w k (AskStep (entry.Clone source name indices time)) image e = either_safe w w (has_text image (f.cluster.text (record_of w))) refl
+fault_safe f w k (AskStep (entry.DeleteSnapshots names)) image e = either_safe w w (has_text image (f.cluster.text (record_of w))) refl
+fault_safe f w k (AskStep entry.Cleanup) image e = either_safe w w (has_text image (f.cluster.text (record_of w))) refl
 fault_safe f w k RaiseStep image e =
     let up : World = raised w k in either_safe w up (has_text image (f.cluster.text (record_of up))) (given_safe w k (λ t. record t { raised = Some w.pending }) (fin.get w.tickets k))
 fault_safe f w k SettleStep image e = absurd (true≢false e)

@@ -52,6 +52,7 @@ pub mod Exists
 pub mod Determined
 pub mod Storing
 pub mod Accepting
+pub mod ListedInfo
 pub mod Moments
 pub mod Histories
 pub mod Left

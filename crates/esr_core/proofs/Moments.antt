@@ -15,7 +15,8 @@ use Rattle.esr_core.specs.Ready.{IsShard, IsMaster}
 use Rattle.esr_core.specs.Restores.{IsReading, ListsPiece, waits, restore_opened, shard_ended}
 use Rattle.esr_core.specs.Steps.{IsOut, PutsLatest, Raise, with_ticket, noting, settled, Removes}
 use Rattle.esr_core.specs.Ids.{Law}
-use Rattle.esr_core.specs.Entry.{Asked, Snapshot, Given, GivenShard, GivenFinalize, GivenDrop, Why, Step, AskStep, TakeStep, DrawStep, BeginStep, CommitStep, LatestStep, FetchStep, ListStep, RaiseStep, SettleStep, DoneStep, FailedStep, FinishStep, DroppedStep, ElectStep, LookStep, Refusal, DepotFault, Reply, WasSettled, HasEnded, Refused, Entry, Moment, Restore, Read, ReadBlob, RestoredShard, CheckedAll, ReadFails, ReadStep, AcceptedRestore, GivenRestore, DrawTest, BeginTest, CommitTest, RemoveTests, VerifiedAll}
+use Rattle.esr_core.specs.Queue.{Lists}
+use Rattle.esr_core.specs.Entry.{Asked, Snapshot, Given, GivenShard, GivenFinalize, GivenDrop, Why, Step, AskStep, TakeStep, DrawStep, BeginStep, CommitStep, LatestStep, FetchStep, ListStep, RaiseStep, SettleStep, DoneStep, FailedStep, FinishStep, DroppedStep, ElectStep, LookStep, Refusal, DepotFault, Reply, WasSettled, HasEnded, Refused, Entry, Moment, Restore, Read, ReadBlob, RestoredShard, CheckedAll, ReadFails, ReadStep, AcceptedRestore, GivenRestore, DrawTest, BeginTest, CommitTest, RemoveTests, VerifiedAll, GivenClone, GivenDelete, GivenCleanup}
 use Rattle.esr_core.specs.After.{asked, asked_op, taken_by, taken_shard, with_given, change, committing, fetching, told_blob, settled_of, settled_by, failed_of, failed_by, is_stale, dropped_of, is_latest, tried, blobs_in, after, stepped, caller_after, read_told, read_over, shard_over, taken_restore, taken_restore_shard, test_left}
 use Rattle.esr_core.specs.Allowed as allowed
 use Rattle.esr_core.specs.Allowed.{latest_text, Told, SameBlobs, Adds, Accepts, Gives, GivesShard, GivesFinalize, Draws, Commits, Refinds, Puts, Raises, Settles, Fails, Finishes, Drops, Dones, Allows, MayRead, Fetcher, ByReader, ByCheck, RestoreAllows, OpeningRestore, NotListed, NamedByDelete, FullOfRestores, ReadAllows, ReadFound, ReadMissing, ReadFault, RestoringShard, ReaderFailing, CheckingAll, CheckFailing, ByVerify, IsOwnTest, MayRemoveTests, VerifyAllows, DrawingTest, TestSpent, BeginningTest, BeginTestFails, CommittingTest, TestTaken, CommitTestFails, RemovingTests, RemoveTestsFails, VerifyingAll, VerifyFailing}
@@ -25,6 +26,7 @@ use Rattle.esr_core.specs.Turns as turns
 use Rattle.esr_core.specs.Entry as entry
 use Rattle.esr_core.proofs.Maps.{get_same, texts_same}
 use Rattle.esr_core.proofs.Reading.{some_same}
+use Rattle.esr_core.proofs.ListedInfo.{made_info}
 
 -- the blobs after a step that leaves them
 blobs_same : (w : World) (image : Option Image) → SameBlobs w image → blobs_in image w.blobs ≡ w.blobs
@@ -115,6 +117,9 @@ module _ (f : Formats) (w : World) where
         root_back = g.root_back;
         new_is = λ j. record (taken_by f w o (GivenFinalize info results) (g.ready.op_there j)) { blobs = blobs_same w image same j };
       })) refl refl
+  gives_turn k o (GivenClone index number source base) image g same = absurd g
+  gives_turn k o (GivenDelete uuids) image g same = absurd g
+  gives_turn k o GivenCleanup image g same = absurd g
   gives_turn k o (GivenRestore index number uuid) image g same =
       plain f w 0 TakeStep (entry.Gave k o (GivenRestore index number uuid)) _
       (Besides _ w (Stays w refl) (HandsShard _ o g.r g.s (record {
@@ -331,15 +336,19 @@ module _ (f : Formats) (size : ℕ) (w : World) (shelf : List Shelved) (l : Law 
   -- a restore that is asked
   asks_restore : (name place : Bytes) (reply : Reply) (image : Option Image) → image ≡ Some i → RestoreAllows f w name reply image → SameBlobs w image → Turned f w 0 (AskStep (Restore name place)) reply (stepped f w (moment 0 (AskStep (Restore name place)) reply image))
   asks_restore name place reply image told (OpeningRestore o uuid indices im acc) same =
-      let info = of_told i im (λ blobs. (info : SnapInfo) × Reads (At f w.blobs) (Snap uuid) f.info info × (info.indices ≡ indices)) told acc.indices_of.told in
+      let listed : Lists w.root uuid = (acc.listed.0, acc.listed.1, acc.listed.3) in
+      let info : allowed.IsInInfo f w uuid indices = elim acc.indices_of.told [
+        | inl made ↦ made_info f w shelf l uuid indices listed made
+        | inr there ↦ of_told i im (λ blobs. allowed.IsInInfo f w uuid indices) told there
+      ] in
       plain f w 0 (AskStep (Restore name place)) (AcceptedRestore o uuid indices) _
       (Besides _ w (Stays w refl) (OpensRestore _ uuid place indices (record {
-        listed = (acc.listed.0, acc.listed.1, acc.listed.3);
+        listed = listed;
         spared = acc.spared;
         info = info.0;
         info_reads = info.1;
         indices_is = info.2;
-        apart = acc.indices_of.apart;
+        apart = acc.indices_of.within.apart;
         new_is = λ j. record (restore_opened w uuid place indices) { blobs = blobs_same w im same j };
       }))) refl refl
   asks_restore name place reply image told (NotListed im none) same = stays f w 0 (AskStep (Restore name place)) _ im same refl

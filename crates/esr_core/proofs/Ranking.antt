@@ -10,7 +10,7 @@ use Rattle.esr_model.specs.Image.{Image, Blobs}
 use Rattle.esr_core.specs.World.{World, Op, Work, Shard, Finalize, Deleting, Drop, Ticket, Swap, swap_of, opened}
 use Rattle.esr_core.specs.Ready.{IsMaster}
 use Rattle.esr_core.specs.Steps.{with_ticket}
-use Rattle.esr_core.specs.Entry.{Given, GivenShard, GivenFinalize, GivenDrop, Step, Reply, Moment, GivenRestore, Restore, AskStep, ReadStep, Read, ReadBlob, RestoredShard, ReadFails, WasFetched, WasAbsent, HasEnded}
+use Rattle.esr_core.specs.Entry.{Given, GivenShard, GivenFinalize, GivenDrop, Step, Reply, Moment, GivenRestore, Restore, AskStep, ReadStep, Read, ReadBlob, RestoredShard, ReadFails, WasFetched, WasAbsent, HasEnded, GivenClone, GivenDelete, GivenCleanup}
 use Rattle.esr_core.specs.After.{taken_by, taken_shard, with_given, change, committing, fetching, told_blob, done_of, done_by, failed_of, failed_by, is_stale, settled_of, dropped_of, tried, answered, blobs_in, after, test_left}
 use Rattle.esr_core.specs.Allowed as allowed
 use Rattle.esr_core.specs.Allowed.{Gives, Settles, Fails, Drops, Dones, Allows, Allowed, MayRaise, RestoreAllows, OpeningRestore, NotListed, NamedByDelete, FullOfRestores, ReadAllows, ReadFound, ReadMissing, ReadFault, RestoringShard, ReaderFailing, CheckingAll, CheckFailing, VerifyAllows, DrawingTest, TestSpent, BeginningTest, BeginTestFails, CommittingTest, TestTaken, CommitTestFails, RemovingTests, RemoveTestsFails, VerifyingAll, VerifyFailing}
@@ -155,6 +155,9 @@ module _ (f : Formats) (size : ℕ) (w : World) (q : Tracked w) (l : Ranked w) w
       (ranks_raise w.safe w.pending w.term w.tickets l k m.t m.out.there (swap_master f m.t.work m.t.root m.s m.is))
 
   gives : (o : ℕ) (unit : Given) → Gives f w o unit → Ranked (taken_by f w o unit (fin.get w.ops o))
+  gives o (GivenClone index number source base) g = absurd g
+  gives o (GivenDelete uuids) g = absurd g
+  gives o GivenCleanup g = absurd g
   gives o (GivenRestore index number uuid) g = kept_aside Ranked w _ (aside_taken w o index number (fin.get w.restores o)) l
   gives o (GivenShard index number base) g =
       subst (λ x. Ranked (taken_by f w o (GivenShard index number base) x)) (sym g.ready.op_there) (subst (λ x. Ranked (taken_shard w o g.op base x)) (sym g.found) (ranks_new w.safe w.pending w.term w.tickets l w.next_ticket _ refl))

@@ -15,8 +15,9 @@ use Rattle.esr_core.specs.Ids.{Law}
 use Rattle.esr_core.specs.Turns.{OpenRestore, HandShard, ReadMore, EndShard, ReadTurn, OpensRestore, HandsShard, ReadsMore, EndsShard, Calls, Turn, Deposes, Besides, commands_of}
 use Rattle.esr_core.specs.ReadTracked.{ReaderTracked, RestoresTracked}
 use Rattle.esr_core.specs.ReadLaw.{RestoreLaw, IsPartOf, ReaderLaw, ReadLaw}
-use Rattle.esr_core.proofs.Reading.{some_same, reads_one, held_one, safe_root_stands, Has-map}
+use Rattle.esr_core.proofs.Reading.{some_same, reads_one, held_one, Has-map}
 use Rattle.esr_core.proofs.Frames.{reads_kept}
+use Rattle.esr_core.proofs.ListedInfo.{pairs_both, IsListedAs, listed_as, listed_info}
 use Rattle.esr_core.proofs.Queues.{was_in}
 use Rattle.esr_core.proofs.Ordered.{sorted-Has}
 use Rattle.esr_core.proofs.Opening.{nothing}
@@ -28,31 +29,6 @@ use Rattle.esr_core.proofs.TurningIds.{pairs_has}
 use Rattle.esr_core.proofs.Turning.{turn_law}
 
 -- ---- what stands of a listed snapshot
-
-pub pairs_both : {A B : Type 0} (R : A → B → Type 0) (xs : List A) (ys : List B) (x : A) → AllPairs R xs ys → Has xs x → (y : B) × Has ys y × R x y
-pairs_both R [] ys x h m = absurd m
-pairs_both R (z ∷ xs) [] x h m = absurd h
-pairs_both R (z ∷ xs) (y ∷ ys) x h (inl e) = (y, inl refl, subst (λ q. R q y) e h.0)
-pairs_both R (z ∷ xs) (y ∷ ys) x h (inr m) = let (b, there, r) = pairs_both R xs ys x h.1 m in (b, inr there, r)
-
--- a snapshot on the shelf, as it is listed
-pub record IsListedAs (f : Formats) (w : World) (shelf : List Shelved) (u : ℕ) : Type 0 where
-  pub snap : RootSnap
-  pub uuid_is : snap.uuid ≡ u
-  pub shelved : Shelved
-  pub there : Has shelf shelved
-  pub stands : SnapStands f (HeldIn f w) w.root snap shelved
-
-pub listed_as : (f : Formats) (w : World) (shelf : List Shelved) → Law f w shelf → (u : ℕ) → Lists w.root u → IsListedAs f w shelf u
-listed_as f w shelf l u has =
-    let stands : RootStands f (HeldIn f w) w.root shelf = safe_root_stands f (HeldIn f w) (held_one f w) w.safe w.root shelf l.lawful.sound.rooted.kept.picked l.lawful.sound.carried.root_is in
-    let (z, m, uuid) = has in
-    let (y, there, s) = pairs_both (SnapStands f (HeldIn f w) w.root) w.root.snapshots shelf z stands.snapshots m in
-    record { snap = z; uuid_is = uuid; shelved = y; there = there; stands = s }
-
--- its info, which nobody may remove
-pub listed_info : (f : Formats) (w : World) (shelf : List Shelved) (u : ℕ) (a : IsListedAs f w shelf u) → Reads (HeldIn f w) (Snap u) f.info a.stands.info
-listed_info f w shelf u a = subst (λ x. Reads (HeldIn f w) (Snap x) f.info a.stands.info) a.uuid_is a.stands.info_reads
 
 -- a shard of it
 pub record IsShardOf (f : Formats) (w : World) (shelf : List Shelved) (u : ℕ) (p : IndexRef × ℕ) : Type 0 where

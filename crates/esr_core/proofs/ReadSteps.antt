@@ -162,7 +162,7 @@ module _ (f : Formats) (size : ℕ) (w : World) (t : Tracked w) (l : ReadTracked
   -- ---- each answer
 
   asks : (name place : Bytes) (reply : Reply) (image : Option Image) → RestoreAllows f w name reply image → ReadTracked (answered f w 0 (AskStep (Restore name place)) reply image)
-  asks name place reply image (OpeningRestore o uuid indices im acc) = opens uuid place indices acc.indices_of.apart
+  asks name place reply image (OpeningRestore o uuid indices im acc) = opens uuid place indices acc.indices_of.within.apart
   asks name place reply image (NotListed im none) = l
   asks name place reply image (NamedByDelete uuid d im listed named) = l
   asks name place reply image (FullOfRestores uuid im listed spared full) = l

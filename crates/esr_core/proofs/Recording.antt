@@ -12,7 +12,7 @@ use Rattle.esr_model.specs.Image.{Image}
 use Rattle.esr_core.specs.World.{World, Op, Deletion, ShardWork, Done, Ticket, marked, work_by, work_of, deletion_work, record_ops, ledger_of, record_of}
 use Rattle.esr_core.specs.Steps.{with_ticket, given}
 use Rattle.esr_core.specs.Turns.{fails}
-use Rattle.esr_core.specs.Entry.{Given, GivenShard, GivenFinalize, GivenDrop, Step, AskStep, TakeStep, DrawStep, BeginStep, CommitStep, LatestStep, FetchStep, RaiseStep, SettleStep, DoneStep, FailedStep, FinishStep, DroppedStep, ElectStep, DepotFault, Reply, Gave, WasDone, WasThere, WasFetched, Refused, Moment, Snapshot, Restore, GivenRestore, ReadStep, AcceptedRestore, Read, DrawTest, CommitTest, DrawnFrom}
+use Rattle.esr_core.specs.Entry.{Given, GivenShard, GivenFinalize, GivenDrop, Step, AskStep, TakeStep, DrawStep, BeginStep, CommitStep, LatestStep, FetchStep, RaiseStep, SettleStep, DoneStep, FailedStep, FinishStep, DroppedStep, ElectStep, DepotFault, Reply, Gave, WasDone, WasThere, WasFetched, Refused, Moment, Snapshot, Restore, GivenRestore, ReadStep, AcceptedRestore, Read, DrawTest, CommitTest, DrawnFrom, Clone, DeleteSnapshots, Cleanup}
 use Rattle.esr_core.specs.After.{or_else, taken_shard, taken_by, shard_of, with_given, committing, told_blob, fetching, done_by, done_of, is_stale, failed_by, failed_of, done_step, swaps_record, is_latest, faulted, answered, after, read_by, test_left}
 use Rattle.esr_core.proofs.Besides.{Aside, aside_taken, aside_step}
 use Rattle.esr_core.proofs.Maps.{split, get_same, get_other}
@@ -104,6 +104,7 @@ keeps_taken f w o (GivenFinalize info results) (Some op) there = record { ledger
 keeps_taken f w o (GivenFinalize info results) None there = keeps_same w
 keeps_taken f w o GivenDrop op there = record { ledger = refl; deletes = refl; ops = λ q. refl }
 keeps_taken f w o (GivenRestore index number uuid) op there = keeps_aside w _ (aside_taken w o index number (fin.get w.restores o))
+keeps_taken f w o unit op there = keeps_same w
 
 keeps_done_by : (w : World) (k : ℕ) (r : ShardResult) (t : Ticket) (op : Option Op) → fin.get w.ops t.op ≡ op → Keeps w (done_by w k r t op)
 keeps_done_by w k r t None there = keeps_same w
@@ -168,6 +169,9 @@ keeps_fault : (f : Formats) (w : World) (k : ℕ) (step : Step) (image : Option 
 keeps_fault f w k LatestStep image e = keeps_change w k (λ t. record t { tried_latest = true }) (fin.get w.tickets k)
 keeps_fault f w k (BeginStep name) image e = keeps_either w _ w (is_latest name) (keeps_change w k (λ t. record t { tried_latest = true }) (fin.get w.tickets k)) (keeps_same w)
 keeps_fault f w k (AskStep (Snapshot name indices moment)) image e = absurd (swaps e)
+keeps_fault f w k (AskStep (Clone source name indices moment)) image e = absurd (swaps e)
+keeps_fault f w k (AskStep (DeleteSnapshots names)) image e = absurd (swaps e)
+keeps_fault f w k (AskStep Cleanup) image e = absurd (swaps e)
 keeps_fault f w k RaiseStep image e = absurd (swaps e)
 keeps_fault f w k SettleStep image e = absurd (swaps e)
 keeps_fault f w k DroppedStep image e = absurd (swaps e)

@@ -22,7 +22,8 @@ use Rattle.esr_core.proofs.Determined.{pairs_one}
 use Rattle.esr_core.proofs.Restoring.{put_was}
 use Rattle.esr_core.proofs.Turning.{turn_law}
 use Rattle.esr_core.proofs.ReadFrames.{OneContent, Frame, frame}
-use Rattle.esr_core.proofs.ReadLaws.{IsListedAs, listed_as, listed_info, turn_read}
+use Rattle.esr_core.proofs.ListedInfo.{IsListedAs, listed_as, listed_info}
+use Rattle.esr_core.proofs.ReadLaws.{turn_read}
 use Rattle.esr_core.proofs.Histories.{Stepped, step_law, lasts}
 use Rattle.esr_core.proofs.ReadHistories.{read_step_law}
 use Rattle.esr_core.proofs.Lists.{shelf_after-append}

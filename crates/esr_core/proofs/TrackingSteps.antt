@@ -13,7 +13,7 @@ use Rattle.esr_core.specs.World.{World, Op, ShardWork, Out, Done, Work, Shard, F
 use Rattle.esr_core.specs.Ready.{Stopped, IsShard, IsMaster, ReadyDrop}
 use Rattle.esr_core.specs.Steps.{with_ticket, completing, final_ticket}
 use Rattle.esr_core.specs.Turns.{plain_ticket, fails}
-use Rattle.esr_core.specs.Entry.{AskedIndex, Snapshot, Given, GivenShard, GivenFinalize, GivenDrop, Step, Reply, Moment, GivenRestore, Restore, AskStep, ReadStep, Read, ReadBlob, RestoredShard, ReadFails, WasFetched, WasAbsent, HasEnded}
+use Rattle.esr_core.specs.Entry.{AskedIndex, Snapshot, Given, GivenShard, GivenFinalize, GivenDrop, Step, Reply, Moment, GivenRestore, Restore, AskStep, ReadStep, Read, ReadBlob, RestoredShard, ReadFails, WasFetched, WasAbsent, HasEnded, GivenClone, GivenDelete, GivenCleanup}
 use Rattle.esr_core.specs.After.{asked, asked_op, taken_by, taken_shard, with_given, change, committing, fetching, told_blob, done_of, done_by, failed_of, failed_by, is_stale, settled_of, dropped_of, tried, answered, blobs_in, after, stepped, test_left}
 use Rattle.esr_core.specs.Allowed as allowed
 use Rattle.esr_core.specs.Allowed.{Accepts, Gives, Settles, Fails, Drops, Dones, Allows, Allowed, RestoreAllows, OpeningRestore, NotListed, NamedByDelete, FullOfRestores, ReadAllows, ReadFound, ReadMissing, ReadFault, RestoringShard, ReaderFailing, CheckingAll, CheckFailing, VerifyAllows, DrawingTest, TestSpent, BeginningTest, BeginTestFails, CommittingTest, TestTaken, CommitTestFails, RemovingTests, RemoveTestsFails, VerifyingAll, VerifyFailing}
@@ -98,6 +98,9 @@ module _ (f : Formats) (size : ℕ) (w : World) (l : Tracked w) where
       (λ h. absurd h)
 
   gives : (o : ℕ) (unit : Given) → Gives f w o unit → Tracked (taken_by f w o unit (fin.get w.ops o))
+  gives o (GivenClone index number source base) g = absurd g
+  gives o (GivenDelete uuids) g = absurd g
+  gives o GivenCleanup g = absurd g
   gives o (GivenRestore index number uuid) g = tracked_aside_of w _ (aside_taken w o index number (fin.get w.restores o)) l
   gives o (GivenShard index number base) g =
       subst (λ x. Tracked (taken_by f w o (GivenShard index number base) x)) (sym g.ready.op_there) (subst (λ x. Tracked (taken_shard w o g.op base x)) (sym g.found) (tracked_given w l o g.op g.s base g.ready))

@@ -80,8 +80,8 @@ abbrev pub asked : World → Asked → World
 asked w (Snapshot name indices moment) =
     let op : Op = asked_op w name indices moment in
     record w { ops = fin.insert w.ops w.next_op op; next_op = suc w.next_op; completed = completing w.completed w.next_op op.shards; next_id = w.next_id + suc (new_names w indices) }
--- what a restore reads its acceptance tells
-asked w (Restore name place) = w
+-- what a restore reads its acceptance tells; the others are not accepted so far
+asked w command = w
 
 -- ---- take
 
@@ -111,6 +111,7 @@ taken_by f w o (GivenFinalize info results) (Some op) = record w { tickets = fin
 taken_by f w o (GivenFinalize info results) None = w
 taken_by f w o GivenDrop op = record w { tickets = fin.insert w.tickets w.next_ticket (plain_ticket w o Drop); next_ticket = suc w.next_ticket }
 taken_by f w o (GivenRestore index number uuid) op = taken_restore w o index number (fin.get w.restores o)
+taken_by f w o unit op = w
 
 -- ---- steps of a ticket
 

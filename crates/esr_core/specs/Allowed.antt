@@ -2,7 +2,7 @@
 use Rattle.std.specs.Prelude.{◌≡◌, ◌≢◌, ◌⊎◌, ℕ, zero, suc, ◌+◌, ◌-◌, ◌^◌, ◌<◌, ◌≤◌, true, false, List, [], ◌∷◌, length, sum_by, min, Option, Some, None}
 use Rattle.std.specs.FinMap as fin
 use Rattle.esr_model.specs.Names.{BlobName, Root, Latest, Snap, ShardSnap, ShardIndex}
-use Rattle.esr_model.specs.Values.{Bytes, Has, IndexRef, RootSnap, RootIndex, SnapInfo, ShardSnapshot, ShardFiles, ShardResult, ReadsBack, Formats}
+use Rattle.esr_model.specs.Values.{Bytes, Has, IndexRef, RootSnap, RootIndex, RootData, SnapInfo, ShardSnapshot, ShardFiles, ShardResult, ReadsBack, Formats}
 use Rattle.esr_model.specs.Shelf.{Shelved, names_uuid}
 use Rattle.esr_model.specs.Kept.{first_id}
 use Rattle.esr_model.specs.Finalize.{finalized_root}
@@ -16,7 +16,7 @@ use Rattle.esr_core.specs.Restores.{IsTestOf, AreApart, IsReading, WasRead, IsPi
 use Rattle.esr_core.specs.Steps.{IsOut, Drew, Largest, MayCommit, MaySettle, Removes}
 use Rattle.esr_core.specs.Texts.{IsMetaOf}
 use Rattle.std.specs.Int.{w64, to_be_bytes}
-use Rattle.esr_core.specs.Entry.{AskedIndex, Asked, Snapshot, Restore, is_recorded, Given, GivenShard, GivenFinalize, GivenDrop, GivenRestore, Why, Read, ReadBlob, RestoredShard, CheckedAll, DrawTest, BeginTest, CommitTest, RemoveTests, VerifiedAll, ReadFails, Step, AskStep, TakeStep, DrawStep, BeginStep, CommitStep, LatestStep, FetchStep, ListStep, RaiseStep, SettleStep, DoneStep, FailedStep, FinishStep, DroppedStep, ElectStep, LookStep, ReadStep, CleanupRunning, NameInUse, TooMany, DeposedAt, StaleTerm, GenerationsSpent, TermsSpent, IdsSpent, NameTaken, DepotFault, NoSnapshot, BeingDeleted, Reply, Accepted, NothingReady, Gave, DrawnFrom, WasBegun, WasDone, WasThere, WasReplaced, WasFetched, WasAbsent, WasListed, RaisedTo, WasSettled, HasEnded, ElectedTerm, Looked, Refused, WasRemoved, AcceptedRestore, Moment}
+use Rattle.esr_core.specs.Entry.{AskedIndex, Asked, Snapshot, Restore, is_recorded, Given, GivenShard, GivenFinalize, GivenDrop, GivenRestore, GivenClone, GivenDelete, GivenCleanup, Why, Read, ReadBlob, RestoredShard, CheckedAll, DrawTest, BeginTest, CommitTest, RemoveTests, VerifiedAll, ReadFails, Step, AskStep, TakeStep, DrawStep, BeginStep, CommitStep, LatestStep, FetchStep, ListStep, RaiseStep, SettleStep, DoneStep, FailedStep, FinishStep, DroppedStep, ElectStep, LookStep, ReadStep, CleanupRunning, NameInUse, TooMany, DeposedAt, StaleTerm, GenerationsSpent, TermsSpent, IdsSpent, NameTaken, DepotFault, NoSnapshot, BeingDeleted, Reply, Accepted, NothingReady, Gave, DrawnFrom, WasBegun, WasDone, WasThere, WasReplaced, WasFetched, WasAbsent, WasListed, RaisedTo, WasSettled, HasEnded, ElectedTerm, Looked, Refused, WasRemoved, AcceptedRestore, Moment}
 use Rattle.esr_core.specs.After.{asked_op, new_names, shard_of, after}
 
 -- what `index.latest` holds: the generation as 8 bytes, the highest first
@@ -79,14 +79,34 @@ pub record IsBeingDeleted (w : World) (uuid d : ℕ) : Type 0 where
   pub names : names_uuid x.uuids uuid ≡ true
   pub lowest : (e : ℕ) (y : Deletion) → e < d → fin.get w.deletes e ≡ Some y → names_uuid y.uuids uuid ≡ false
 
--- The indices of a listed snapshot: exactly those of the root that have it, each shard with a generation. Where the container
--- tells, they are those of the info that is there.
-pub record AreIndicesOf (f : Formats) (w : World) (uuid : ℕ) (indices : List IndexRef) (image : Option Image) : Type 0 where
-  pub listed : (r : IndexRef) → Has indices r → (x : RootIndex) × Has w.root.indices x × (x.name ≡ r.name) × (x.id ≡ r.id) × Has x.snapshots uuid
-  pub exact : (x : RootIndex) → Has w.root.indices x → Has x.snapshots uuid → (r : IndexRef) × Has indices r × (r.name ≡ x.name) × (r.id ≡ x.id)
-  pub generations : (r : IndexRef) (k : ℕ) → Has indices r → k < r.shards → (g : ℕ) × Generation w.root r.id k g
+-- a finalization is of this snapshot, with these indices
+pub record WasMade (f : Formats) (w : World) (uuid : ℕ) (indices : List IndexRef) : Type 0 where
+  pub number : ℕ
+  pub t : Ticket
+  pub there : fin.get w.tickets number ≡ Some t
+  pub info : SnapInfo
+  pub results : List ShardResult
+  pub made : Shelved
+  pub work : t.work ≡ Finalize info results made
+  pub uuid_is : info.uuid ≡ uuid
+  pub indices_is : info.indices ≡ indices
+  pub back : ReadsBack f.info info
+
+-- these are exactly the indices of the root that have the snapshot, each shard with a generation
+pub record AreIndicesIn (root : RootData) (uuid : ℕ) (indices : List IndexRef) : Type 0 where
+  pub listed : (r : IndexRef) → Has indices r → (x : RootIndex) × Has root.indices x × (x.name ≡ r.name) × (x.id ≡ r.id) × Has x.snapshots uuid
+  pub exact : (x : RootIndex) → Has root.indices x → Has x.snapshots uuid → (r : IndexRef) × Has indices r × (r.name ≡ x.name) × (r.id ≡ x.id)
+  pub generations : (r : IndexRef) (k : ℕ) → Has indices r → k < r.shards → (g : ℕ) × Generation root r.id k g
   pub apart : AreApart indices
-  pub told : Told image (λ blobs. (info : SnapInfo) × Reads (At f w.blobs) (Snap uuid) f.info info × (info.indices ≡ indices))
+
+-- the info of the snapshot is there, and has these indices
+abbrev pub IsInInfo : Formats → World → ℕ → List IndexRef → Type 0
+IsInInfo f w uuid indices = (info : SnapInfo) × Reads (At f w.blobs) (Snap uuid) f.info info × (info.indices ≡ indices)
+
+-- The indices of a listed snapshot: those of its finalization, or, where the container tells, those of the info that is there.
+pub record AreIndicesOf (f : Formats) (w : World) (uuid : ℕ) (indices : List IndexRef) (image : Option Image) : Type 0 where
+  pub within : AreIndicesIn w.root uuid indices
+  pub told : WasMade f w uuid indices ⊎ Told image (λ blobs. IsInInfo f w uuid indices)
 
 -- a restore is accepted as this op
 pub record AcceptsRestore (f : Formats) (w : World) (name : Bytes) (o uuid : ℕ) (indices : List IndexRef) (image : Option Image) : Type 0 where
@@ -99,7 +119,7 @@ pub record AcceptsRestore (f : Formats) (w : World) (name : Bytes) (o uuid : ℕ
 -- how a restore may be answered
 pub data RestoreAllows (f : Formats) (w : World) (name : Bytes) : Reply → Option Image → Type 0 where
   OpeningRestore : (o uuid : ℕ) (indices : List IndexRef) (image : Option Image) → AcceptsRestore f w name o uuid indices image → RestoreAllows f w name (AcceptedRestore o uuid indices) image
-  NotListed : (image : Option Image) → ((uuid : ℕ) → IsListed w name uuid → ⊥) → RestoreAllows f w name (Refused (NoSnapshot name)) image
+  NotListed : (image : Option Image) → ((uuid : ℕ) → IsListed w name uuid → ⊥) → RestoreAllows f w name (Refused (NoSnapshot 0)) image
   NamedByDelete : (uuid d : ℕ) (image : Option Image) → IsListed w name uuid → IsBeingDeleted w uuid d → RestoreAllows f w name (Refused (BeingDeleted d)) image
   FullOfRestores : (uuid : ℕ) (image : Option Image) → IsListed w name uuid → IsSpared w uuid → 1000 ≤ fin.len w.restores → RestoreAllows f w name (Refused (TooMany 1000)) image
 
@@ -147,6 +167,9 @@ Gives f w o (GivenShard index number base) = GivesShard w o index number base
 Gives f w o (GivenFinalize info results) = GivesFinalize f w o info results
 Gives f w o GivenDrop = ReadyDrop w o
 Gives f w o (GivenRestore index number uuid) = GivesRestore w o index number uuid
+Gives f w o (GivenClone index number source base) = ⊥
+Gives f w o (GivenDelete uuids) = ⊥
+Gives f w o GivenCleanup = ⊥
 
 -- ---- steps of a ticket
 

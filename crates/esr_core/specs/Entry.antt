@@ -10,15 +10,22 @@ pub record AskedIndex : Type 0 where
   pub shards : ℕ
   pub place : Bytes
 
--- a command as it is asked; a further command is a further case
+-- A command as it is asked. Of clones, deletes and cleanups only the refusals in an open cleanup are steps so far.
 pub data Asked : Type 0 where
   Snapshot : (name : Bytes) (indices : List AskedIndex) (moment : ℕ) → Asked
+  -- of these indices of a listed snapshot, of all where none is named
+  Clone : (source name : Bytes) (indices : List Bytes) (moment : ℕ) → Asked
+  DeleteSnapshots : (names : List Bytes) → Asked
   Restore : (name place : Bytes) → Asked
+  Cleanup : Asked
 
 -- the cluster record has the op
 abbrev pub is_recorded : Asked → Bool
 is_recorded (Snapshot name indices moment) = true
+is_recorded (Clone source name indices moment) = true
+is_recorded (DeleteSnapshots names) = true
 is_recorded (Restore name place) = false
+is_recorded Cleanup = true
 
 -- the unit that a ticket was given
 pub data Given : Type 0 where
@@ -27,6 +34,10 @@ pub data Given : Type 0 where
   GivenDrop : Given
   -- a shard of a restore
   GivenRestore : (index number uuid : ℕ) → Given
+  -- a shard of a clone of the snapshot `source`, a delete, a cleanup: no step gives these so far
+  GivenClone : (index number source : ℕ) (base : Option ℕ) → Given
+  GivenDelete : (uuids : List ℕ) → Given
+  GivenCleanup : Given
 
 -- why a unit failed
 pub data Why : Type 0 where
@@ -95,7 +106,8 @@ pub data Refusal : Type 0 where
   IdsSpent : (next : ℕ) → Refusal
   NameTaken : (name : BlobName) → Refusal
   DepotFault : Refusal
-  NoSnapshot : (name : Bytes) → Refusal
+  -- no snapshot is listed under the name that stands at this place of the command, from 0 on
+  NoSnapshot : (place : ℕ) → Refusal
   BeingDeleted : (op : ℕ) → Refusal
 
 pub data Reply : Type 0 where

@@ -2,7 +2,7 @@
 use Rattle.std.specs.Prelude.{ℕ, map, option_map}
 use Rattle.esr_core.specs.Entry as entry
 use Rattle.esr_core.specs.Entry.{AskStep, TakeStep, DrawStep, BeginStep, CommitStep, LatestStep, FetchStep, ListStep, RaiseStep, SettleStep, DoneStep, FailedStep, FinishStep, DroppedStep, ElectStep, LookStep, ReadStep, ReadBlob, RestoredShard, CheckedAll, DrawTest, BeginTest, CommitTest, RemoveTests, VerifiedAll, ReadFails}
-use Rattle.esr_core.specs.Entry.{OfDepot, OfSource, OfChange, OfDamage, OfTaken, OfIdsSpent, OfGenerationsSpent, OfTarget, OfPrint, OfDisagreement, GivenShard, GivenFinalize, GivenDrop, GivenRestore}
+use Rattle.esr_core.specs.Entry.{OfDepot, OfSource, OfChange, OfDamage, OfTaken, OfIdsSpent, OfGenerationsSpent, OfTarget, OfPrint, OfDisagreement, GivenShard, GivenFinalize, GivenDrop, GivenRestore, GivenClone, GivenDelete, GivenCleanup}
 use Rattle.esr_core.specs.Entry.{Accepted, NothingReady, Gave, DrawnFrom, WasBegun, WasDone, WasThere, WasReplaced, WasFetched, WasAbsent, WasListed, RaisedTo, WasSettled, HasEnded, ElectedTerm, Looked, Refused, WasRemoved, AcceptedRestore}
 use Rattle.esr_formats.specs.Ids.{number_of}
 use Rattle.esr_formats.specs.Names.{name_of}
@@ -71,6 +71,9 @@ unit_of (units.Shard shard base) = GivenShard shard.index.number shard.number (o
 unit_of (units.Finalize info shards) = GivenFinalize (info_of_code info) (map result_of shards)
 unit_of units.Drop = GivenDrop
 unit_of (units.RestoreShard shard uuid) = GivenRestore shard.index.number shard.number uuid.number
+unit_of (units.CloneShard shard source base) = GivenClone shard.index.number shard.number source.number (option_map number_of base)
+unit_of (units.Delete uuids) = GivenDelete (map number_of uuids)
+unit_of units.Cleanup = GivenCleanup
 
 abbrev pub answer_of : Answer → entry.Reply
 answer_of (answers.Accepted op) = Accepted op

@@ -1,12 +1,15 @@
 pub mod Refusals
 pub mod Entries
 pub mod Start
+pub mod Once
+pub mod Numbered
 pub mod Outcome
 pub mod Conditions
 pub mod Taken
+pub mod Told
+pub mod Readers
 pub mod Sources
 pub mod Last
 pub mod Grew
 pub mod Damage
 pub mod Shown
-pub mod Once

@@ -10,12 +10,14 @@ use Rattle.esr_desk.specs.declared.refusal.StepRefusal.{StepRefusal}
 use Rattle.esr_desk.specs.declared.refusal.StepRefusal.TheVariants as steps
 use Rattle.esr_desk.specs.Refusals.{told_refusal}
 use Rattle.esr_desk.specs.Start.{Start, Legal, ticket_of}
+use Rattle.esr_desk.specs.Once.{HasMadeNone}
 
 -- the history may have gone on, but not by the ticket
 pub record Waited (s : Start) (old new : List Moment) (who : ℕ) : Type 0 where
   pub others : List Moment
   pub grew : new ≡ old ++ others
   pub alone : ticket_of s new who ≡ ticket_of s old who
+  pub besides : HasMadeNone others who
   -- where nobody else makes a step, it is as it was
   pub nobody : s.alone ≡ true → others ≡ []
   pub legal : Legal s new

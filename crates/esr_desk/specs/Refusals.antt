@@ -1,6 +1,6 @@
 -- The refusals of steps, as the definitions see them.
 use Rattle.std.specs.Prelude.{Option, Some, None}
-use Rattle.esr_core.specs.Entry.{Refusal, CleanupRunning, NameInUse, TooMany, DeposedAt, AbortedBy, StaleTerm, GenerationsSpent, TermsSpent, IdsSpent, NameTaken, DepotFault, BeingDeleted}
+use Rattle.esr_core.specs.Entry.{Refusal, CleanupRunning, NameInUse, TooMany, DeposedAt, AbortedBy, StaleTerm, GenerationsSpent, TermsSpent, IdsSpent, NameTaken, DepotFault, NoSnapshot, BeingDeleted}
 use Rattle.esr_formats.specs.Names.{name_of}
 use Rattle.esr_formats.specs.Clusters.{count_of}
 use Rattle.esr_desk.specs.declared.refusal.EntryRefusal.{EntryRefusal}
@@ -20,6 +20,7 @@ refusal_of (code.TermsSpent number) = TermsSpent number
 refusal_of (code.IdsSpent next) = IdsSpent next.number
 refusal_of (code.NameTaken name) = NameTaken (name_of name)
 refusal_of code.DepotFault = DepotFault
+refusal_of (code.NoSnapshot place) = NoSnapshot place
 refusal_of (code.BeingDeleted op) = BeingDeleted op
 
 -- the refusal that the history tells, if it tells one

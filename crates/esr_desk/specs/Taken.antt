@@ -61,8 +61,8 @@ TookWork (works.Finalize info shards) new op copy t =
     (term : ℕ) × (made : Shelved) × (t ≡ fresh (Finalize (info_of_code info) (map result_of shards) made) op info.uuid.number [] [] term copy)
     × NewRoot new (finalized_root (root_of copy.root) (info_of_code info) (map result_of shards))
 TookWork works.Drop new op copy t = (term : ℕ) × (t ≡ fresh Drop op 0 [] [] term copy)
--- a restore's ticket is none of these
-TookWork (works.RestoreShard uuid shard index place) new op copy t = ⊥
+-- a restore's ticket is none of these, and the others are not given so far
+TookWork work new op copy t = ⊥
 
 -- the unit's ticket is out, and has done nothing yet
 abbrev pub Took : Start → List Moment → Given → Type 0

@@ -13,10 +13,12 @@ ghost use Rattle.esr_results.specs.Results.{result_of};
 ghost use Rattle.esr_progress.specs.Asked.{asked_of, IsAskable};
 ghost use Rattle.esr_desk.specs.Entries.{why_of};
 ghost use Rattle.esr_desk.specs.Start.{Start, ticket_of, told_bytes};
+ghost use Rattle.esr_desk.specs.Once.{IsNew, HasMadeNone};
 ghost use Rattle.esr_desk.specs.Shown.{IsShown};
 ghost use Rattle.esr_desk.specs.Outcome.{Outcome, commit_reply, fetch_reply, take_reply};
 ghost use Rattle.esr_desk.specs.Conditions.{CanDraw, CanCommit, CanPut, CanBegin, Holds, CanFetch, CanRaise, CanSettle, CanEnd, CanFail, CanFinish, CanDrop};
-ghost use Rattle.esr_desk.specs.Taken.{Took, committed_by, begun_by, tried_by, fetched_by, LeftBy, HasRaised, IsSettled, HasEndedAs};
+ghost use Rattle.esr_desk.specs.Readers.{TookUnit};
+ghost use Rattle.esr_desk.specs.Taken.{committed_by, begun_by, tried_by, fetched_by, LeftBy, HasRaised, IsSettled, HasEndedAs};
 ghost use Rattle.esr_desk.specs.declared.refusal.StepRefusal.{StepRefusal};
 
 use crate::{By, Look, Named, StepRefusal, Unit, Why};
@@ -58,13 +60,15 @@ pub trait Desk {
     /// Takes the first ready unit of the lowest op, or `None` where no unit is ready.
     fn take(&mut self, alloc: Global) -> Result<Option<Unit>, StepRefusal>
         ensures step { Outcome start (seen self.old) (seen self.new) 0 TakeStep take_reply result }
-        ensures took { IfOk result (λ o. IfSome o (λ u. Took start (seen self.new) u)) }
+        ensures took { IfOk result (λ o. IfSome o (λ u. TookUnit start (seen self.new) u)) }
+        ensures new { IfOk result (λ o. IfSome o (λ u. HasMadeNone (seen self.new) u.ready.ticket)) }
         ensures holds { IfOk result (λ o. IfSome o (λ u. holds self.new u.ready.ticket)) };
 
     /// Draws so many ids, one after another, and answers the first.
     fn draw(&mut self, alloc: Global, ticket: u64, count: u64) -> Result<Id, StepRefusal>
         requires mine { holds self.old ticket }
         requires may { CanDraw start (ticket_of start (seen self.old) ticket) count }
+        requires new { IsNew (seen self.old) ticket (DrawStep count) }
         ensures step { Outcome start (seen self.old) (seen self.new) ticket (DrawStep count) (λ first. DrawnFrom first.number) result }
         ensures own { IfOk result (λ first. ticket_of start (seen self.new) ticket
             ≡ record (ticket_of start (seen self.old) ticket) { first = first.number; drawn = count }) }
@@ -83,6 +87,7 @@ pub trait Desk {
         requires mine { holds self.old ticket }
         requires layout { IsName name }
         requires may { CanBegin start (ticket_of start (seen self.old) ticket) (name_of name) }
+        requires new { IsNew (seen self.old) ticket (BeginStep (name_of name)) }
         ensures step { Outcome start (seen self.old) (seen self.new) ticket (BeginStep (name_of name)) (λ stage. WasBegun) result }
         ensures own { ticket_of start (seen self.new) ticket
             ≡ begun_by (name_of name) result (ticket_of start (seen self.old) ticket) }
@@ -107,6 +112,7 @@ pub trait Desk {
         requires layout { IsName name }
         requires may { (bytes : Bytes) × Holds start (Self.Stage.contents stage) bytes
             × CanCommit start (ticket_of start (seen self.old) ticket) (name_of name) bytes }
+        requires new { IsNew (seen self.old) ticket (CommitStep (name_of name)) }
         ensures step { Outcome start (seen self.old) (seen self.new) ticket (CommitStep (name_of name)) commit_reply result }
         ensures own { IfOk result (λ c. ticket_of start (seen self.new) ticket
             ≡ committed_by (name_of name) (Self.Stage.contents stage) c (ticket_of start (seen self.old) ticket)) }
@@ -128,6 +134,7 @@ pub trait Desk {
         requires name { name_of name ≡ Latest }
         requires may { (n : ℕ) × CanPut start (ticket_of start (seen self.old) ticket) n
             × Holds start (Self.Stage.contents stage) (latest_text n) }
+        requires new { IsNew (seen self.old) ticket LatestStep }
         ensures step { Outcome start (seen self.old) (seen self.new) ticket LatestStep (λ _. WasReplaced) result }
         ensures own { ticket_of start (seen self.new) ticket ≡ tried_by result (ticket_of start (seen self.old) ticket) }
         ensures holds { holds self.new ticket };
@@ -142,6 +149,7 @@ pub trait Desk {
         requires mine { holds self.old ticket }
         requires layout { IsName name }
         requires may { CanFetch (ticket_of start (seen self.old) ticket) (name_of name) }
+        requires new { IsNew (seen self.old) ticket (FetchStep (name_of name)) }
         ensures step { Outcome start (seen self.old) (seen self.new) ticket (FetchStep (name_of name)) fetch_reply result }
         ensures own { IfOk result (λ o. ticket_of start (seen self.new) ticket
             ≡ fetched_by Self.Fetch.left (name_of name) o (ticket_of start (seen self.old) ticket)) }
@@ -155,6 +163,7 @@ pub trait Desk {
     fn raise(&mut self, alloc: Global, ticket: u64) -> Result<u64, StepRefusal>
         requires mine { holds self.old ticket }
         requires may { CanRaise start (ticket_of start (seen self.old) ticket) }
+        requires new { IsNew (seen self.old) ticket RaiseStep }
         ensures step { Outcome start (seen self.old) (seen self.new) ticket RaiseStep (λ n. RaisedTo n) result }
         ensures own { IfOk result (λ n. ticket_of start (seen self.new) ticket
             ≡ record (ticket_of start (seen self.old) ticket) { raised = Some n }) }
@@ -166,6 +175,7 @@ pub trait Desk {
     fn settle(&mut self, alloc: Global, ticket: u64, root: &RootData) -> Result<(), StepRefusal>
         requires mine { holds self.old ticket }
         requires may { CanSettle start (ticket_of start (seen self.old) ticket) (root_of root.now) }
+        requires new { IsNew (seen self.old) ticket SettleStep }
         ensures step { Outcome start (seen self.old) (seen self.new) ticket SettleStep (λ _. WasSettled) result }
         ensures own { OnOk result (ticket_of start (seen self.new) ticket
             ≡ record (ticket_of start (seen self.old) ticket) { settled = true }) }

@@ -2,7 +2,7 @@
 use crate::EntryRefusal;
 use esr_hash::Print;
 use esr_meta::SnapInfo;
-use esr_names::{BlobName, Id, IndexRefs, ShardId};
+use esr_names::{BlobName, Id, Ids, IndexRefs, ShardId};
 use esr_progress::Command;
 use esr_results::{ShardResult, ShardResults};
 use esr_root::RootSnaps;
@@ -112,6 +112,17 @@ pub enum Given {
         shard: ShardId,
         uuid: Id,
     },
+    /// A shard of a clone of the snapshot `source`, with the largest live generation. Not given so far.
+    CloneShard {
+        shard: ShardId,
+        source: Id,
+        base: Option<Id>,
+    },
+    /// Not given so far.
+    Delete {
+        uuids: Ids,
+    },
+    Cleanup,
 }
 
 /// What was answered.

@@ -4,6 +4,7 @@
 mod desk;
 mod entry;
 mod fault;
+mod law;
 mod named;
 mod refusal;
 mod unit;
@@ -11,6 +12,7 @@ mod unit;
 pub use desk::Desk;
 pub use entry::{Answer, BlobNames, Entry, Given, History, Read, Step, Why};
 pub use fault::{By, FailedObject, Fault, Faults};
+pub use law::each_ticket_is_new;
 pub use named::Named;
 pub use refusal::{EntryRefusal, StepRefusal};
-pub use unit::{Look, Unit, UnitRefusal};
+pub use unit::{AcceptedRestore, Look, Unit, UnitRefusal};

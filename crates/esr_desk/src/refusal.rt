@@ -30,6 +30,8 @@ pub enum EntryRefusal {
     NameTaken { name: BlobName },
     /// The container failed.
     DepotFault,
+    /// No snapshot is listed under the name at this place of the command, from 0 on.
+    NoSnapshot { place: u64 },
     /// This open delete names the snapshot.
     BeingDeleted { op: u64 },
 }

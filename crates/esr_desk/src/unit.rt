@@ -3,6 +3,7 @@ ghost use Rattle.std.specs.Prelude.{◌≡◌};
 ghost use Rattle.esr_desk.specs.declared.unit.UnitRefusal.TheVariants.{Stopped};
 
 use crate::{StepRefusal, Why};
+use esr_names::{Id, IndexRefs};
 use esr_progress::ReadyUnit;
 use esr_root::{RootData, RootSnaps};
 
@@ -18,6 +19,14 @@ pub struct Unit {
 pub struct Look {
     pub listing: RootSnaps,
     pub safe: i64,
+}
+
+/// A restore was accepted as this op: of the snapshot `uuid`, which has these indices.
+#[derive(Debug, Drop)]
+pub struct AcceptedRestore {
+    pub op: u64,
+    pub uuid: Id,
+    pub indices: IndexRefs,
 }
 
 /// Why a unit didn't do its work.

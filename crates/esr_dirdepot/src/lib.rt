@@ -14,10 +14,3 @@ mod walk;
 pub use depot::DirDepot;
 pub use fetch::DirFetch;
 pub use stage::DirStage;
-
-#[cfg(test)]
-mod both;
-#[cfg(test)]
-mod failing;
-#[cfg(test)]
-mod tests;

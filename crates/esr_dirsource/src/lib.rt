@@ -7,8 +7,6 @@ mod folder;
 mod paths;
 mod source;
 mod target;
-#[cfg(test)]
-mod tests;
 
 pub use source::{DirShard, DirSources};
 pub use target::{DirTarget, DirTargets};

@@ -1,5 +1,5 @@
 -- What a step says.
-use Rattle.std.proofs.Common.{◌≡◌, ◌≢◌, ℕ, List, Option, Some, None, Result, Ok, Err, subst, inl, inr, refl}
+use Rattle.std.proofs.Common.{◌≡◌, ◌≢◌, ℕ, List, Option, Some, None, Err, subst, inl, inr, refl}
 use Rattle.esr_core.specs.Entry.{Step, TakeStep, NothingReady, Gave, Reply, Refusal, Refused, Moment}
 use Rattle.esr_progress.specs.Units.{given_of}
 use Rattle.esr_desk.specs.declared.unit.Unit.{Unit as Given}

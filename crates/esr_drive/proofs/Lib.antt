@@ -1,3 +1,10 @@
 pub mod Going
+pub mod Readers
+pub mod Acting
+pub mod Ends
+pub mod Units
+pub mod Taken
+pub mod Targets
+pub mod Filling
 pub mod Resting
 pub mod Rounds

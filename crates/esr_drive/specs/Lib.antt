@@ -1,2 +1,5 @@
 pub mod Stopped
+pub mod Restored
+pub mod Filled
+pub mod Over
 pub mod Laws

@@ -1,5 +1,5 @@
 -- Why the work stopped before all units were done.
-use Rattle.std.specs.Prelude.{◌≡◌, ◌≢◌, ◌⊎◌, ℕ, ◌^◌, ◌≤◌, false, List, Result, Ok, Err}
+use Rattle.std.specs.Prelude.{◌≡◌, ◌≢◌, ◌⊎◌, ℕ, false, List, Result, Ok, Err}
 use Rattle.esr_core.specs.World.{Ticket}
 use Rattle.esr_core.specs.Entry.{Step, TakeStep, Refused, Moment}
 use Rattle.esr_progress.specs.declared.unit.Work.{Work}
@@ -14,10 +14,8 @@ use Rattle.esr_desk.specs.Outcome.{Spends}
 use Rattle.esr_desk.specs.Last.{IsLast, IsRefusal}
 
 abbrev pub IsDrop : Work → Type 0
-IsDrop (works.Shard uuid shard index place) = ⊥
-IsDrop (works.Finalize info shards) = ⊥
 IsDrop works.Drop = Unit {0}
-IsDrop (works.RestoreShard uuid shard index place) = ⊥
+IsDrop work = ⊥
 
 -- the unit's last step was refused, if it didn't end as failed
 abbrev pub IsUnitStopped : Start → List Moment → ℕ → UnitRefusal → Type 0

@@ -2,7 +2,9 @@
 #![tactic(auto)]
 
 mod law;
+mod restored;
 mod unit;
 mod worker;
 
+pub use restored::{RestoredTarget, RestoredTargets, Worked};
 pub use worker::work;

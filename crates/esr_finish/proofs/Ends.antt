@@ -144,6 +144,7 @@ by_step s faults mid who (steps.Refused (refusals.Aborted by)) why is was log wa
 by_step s faults mid who (steps.Refused (refusals.StaleTerm own now)) why is was log waited = cc
 by_step s faults mid who (steps.Refused (refusals.TermsSpent spent)) why is was log waited = cc
 by_step s faults mid who (steps.Refused (refusals.IdsSpent next)) why is was log waited = cc
+by_step s faults mid who (steps.Refused (refusals.NoSnapshot at)) why is was log waited = cc
 by_step s faults mid who (steps.Refused (refusals.BeingDeleted op)) why is was log waited = cc
 
 matters_any : (work : Work) (step : Step) → is_of_latest step ≡ false → Matters work step
@@ -194,6 +195,7 @@ step_shown c s log who (steps.Refused (refusals.Aborted by)) why is was = cc
 step_shown c s log who (steps.Refused (refusals.StaleTerm own now)) why is was = cc
 step_shown c s log who (steps.Refused (refusals.TermsSpent spent)) why is was = cc
 step_shown c s log who (steps.Refused (refusals.IdsSpent next)) why is was = cc
+step_shown c s log who (steps.Refused (refusals.NoSnapshot at)) why is was = cc
 step_shown c s log who (steps.Refused (refusals.BeingDeleted op)) why is was = cc
 
 -- ---- a refusal that leaves the ticket out
@@ -213,6 +215,7 @@ put_stopped log who (steps.Refused (refusals.Aborted by)) left was = (was.0, was
 put_stopped log who (steps.Refused (refusals.StaleTerm own now)) left was = (was.0, was.1, λ ends. absurd ends)
 put_stopped log who (steps.Refused (refusals.TermsSpent spent)) left was = (was.0, was.1, λ ends. absurd ends)
 put_stopped log who (steps.Refused (refusals.IdsSpent next)) left was = (was.0, was.1, λ ends. absurd ends)
+put_stopped log who (steps.Refused (refusals.NoSnapshot at)) left was = (was.0, was.1, λ ends. absurd ends)
 put_stopped log who (steps.Refused (refusals.BeingDeleted op)) left was = (was.0, was.1, λ ends. absurd ends)
 
 -- a blob wasn't put, and the ticket stays out

@@ -4,3 +4,4 @@ pub mod Writing
 pub mod Indices
 pub mod Swaps
 pub mod Ends
+pub mod Naming

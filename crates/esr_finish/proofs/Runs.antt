@@ -58,6 +58,7 @@ tried_by_worked t (Err (steps.Refused (refusals.GenerationsSpent number))) = wor
 tried_by_worked t (Err (steps.Refused (refusals.TermsSpent number))) = worked_not t
 tried_by_worked t (Err (steps.Refused (refusals.IdsSpent next))) = worked_not t
 tried_by_worked t (Err (steps.Refused (refusals.NameTaken name))) = worked_not t
+tried_by_worked t (Err (steps.Refused (refusals.NoSnapshot at))) = worked_not t
 tried_by_worked t (Err (steps.Refused (refusals.BeingDeleted op))) = worked_not t
 
 tried_if : (latest : Bool) (t : Ticket) → Worked t (if latest then tried t else t)
@@ -79,6 +80,7 @@ begun_by_worked name t (Err (steps.Refused (refusals.GenerationsSpent number))) 
 begun_by_worked name t (Err (steps.Refused (refusals.TermsSpent number))) = worked_not t
 begun_by_worked name t (Err (steps.Refused (refusals.IdsSpent next))) = worked_not t
 begun_by_worked name t (Err (steps.Refused (refusals.NameTaken taken))) = worked_not t
+begun_by_worked name t (Err (steps.Refused (refusals.NoSnapshot at))) = worked_not t
 begun_by_worked name t (Err (steps.Refused (refusals.BeingDeleted op))) = worked_not t
 
 -- a begin, whatever it was answered
@@ -105,6 +107,7 @@ left_cases gone (Err (steps.Refused (refusals.GenerationsSpent number))) t u h =
 left_cases gone (Err (steps.Refused (refusals.TermsSpent number))) t u h = inl h
 left_cases gone (Err (steps.Refused (refusals.IdsSpent next))) t u h = inl h
 left_cases gone (Err (steps.Refused (refusals.NameTaken name))) t u h = inl h
+left_cases gone (Err (steps.Refused (refusals.NoSnapshot at))) t u h = inl h
 left_cases gone (Err (steps.Refused (refusals.BeingDeleted op))) t u h = inl h
 
 raised_worked : (t u : Ticket) → (u ≡ t) ⊎ HasRaised t u → Worked t u

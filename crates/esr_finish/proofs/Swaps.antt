@@ -33,7 +33,7 @@ has_noted (x ∷ blobs) noted b (inl same) = noted_stays blobs (x.0 ∷ noted) b
 has_noted (x ∷ blobs) noted b (inr later) = has_noted blobs (x.0 ∷ noted) b later
 
 -- a name of none of the blobs was noted before
-noted_before : (blobs : List (BlobName × Bytes)) (noted : List BlobName) (name : BlobName) → ((b : BlobName × Bytes) → Has blobs b → b.0 ≡ name → ⊥) → Has (noted_with blobs noted) name → Has noted name
+pub noted_before : (blobs : List (BlobName × Bytes)) (noted : List BlobName) (name : BlobName) → ((b : BlobName × Bytes) → Has blobs b → b.0 ≡ name → ⊥) → Has (noted_with blobs noted) name → Has noted name
 noted_before [] noted name other has = has
 noted_before (x ∷ blobs) noted name other has = before (noted_before blobs (x.0 ∷ noted) name (λ b later. other b (inr later)) has)
   where
@@ -61,7 +61,7 @@ root_next s a b info root may wrote worked = record {
   noted = λ name bytes has. subst (λ (t : Ticket). Has t.noted name) (sym wrote.is)
       (has_noted (metadata (formats_of s) info) a.noted (name, bytes) (subst (λ (own : List (BlobName × Bytes)). Has own (name, bytes)) may.own_is has));
   once = ap (λ (t : Ticket). t.raised) wrote.is ∙ may.once;
-  unnoted = λ n has. may.unnoted n (noted_before (metadata (formats_of s) info) a.noted (Root n) (no_root (formats_of s) info n) (subst (λ (t : Ticket). Has t.noted (Root n)) wrote.is has));
+  unnoted = λ n has. subst (λ (noted : List BlobName). Has noted (Root n)) may.unnoted (noted_before (metadata (formats_of s) info) a.noted (Root n) (no_root (formats_of s) info n) (subst (λ (t : Ticket). Has t.noted (Root n)) wrote.is has));
 }
 
 -- after all of it, the settle
@@ -106,7 +106,8 @@ took_may s t info shards root op copy (term, made, is, root_is) =
       own_is = refl;
       root_is = root_is;
       once = ap (λ (u : Ticket). u.raised) is;
-      unnoted = λ n has. subst (λ (u : Ticket). Has u.noted (Root n)) is has;
+      unnoted = ap (λ (u : Ticket). u.noted) is;
+      untried = ap (λ (u : Ticket). u.tried_latest) is;
     }
 
 pub took_writes : (s : Start) (t : Ticket) (work : Work) (new : Option code.Root) (op : ℕ) (copy : Copied) (info : Info) (shards : List ShardResult) (root : code.Root)

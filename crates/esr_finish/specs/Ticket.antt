@@ -19,6 +19,10 @@ pub record HasSwap (s : Start) (t : Ticket) (change : Swap) : Type 0 where
 abbrev pub MayPut : Start → Ticket → List (BlobName × Bytes) → Type 0
 MayPut s t blobs = (change : Swap) × HasSwap s t change × ((b : BlobName × Bytes) → Has blobs b → Has change.own b)
 
+-- the name isn't noted
+abbrev pub IsUnnoted : Ticket → BlobName → Type 0
+IsUnnoted t name = Has t.noted name → ⊥
+
 -- all of them are written, and no root is, so that this root is next
 pub record MayPutRoot (s : Start) (t : Ticket) (root : RootData) : Type 0 where
   pub change : Swap
@@ -28,14 +32,15 @@ pub record MayPutRoot (s : Start) (t : Ticket) (root : RootData) : Type 0 where
   pub once : t.raised ≡ None
   pub unnoted : (n : ℕ) → Has t.noted (Root n) → ⊥
 
--- its swap writes the metadata of this info, and then this root; no root is written yet
+-- its swap writes the metadata of this info, and then this root; nothing is written yet
 pub record MayWrite (s : Start) (t : Ticket) (info : SnapInfo) (root : RootData) : Type 0 where
   pub change : Swap
   pub swaps : HasSwap s t change
   pub own_is : change.own ≡ metadata (formats_of s) info
   pub root_is : root ≡ change.root
   pub once : t.raised ≡ None
-  pub unnoted : (n : ℕ) → Has t.noted (Root n) → ⊥
+  pub unnoted : t.noted ≡ []
+  pub untried : t.tried_latest ≡ false
 
 -- ---- what its steps make of it
 

@@ -1,5 +1,6 @@
 //! The metadata of a snapshot.
-ghost use Rattle.std.specs.Prelude.{◌≡◌, ◌≤◌, [], ◌∷◌, IfErr, IfOk, OnOk};
+ghost use Rattle.std.specs.Prelude.{◌≡◌, ◌≤◌, ℕ, [], ◌∷◌, IfErr, IfOk, OnOk};
+ghost use Rattle.esr_model.specs.Names.{Snap, Meta, IndexMeta as IndexMetaName};
 ghost use Rattle.esr_model.specs.Image.{global_of};
 ghost use Rattle.esr_core.specs.World.{metadata};
 ghost use Rattle.esr_formats.specs.Globals.{global_kind};
@@ -7,8 +8,9 @@ ghost use Rattle.esr_formats.specs.IndexMetas.{index_meta_kind};
 ghost use Rattle.esr_formats.specs.Infos.{info_of_code};
 ghost use Rattle.esr_formats.specs.Refs.{ref_of_code};
 ghost use Rattle.esr_desk.specs.Start.{formats_of, ticket_of};
+ghost use Rattle.esr_desk.specs.Told.{TellsAll};
 ghost use Rattle.esr_finish.specs.Blobs.{info_blob, global_blob, index_blob, index_blobs};
-ghost use Rattle.esr_finish.specs.Ticket.{MayPut, Puts};
+ghost use Rattle.esr_finish.specs.Ticket.{MayPut, IsUnnoted, Puts};
 ghost use Rattle.esr_finish.specs.Went.{Went};
 ghost use Rattle.esr_finish.specs.Refused.{IsPutRefused};
 
@@ -58,7 +60,10 @@ fn put_info<Q: Desk>(
 ) -> Result<(), PutRefusal<Q::Stage>>
     requires mine { Q.holds desk.old ticket }
     requires may { MayPut Q.start (ticket_of Q.start (Q.seen desk.old) ticket) (info_blob (formats_of Q.start) (info_of_code info.now) ∷ []) }
+    requires new { IsUnnoted (ticket_of Q.start (Q.seen desk.old) ticket) (Snap info.now.uuid.number) }
+    requires tells { TellsAll Q.start (Q.seen desk.old) ticket }
     ensures ok { OnOk result (Puts Q.start (Q.seen desk.old) (Q.seen desk.new) ticket (info_blob (formats_of Q.start) (info_of_code info.now) ∷ [])) }
+    ensures tells { OnOk result (TellsAll Q.start (Q.seen desk.new) ticket) }
     ensures refused { IfErr result (λ e. IsPutRefused Q.start Q.Stage.faults (Q.seen desk.new) ticket e) }
     ensures went { Went Q.start (Q.seen desk.old) (Q.seen desk.new) ticket }
     ensures holds { Q.holds desk.new ticket }
@@ -81,7 +86,10 @@ fn put_global<Q: Desk>(
 ) -> Result<(), PutRefusal<Q::Stage>>
     requires mine { Q.holds desk.old ticket }
     requires may { MayPut Q.start (ticket_of Q.start (Q.seen desk.old) ticket) (global_blob (formats_of Q.start) (info_of_code info.now) ∷ []) }
+    requires new { IsUnnoted (ticket_of Q.start (Q.seen desk.old) ticket) (Meta info.now.uuid.number) }
+    requires tells { TellsAll Q.start (Q.seen desk.old) ticket }
     ensures ok { OnOk result (Puts Q.start (Q.seen desk.old) (Q.seen desk.new) ticket (global_blob (formats_of Q.start) (info_of_code info.now) ∷ [])) }
+    ensures tells { OnOk result (TellsAll Q.start (Q.seen desk.new) ticket) }
     ensures refused { IfErr result (λ e. IsPutRefused Q.start Q.Stage.faults (Q.seen desk.new) ticket e) }
     ensures went { Went Q.start (Q.seen desk.old) (Q.seen desk.new) ticket }
     ensures holds { Q.holds desk.new ticket }
@@ -107,7 +115,10 @@ fn put_index<Q: Desk>(
     requires some { 1 ≤ index.now.shards }
     requires most { index.now.shards ≤ 1024 }
     requires may { MayPut Q.start (ticket_of Q.start (Q.seen desk.old) ticket) (index_blob (formats_of Q.start) uuid.number (ref_of_code index.now) ∷ []) }
+    requires new { IsUnnoted (ticket_of Q.start (Q.seen desk.old) ticket) (IndexMetaName index.now.id.number uuid.number) }
+    requires tells { TellsAll Q.start (Q.seen desk.old) ticket }
     ensures ok { OnOk result (Puts Q.start (Q.seen desk.old) (Q.seen desk.new) ticket (index_blob (formats_of Q.start) uuid.number (ref_of_code index.now) ∷ [])) }
+    ensures tells { OnOk result (TellsAll Q.start (Q.seen desk.new) ticket) }
     ensures refused { IfErr result (λ e. IsPutRefused Q.start Q.Stage.faults (Q.seen desk.new) ticket e) }
     ensures went { Went Q.start (Q.seen desk.old) (Q.seen desk.new) ticket }
     ensures holds { Q.holds desk.new ticket }
@@ -130,7 +141,10 @@ fn put_indices<Q: Desk>(
 ) -> Result<(), PutRefusal<Q::Stage>>
     requires mine { Q.holds desk.old ticket }
     requires may { MayPut Q.start (ticket_of Q.start (Q.seen desk.old) ticket) (index_blobs (formats_of Q.start) (info_of_code info.now)) }
+    requires new { (id : ℕ) → IsUnnoted (ticket_of Q.start (Q.seen desk.old) ticket) (IndexMetaName id info.now.uuid.number) }
+    requires tells { TellsAll Q.start (Q.seen desk.old) ticket }
     ensures ok { OnOk result (Puts Q.start (Q.seen desk.old) (Q.seen desk.new) ticket (index_blobs (formats_of Q.start) (info_of_code info.now))) }
+    ensures tells { OnOk result (TellsAll Q.start (Q.seen desk.new) ticket) }
     ensures refused { IfErr result (λ e. IsPutRefused Q.start Q.Stage.faults (Q.seen desk.new) ticket e) }
     ensures went { Went Q.start (Q.seen desk.old) (Q.seen desk.new) ticket }
     ensures holds { Q.holds desk.new ticket }
@@ -150,7 +164,10 @@ pub fn put_metadata<Q: Desk>(
 ) -> Result<(), PutRefusal<Q::Stage>>
     requires mine { Q.holds desk.old ticket }
     requires may { MayPut Q.start (ticket_of Q.start (Q.seen desk.old) ticket) (metadata (formats_of Q.start) (info_of_code info.now)) }
+    requires new { (ticket_of Q.start (Q.seen desk.old) ticket).noted ≡ [] }
+    requires tells { TellsAll Q.start (Q.seen desk.old) ticket }
     ensures ok { OnOk result (Puts Q.start (Q.seen desk.old) (Q.seen desk.new) ticket (metadata (formats_of Q.start) (info_of_code info.now))) }
+    ensures tells { OnOk result (TellsAll Q.start (Q.seen desk.new) ticket) }
     ensures refused { IfErr result (λ e. IsPutRefused Q.start Q.Stage.faults (Q.seen desk.new) ticket e) }
     ensures went { Went Q.start (Q.seen desk.old) (Q.seen desk.new) ticket }
     ensures holds { Q.holds desk.new ticket }

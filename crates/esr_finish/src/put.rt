@@ -3,8 +3,9 @@ ghost use Rattle.std.specs.Prelude.{[], ◌∷◌, IfErr, OnOk};
 ghost use Rattle.esr_names.specs.Layout.{IsName};
 ghost use Rattle.esr_formats.specs.Names.{name_of};
 ghost use Rattle.esr_desk.specs.Start.{ticket_of};
+ghost use Rattle.esr_desk.specs.Told.{TellsAll};
 ghost use Rattle.esr_desk.specs.Conditions.{CanCommit};
-ghost use Rattle.esr_finish.specs.Ticket.{Puts};
+ghost use Rattle.esr_finish.specs.Ticket.{IsUnnoted, Puts};
 ghost use Rattle.esr_finish.specs.Went.{Went};
 ghost use Rattle.esr_finish.specs.Refused.{IsPutRefused};
 
@@ -25,7 +26,10 @@ pub fn put<Q: Desk>(
     requires mine { Q.holds desk.old ticket }
     requires layout { IsName name }
     requires may { CanCommit Q.start (ticket_of Q.start (Q.seen desk.old) ticket) (name_of name) bytes.now }
+    requires new { IsUnnoted (ticket_of Q.start (Q.seen desk.old) ticket) (name_of name) }
+    requires tells { TellsAll Q.start (Q.seen desk.old) ticket }
     ensures ok { OnOk result (Puts Q.start (Q.seen desk.old) (Q.seen desk.new) ticket ((name_of name, bytes.now) ∷ [])) }
+    ensures tells { OnOk result (TellsAll Q.start (Q.seen desk.new) ticket) }
     ensures refused { IfErr result (λ e. IsPutRefused Q.start Q.Stage.faults (Q.seen desk.new) ticket e) }
     ensures went { Went Q.start (Q.seen desk.old) (Q.seen desk.new) ticket }
     ensures holds { Q.holds desk.new ticket }

@@ -1,10 +1,11 @@
 //! The new root, and `index.latest`.
-ghost use Rattle.std.specs.Prelude.{◌≡◌, ◌<◌, ◌^◌, IfErr, IfOk, OnOk};
+ghost use Rattle.std.specs.Prelude.{◌≡◌, ◌<◌, ◌^◌, false, IfErr, IfOk, OnOk};
 ghost use Rattle.esr_formats.specs.Infos.{info_of_code};
 ghost use Rattle.esr_formats.specs.Roots.{root_of};
 ghost use Rattle.esr_desk.specs.Start.{formats_of, ticket_of};
 ghost use Rattle.esr_desk.specs.Conditions.{CanPut};
 ghost use Rattle.esr_desk.specs.Taken.{tried};
+ghost use Rattle.esr_desk.specs.Told.{TellsAll};
 ghost use Rattle.esr_finish.specs.Ticket.{MayWrite, MayPutRoot, PutsRoot, IsWritten};
 ghost use Rattle.esr_finish.specs.Went.{Went};
 ghost use Rattle.esr_finish.specs.Refused.{IsPutRefused};
@@ -29,7 +30,9 @@ fn put_root<Q: Desk>(
 ) -> Result<u64, PutRefusal<Q::Stage>>
     requires mine { Q.holds desk.old ticket }
     requires may { MayPutRoot Q.start (ticket_of Q.start (Q.seen desk.old) ticket) (root_of root.now) }
+    requires tells { TellsAll Q.start (Q.seen desk.old) ticket }
     ensures ok { IfOk result (λ n. PutsRoot Q.start (Q.seen desk.old) (Q.seen desk.new) ticket (root_of root.now) n) }
+    ensures tells { IfOk result (λ n. TellsAll Q.start (Q.seen desk.new) ticket) }
     ensures refused { IfErr result (λ e. IsPutRefused Q.start Q.Stage.faults (Q.seen desk.new) ticket e) }
     ensures went { Went Q.start (Q.seen desk.old) (Q.seen desk.new) ticket }
     ensures holds { Q.holds desk.new ticket }
@@ -55,7 +58,10 @@ fn put_latest<Q: Desk>(
 ) -> Result<(), PutRefusal<Q::Stage>>
     requires mine { Q.holds desk.old ticket }
     requires may { CanPut Q.start (ticket_of Q.start (Q.seen desk.old) ticket) generation }
+    requires untried { (ticket_of Q.start (Q.seen desk.old) ticket).tried_latest ≡ false }
+    requires tells { TellsAll Q.start (Q.seen desk.old) ticket }
     ensures ok { OnOk result (ticket_of Q.start (Q.seen desk.new) ticket ≡ tried (ticket_of Q.start (Q.seen desk.old) ticket)) }
+    ensures tells { OnOk result (TellsAll Q.start (Q.seen desk.new) ticket) }
     ensures refused { IfErr result (λ e. IsPutRefused Q.start Q.Stage.faults (Q.seen desk.new) ticket e) }
     ensures went { Went Q.start (Q.seen desk.old) (Q.seen desk.new) ticket }
     ensures holds { Q.holds desk.new ticket }
@@ -70,7 +76,8 @@ fn put_latest<Q: Desk>(
     }
     let Named { name, stage } = named;
     match desk.latest(alloc, ticket, name, stage) {
-        Ok(()) | Err(StepRefusal::Refused(EntryRefusal::DepotFault)) => Ok(()),
+        Ok(()) => Ok(()),
+        Err(StepRefusal::Refused(EntryRefusal::DepotFault)) => Ok(()),
         Err(refusal) => Err(PutRefusal::Step(refusal)),
     }
 }
@@ -85,7 +92,9 @@ pub fn write_swap<Q: Desk>(
 ) -> Result<(), PutRefusal<Q::Stage>>
     requires mine { Q.holds desk.old ticket }
     requires may { MayWrite Q.start (ticket_of Q.start (Q.seen desk.old) ticket) (info_of_code info.now) (root_of root.now) }
+    requires tells { TellsAll Q.start (Q.seen desk.old) ticket }
     ensures ok { OnOk result (IsWritten (formats_of Q.start) (ticket_of Q.start (Q.seen desk.old) ticket) (ticket_of Q.start (Q.seen desk.new) ticket)) }
+    ensures tells { OnOk result (TellsAll Q.start (Q.seen desk.new) ticket) }
     ensures refused { IfErr result (λ e. IsPutRefused Q.start Q.Stage.faults (Q.seen desk.new) ticket e) }
     ensures went { Went Q.start (Q.seen desk.old) (Q.seen desk.new) ticket }
     ensures holds { Q.holds desk.new ticket }

@@ -2,6 +2,7 @@
 ghost use Rattle.std.specs.Prelude.{◌≡◌, IfErr, OnOk};
 ghost use Rattle.esr_desk.specs.Entries.{why_of};
 ghost use Rattle.esr_desk.specs.Start.{ticket_of};
+ghost use Rattle.esr_desk.specs.Once.{HasMadeNone};
 ghost use Rattle.esr_desk.specs.Shown.{IsShown};
 ghost use Rattle.esr_desk.specs.Conditions.{CanFail};
 ghost use Rattle.esr_desk.specs.Taken.{Took};
@@ -21,6 +22,7 @@ use std::alloc::Global;
 pub fn run_unit<Q: Desk>(alloc: Global, desk: &mut Q, unit: &Unit) -> Result<(), UnitRefusal>
     requires mine { Q.holds desk.old unit.now.ready.ticket }
     requires fresh { Took Q.start (Q.seen desk.old) unit.now }
+    requires new { HasMadeNone (Q.seen desk.old) unit.now.ready.ticket }
     requires work { IsFinalize unit.now.ready.work }
     ensures ok { OnOk result (Finalized Q.start (Q.seen desk.old) (Q.seen desk.new) unit.now.ready.ticket) }
     ensures refused { IfErr result (λ e. IsUnitRefused Q.start Q.Stage.faults (Q.seen desk.old) (Q.seen desk.new) unit.now.ready.ticket e) }

@@ -3,8 +3,6 @@
 
 mod hasher;
 mod print;
-#[cfg(test)]
-mod tests;
 
 pub use hasher::Hasher;
 pub use print::{Print, digits_tell_digests, print_read, print_text};

@@ -61,7 +61,7 @@ fn made<D: Depot, K: Told, S: Sources>(
     sources: &S,
 ) -> Result<D, Fail>
     requires begun { IsBegun K.start K.clock K.past (D.look opening.depot)
-        (record { cluster = opening.cluster; root = opening.root; plan = opening.progress; next = opening.next.number }) }
+        (record { cluster = opening.cluster; root = opening.root; infos = opening.infos; plan = opening.progress; next = opening.next.number }) }
     requires counted { K.faults ≤ D.faults opening.depot }
     requires calm { K.start.quiet ≡ true → 2 ^ 41 ≤ (D.look opening.depot).sure }
     requires sources { AreSources K.start (S.files sources.now) (S.is_there sources.now) (S.is_quiet sources.now) }
@@ -86,6 +86,7 @@ fn only_now<D: Depot>(depot: &D)
 
 /// The same, from a container that is opened first.
 fn made_in<D: Depot, S: Sources>(alloc: Global, depot: D, sources: &S) -> Result<D, Fail> {
+    esr_core::opened_worlds_track_restores();
     match open_container(alloc, depot) {
         Ok(opening) => {
             only_now(&opening.depot);

@@ -2,6 +2,7 @@
 ghost use Rattle.std.specs.Prelude.{◌≡◌, true, Some, IfOk, OnOk};
 ghost use Rattle.esr_core.specs.Entry.{TakeStep};
 ghost use Rattle.esr_desk.specs.Grew.{GrewBy};
+ghost use Rattle.esr_desk.specs.Once.{HasMadeNone};
 ghost use Rattle.esr_desk.specs.Outcome.{Stepped, take_reply};
 ghost use Rattle.esr_desk.specs.Sources.{AreSources};
 ghost use Rattle.esr_desk.specs.Taken.{Took};
@@ -24,12 +25,16 @@ pub(crate) fn take<D: Depot, K: Told, S: Sources>(
     desk: &mut Solo<D, K, S::Shard, MemTarget>,
 ) -> Result<Unit, Fail>
     ensures took { IfOk result (λ u. Took K.start desk.new u) }
+    ensures new { IfOk result (λ u. HasMadeNone desk.new u.ready.ticket) }
     ensures gave { IfOk result (λ u. Stepped K.start desk.old desk.new 0 TakeStep (take_reply (Some u))) }
 {
-    match desk.take(alloc)? {
-        Some(unit) => Ok(unit),
-        None => Err(Fail::new("no unit is ready")),
+    let Some(unit) = desk.take(alloc)? else {
+        return Err(Fail::new("no unit is ready"));
+    };
+    if let Work::RestoreShard { .. } = &unit.ready.work {
+        return Err(Fail::new("no restore was asked for"));
     }
+    Ok(unit)
 }
 
 /// Works a unit that was taken.
@@ -40,6 +45,7 @@ pub(crate) fn work_unit<D: Depot, K: Told, S: Sources>(
     sources: &S,
 ) -> Result<(), Fail>
     requires fresh { Took K.start desk.old unit.now }
+    requires new { HasMadeNone desk.old unit.now.ready.ticket }
     requires sources { AreSources K.start (S.files sources.now) (S.is_there sources.now) (S.is_quiet sources.now) }
     requires size { PART_SIZE ≡ K.start.part_size }
     ensures { OnOk result (GrewBy K.start unit.now.ready.ticket desk.old desk.new) }
@@ -53,8 +59,8 @@ pub(crate) fn work_unit<D: Depot, K: Told, S: Sources>(
             esr_finish::run_unit(alloc, desk, unit)?;
             Ok(())
         }
-        Work::RestoreShard { .. } => Err(Fail::new("a restore was accepted")),
         Work::Drop => Err(Fail::new("an op failed")),
+        _ => Err(Fail::new("no such command was accepted")),
     }
 }
 
@@ -79,14 +85,19 @@ pub(crate) fn work_beside<D: Depot, K: Told, S: Sources>(
     sources: &S,
 ) -> Result<(), Fail>
     requires held { Took K.start desk.old held.now }
+    requires new { HasMadeNone desk.old held.now.ready.ticket }
     requires sources { AreSources K.start (S.files sources.now) (S.is_there sources.now) (S.is_quiet sources.now) }
     requires size { PART_SIZE ≡ K.start.part_size }
     requires alone { K.start.alone ≡ true }
-    ensures { OnOk result (Took K.start desk.new held.now) }
+    ensures held { OnOk result (Took K.start desk.new held.now) }
+    ensures new { OnOk result (HasMadeNone desk.new held.now.ready.ticket) }
 {
     esr_quiet::other_tickets_stay();
     let unit = take::<D, K, S>(alloc, desk)?;
     if unit.ready.ticket == 0 {
+        return Err(Fail::new("a ticket has the number 0"));
+    }
+    if held.ready.ticket == 0 {
         return Err(Fail::new("a ticket has the number 0"));
     }
     if unit.ready.ticket == held.ready.ticket {

@@ -4,8 +4,6 @@
 mod key;
 mod reading;
 mod refusal;
-#[cfg(test)]
-mod tests;
 mod writing;
 
 pub use key::Key;

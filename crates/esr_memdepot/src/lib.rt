@@ -15,6 +15,3 @@ pub use depot::MemDepot;
 pub use fetch::MemFetch;
 pub use plan::{Call, Failing, Leaves, Plan};
 pub use stage::MemStage;
-
-#[cfg(test)]
-mod tests;

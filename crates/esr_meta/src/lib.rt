@@ -5,8 +5,6 @@ mod global;
 mod index;
 mod indices;
 mod info;
-#[cfg(test)]
-mod tests;
 
 pub use global::{GlobalMeta, global_read, global_text};
 pub use index::{IndexMeta, index_meta_read, index_meta_text};

@@ -6,8 +6,6 @@ mod ids;
 mod index_ref;
 mod name;
 mod parse;
-#[cfg(test)]
-mod tests;
 
 pub use blob::{BlobName, ShardId, is_name, print_name};
 pub use ids::{ID_TEXT_LEN, Id, id_read, id_reads_back, id_text, worked_texts};

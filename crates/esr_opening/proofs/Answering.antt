@@ -1,5 +1,5 @@
 -- What steps answer, one after another.
-use Rattle.std.proofs.Common.{◌≡◌, ◌⊎◌, inl, inr, ℕ, ◌<◌, ◌≤◌, true, Option, Some, None, Result, Ok, Err, refl, sym, ap, ◌∙◌, subst, arith}
+use Rattle.std.proofs.Common.{◌≡◌, inl, inr, ℕ, ◌≤◌, true, Option, Some, Result, Ok, Err, refl, sym, ◌∙◌, subst, arith}
 use Rattle.esr_depot.specs.Image.{Image as Held}
 use Rattle.esr_depot.specs.declared.error.CallError.{CallError}
 use Rattle.esr_depot.specs.declared.error.CallError.TheVariants.{Memory, Failed}
@@ -9,6 +9,7 @@ use Rattle.esr_opening.specs.Found.{Obstacle}
 use Rattle.esr_opening.specs.Opening.{IsFault}
 use Rattle.esr_opening.specs.Refusals.{call_refusal}
 use Rattle.esr_opening.specs.Looked.{Refuses, Answers, Blames, Says}
+use Rattle.esr_opening.specs.Part.{part}
 use Rattle.esr_opening.specs.declared.refusal.OpenRefusal.{OpenRefusal}
 use Rattle.esr_opening.specs.declared.refusal.OpenRefusal.TheVariants as refusals
 
@@ -81,9 +82,10 @@ says_as found whole (Err e) agree h = blames_on found whole e (λ o fails. agree
 
 -- ---- an error that is passed on
 
-pub passed : {F B : Type 0} (faults : F → ℕ) (held : Option Held) (x y : ℕ) (whole : Held → Result B Obstacle) (r : Result B (OpenRefusal F)) (e : OpenRefusal F) → IsErrAnd r (λ s. s ≡ e) → Refuses faults held x y whole e → Answers faults held x y whole r
-passed faults held x y whole (Ok v) e is h = absurd is
-passed faults held x y whole (Err s) e is h = subst (λ t. Refuses faults held x y whole t) (sym is) h
+pub passed : {F A B : Type 0} (faults : F → ℕ) (held : Option Held) (x y : ℕ) (whole : Held → Result B Obstacle) (f : A → B) (r : Result A (OpenRefusal F)) (e : OpenRefusal F) → IsErrAnd r (λ s. s ≡ e) → Refuses faults held x y whole e
+    → Answers faults held x y whole (part f r)
+passed faults held x y whole f (Ok v) e is h = absurd is
+passed faults held x y whole f (Err s) e is h = subst (λ t. Refuses faults held x y whole t) (sym is) h
 
 pub err_passed : {T E : Type 0} (r : Result T E) (P : E → Type 0) (x : E) → IsErrAnd r (λ e. e ≡ x) → P x → IfErr r P
 err_passed (Ok t) P x is h = tt

@@ -1,22 +1,22 @@
 -- The next term begins, or its swap fails.
-use Rattle.std.proofs.Common.{◌≡◌, ◌⊎◌, inl, inr, ℕ, suc, ◌+◌, ◌-◌, ◌^◌, ◌<◌, ◌≤◌, true, Option, Some, None, option_map, Result, Ok, Err, refl, sym, ap, ◌∙◌, subst, ⊎_elim, arith, nat_cmp, List, length}
+use Rattle.std.proofs.Common.{◌≡◌, inl, inr, ℕ, suc, ◌-◌, ◌^◌, ◌≤◌, Option, Some, None, option_map, Result, Ok, Err, refl, sym, ap, ◌∙◌, subst, ⊎_elim, arith, nat_cmp, List, length}
 use Rattle.std.specs.Prelude.{IfErr}
-use Rattle.std.specs.FinMap.{FinMap}
 use Rattle.std.specs.FinMap as fin
-use Rattle.esr_model.specs.Values.{Bytes, ReadsBack, ClusterRecord}
+use Rattle.esr_model.specs.Values.{Bytes, ClusterRecord}
 use Rattle.esr_model.specs.Kept.{first_id}
-use Rattle.esr_core.specs.World.{World, Deletion, Ticket, Restoring, record_of, kept_deletes, numbered_deletes}
+use Rattle.esr_core.specs.World.{Restoring, numbered_deletes}
 use Rattle.esr_depot.specs.Image.{Image as Held, with_text, swap_known}
 use Rattle.esr_depot.specs.Look.{Look, now}
-use Rattle.esr_depot.specs.Calls.{HasCause}
 use Rattle.esr_depot.specs.Moments.{LeavesOnly, joined}
 use Rattle.esr_record.specs.Record.{Record}
 use Rattle.esr_root.specs.Root.{Root}
+use Rattle.esr_meta.specs.Info.{Info}
 use Rattle.esr_formats.specs.Clusters.{cluster_of, cluster_kind}
 use Rattle.esr_progress.specs.Plan.{RestorePlan, no_plan, seat_of, restore_plan, reader_seat, IsPlanOf}
 use Rattle.esr_opening.specs.Found.{Obstacle, Damage, found}
 use Rattle.esr_opening.specs.Hindrances.{IsNoDamage}
-use Rattle.esr_opening.specs.Opening.{Kept, IsKeptOf, world_in, opened_text, IsInOrder, IsLeftOf, IsOpening, IsAsBefore, SwapFailed, SparesKept, IsOpenRefused}
+use Rattle.esr_opening.specs.Opening.{IsKeptOf, world_in, opened_text, IsInOrder, IsLeftOf, IsOpening, IsAsBefore, SparesKept, IsOpenRefused}
+use Rattle.esr_opening.specs.Listed.{AreInfosIn}
 use Rattle.esr_opening.specs.Looked.{Looked, Refuses}
 use Rattle.esr_opening.specs.Terms.{IsFit, next_term, term_text, MayHave, NotBegun}
 use Rattle.esr_opening.specs.declared.refusal.Why.{Why}
@@ -27,6 +27,7 @@ use Rattle.esr_opening.proofs.Looking.{looked_on}
 use Rattle.esr_opening.proofs.Fitting.{fit_kept, record_is, plus_one}
 use Rattle.esr_opening.proofs.Opens.{found_opens}
 use Rattle.esr_opening.proofs.KeptFinds.{kept_opens}
+use Rattle.esr_opening.proofs.Listing.{infos_of}
 
 -- ---- what is kept
 
@@ -46,8 +47,9 @@ plan_is held cluster root fit = record {
   readers = λ k. fin.get-empty nat_cmp k ∙ ap (option_map reader_seat) (sym (fin.get-empty nat_cmp k));
 }
 
-kept_is : (held : Option Held) (cluster next : Record) (root : Root) → IsFit cluster root → next ≡ next_term cluster → IsKeptOf (world_in held cluster root) (record { cluster = next; root = root; plan = no_plan; next = first_id next.term })
-kept_is held cluster next root fit is = record {
+kept_is : (held : Option Held) (cluster next : Record) (root : Root) (infos : List Info) → IsFit cluster root → next ≡ next_term cluster
+    → IsKeptOf (world_in held cluster root) (record { cluster = next; root = root; infos = infos; plan = no_plan; next = first_id next.term })
+kept_is held cluster next root infos fit is = record {
   cluster = ap cluster_of is ∙ sym (record_is held cluster root fit);
   root = refl;
   plan = plan_is held cluster root fit;
@@ -68,18 +70,19 @@ left_by before mid after cluster root fit as_before left =
 
 -- ---- the answers
 
-pub begun : (before mid after : Look) (x y : ℕ) (cluster next : Record) (root : Root) → Looked before mid x y → ((i : Held) → now before ≡ Some i → found i ≡ Ok (cluster, root)) → IsFit cluster root
-    → IsInOrder (world_in (now before) cluster root) → next ≡ next_term cluster → now after ≡ swap_known (now mid) (term_text cluster) → after.clock ≤ 2 ^ 64 - 1 → LeavesOnly mid after (MayHave (now mid) (term_text cluster))
-    → IsOpening before after (record { cluster = next; root = root; plan = no_plan; next = first_id next.term })
-begun before mid after x y cluster next root looked finds fit order is swapped bounded left =
+pub begun : (before mid after : Look) (x y : ℕ) (cluster next : Record) (root : Root) (infos : List Info) → Looked before mid x y → ((i : Held) → now before ≡ Some i → found i ≡ Ok (cluster, root)) → IsFit cluster root
+    → AreInfosIn (now before) root root.snapshots infos → IsInOrder (world_in (now before) cluster root) → next ≡ next_term cluster → now after ≡ swap_known (now mid) (term_text cluster) → after.clock ≤ 2 ^ 64 - 1 → LeavesOnly mid after (MayHave (now mid) (term_text cluster))
+    → IsOpening before after (record { cluster = next; root = root; infos = infos; plan = no_plan; next = first_id next.term })
+begun before mid after x y cluster next root infos looked finds fit listed order is swapped bounded left =
     let put : now after ≡ swap_known (now before) (opened_text cluster root) = swapped ∙ ap (λ (o : Option Held). swap_known o (term_text cluster)) looked.kept.same ∙ ap (swap_known (now before)) (text_is cluster root fit) in
     record {
       cluster = cluster;
       root = root;
-      kept = kept_is (now before) cluster next root fit is;
+      kept = kept_is (now before) cluster next root infos fit is;
       order = order;
       finds = finds;
       opens = λ i known told here. found_opens (now before) i known told cluster root fit here (finds i here);
+      infos = λ known told. infos_of (now before) cluster root infos known told listed;
       untold = λ none. put ∙ ap (λ (o : Option Held). swap_known o (opened_text cluster root)) none;
       swapped = λ i here. put ∙ ap (λ (o : Option Held). swap_known o (opened_text cluster root)) here;
       bounded = bounded;

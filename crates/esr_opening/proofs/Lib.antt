@@ -7,6 +7,7 @@ pub mod Below
 pub mod Fitting
 pub mod Steps
 pub mod Opens
+pub mod Listing
 pub mod Begins
 pub mod Finding
 pub mod Shards

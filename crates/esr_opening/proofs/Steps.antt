@@ -1,5 +1,5 @@
 -- What opening finds, step by step.
-use Rattle.std.proofs.Common.{◌≡◌, ℕ, ◌+◌, ◌<◌, ℤ, pos, negsuc, List, [], ◌∷◌, length, drop, get_or, codes, Option, Some, None, Result, Ok, Err, refl, sym, ap, ◌∙◌, subst}
+use Rattle.std.proofs.Common.{◌≡◌, ℕ, ◌+◌, ◌<◌, ℤ, pos, negsuc, List, ◌∷◌, length, drop, get_or, codes, Option, Some, None, Result, Ok, Err, refl, sym, ap, ◌∙◌}
 use Rattle.std.specs.FinMap as fin
 use Rattle.std.proofs.lemmas.List.{drop_more}
 use Rattle.esr_model.specs.Values.{Bytes}
@@ -14,7 +14,7 @@ use Rattle.esr_meta.specs.Info.{Info, info_from}
 use Rattle.esr_opening.specs.Found.{Obstacle, ◌>>=◌, readable, read_as, without_record, record_in, root_name, root_in, safe_number, info_name, agreed, info_in, infos_in, known_ids, no_delete, has_term, checked, found}
 use Rattle.esr_opening.specs.Terms.{safe_place, whole_root_in, own_checks}
 
-ok_same : {A E : Type 0} (a b : A) → ◌≡◌ {A = Result A E} (Ok a) (Ok b) → a ≡ b
+pub ok_same : {A E : Type 0} (a b : A) → ◌≡◌ {A = Result A E} (Ok a) (Ok b) → a ≡ b
 ok_same a b h = cc
 
 -- what was fetched and read
@@ -50,7 +50,7 @@ pub info_read : (blobs : Blobs) (root : Root) (n : ℕ) (s : RootSnap) (name : B
     → info_in blobs root n s ≡ (read_as info_from name bytes >>= agreed root n s)
 info_read blobs root n s name bytes is got = ap (λ (r : Result Info Obstacle). r >>= agreed root n s) (read_there info_from blobs (info_name s) name bytes is got)
 
-pub infos_step : (blobs : Blobs) (root : Root) (n : ℕ) (snaps : List RootSnap) (index : ℕ) (s : RootSnap) → index < length snaps → s ≡ get_or snaps index s
+infos_step : (blobs : Blobs) (root : Root) (n : ℕ) (snaps : List RootSnap) (index : ℕ) (s : RootSnap) → index < length snaps → s ≡ get_or snaps index s
     → infos_in blobs root n (drop index snaps) ≡ (info_in blobs root n s >>= λ x. infos_in blobs root n (drop (index + 1) snaps))
 infos_step blobs root n snaps index s less is = ap (infos_in blobs root n) (drop_more snaps index s less ∙ ap (λ (z : RootSnap). z ∷ drop (index + 1) snaps) (sym is))
 
@@ -59,6 +59,12 @@ then_err r f o h = ap (λ s. s >>= f) h
 
 pub then_ok : {A B : Type 0} (r : Result A Obstacle) (f : A → Result B Obstacle) (x : A) → r ≡ Ok x → (r >>= f) ≡ f x
 then_ok r f x h = ap (λ s. s >>= f) h
+
+-- one more
+pub infos_on : (blobs : Blobs) (root : Root) (n : ℕ) (snaps : List RootSnap) (index : ℕ) (s : RootSnap) (x : Unit {0}) → index < length snaps → s ≡ get_or snaps index s → info_in blobs root n s ≡ Ok x
+    → infos_in blobs root n snaps ≡ infos_in blobs root n (drop index snaps) → infos_in blobs root n snaps ≡ infos_in blobs root n (drop (index + 1) snaps)
+infos_on blobs root n snaps index s x less is there before =
+    before ∙ infos_step blobs root n snaps index s less is ∙ then_ok (info_in blobs root n s) (λ u. infos_in blobs root n (drop (index + 1) snaps)) x there
 
 -- ---- the root with its infos
 

@@ -6,5 +6,7 @@ pub mod Opening
 pub mod KeptImages
 pub mod Refusals
 pub mod Looked
+pub mod Listed
+pub mod Part
 pub mod Spent
 pub mod Terms

@@ -1,7 +1,7 @@
 -- What the opening of a container does.
-use Rattle.std.specs.Prelude.{◌≡◌, ◌⊎◌, ℕ, ◌-◌, ◌^◌, ◌<◌, ◌≤◌, Bool, true, List, Option, Some, None, Ok, Err}
+use Rattle.std.specs.Prelude.{◌≡◌, ◌⊎◌, ℕ, ◌-◌, ◌^◌, ◌<◌, ◌≤◌, Bool, true, false, List, Option, Some, None, Ok, Err}
 use Rattle.std.specs.FinMap as fin
-use Rattle.esr_model.specs.Values.{Bytes, ReadsBack, RootData, ClusterRecord}
+use Rattle.esr_model.specs.Values.{Bytes, ReadsBack}
 use Rattle.esr_model.specs.Shelf.{Shelved}
 use Rattle.esr_model.specs.Image.{Blobs, Image}
 use Rattle.esr_model.specs.Kept.{Kept as IsKept}
@@ -14,10 +14,12 @@ use Rattle.esr_depot.specs.Calls.{HasCause}
 use Rattle.esr_depot.specs.Moments.{LeavesOnly}
 use Rattle.esr_root.specs.Root.{Root}
 use Rattle.esr_record.specs.Record.{Record}
+use Rattle.esr_meta.specs.Info.{Info}
 use Rattle.esr_formats.specs.Formats.{formats}
 use Rattle.esr_formats.specs.Roots.{root_of}
 use Rattle.esr_formats.specs.Clusters.{cluster_of, cluster_kind}
 use Rattle.esr_progress.specs.Plan.{Plan, IsPlanOf}
+use Rattle.esr_progress.specs.Infos.{AreInfosOf}
 use Rattle.esr_opening.specs.Found.{Damage, LastTerm, found}
 use Rattle.esr_opening.specs.Hindrances.{IsOpenDelete}
 use Rattle.esr_opening.specs.declared.refusal.Why.{Why}
@@ -32,6 +34,7 @@ image_of i = record { blobs = i.blobs; text = i.text }
 pub record Kept : Type 0 where
   pub cluster : Record
   pub root : Root
+  pub infos : List Info
   pub plan : Plan
   pub next : ℕ
 
@@ -48,6 +51,11 @@ pub record IsKeptOf (w : World) (k : Kept) : Type 0 where
 abbrev pub known_blobs : Option Held → Blobs
 known_blobs None = fin.empty
 known_blobs (Some i) = i.blobs
+
+-- whether they are told
+abbrev pub is_told : Option Held → Bool
+is_told None = false
+is_told (Some i) = true
 
 -- the world that opening makes of a container with this record and this root
 abbrev pub world_in : Option Held → Record → Root → World
@@ -80,6 +88,8 @@ pub record IsOpening (before after : Look) (k : Kept) : Type 0 where
   -- where it tells they are what opening finds, and this is the opened world of its image
   pub finds : (i : Held) → now before ≡ Some i → found i ≡ Ok (cluster, root)
   pub opens : (i : Held) (known : Bytes → Bytes → ℕ → Bool) (told : Bytes → Bytes → ℕ → List (Bytes × Bytes)) → now before ≡ Some i → Opened (formats known told) (image_of i) (world_in (now before) cluster root)
+  -- the infos are those of the listed snapshots, and where it tells those that are there
+  pub infos : (known : Bytes → Bytes → ℕ → Bool) (told : Bytes → Bytes → ℕ → List (Bytes × Bytes)) → AreInfosOf (formats known told) (world_in (now before) cluster root) (is_told (now before)) k.infos
   pub untold : now before ≡ None → now after ≡ None
   pub swapped : (i : Held) → now before ≡ Some i → now after ≡ Some (with_text i (opened_text cluster root))
   pub bounded : after.clock ≤ 2 ^ 64 - 1

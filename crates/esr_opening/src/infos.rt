@@ -1,9 +1,13 @@
 //! The infos of the snapshots that the safe root lists.
-ghost use Rattle.std.specs.Prelude.{◌<◌, ◌^◌, length};
+ghost use Rattle.std.specs.Prelude.{◌<◌, ◌^◌, length, map, IfOk};
 ghost use Rattle.esr_meta.specs.Info.{info_from};
+ghost use Rattle.esr_core.specs.Restores.{AreApart};
 ghost use Rattle.esr_depot.specs.Look.{now};
+ghost use Rattle.esr_formats.specs.Refs.{ref_of_code};
 ghost use Rattle.esr_opening.specs.Found.{read_as, agreed, info_in, infos_in};
+ghost use Rattle.esr_opening.specs.Listed.{IsInfoOf, AreInfosIn};
 ghost use Rattle.esr_opening.specs.Looked.{Looked, Answers, Says};
+ghost use Rattle.esr_opening.specs.Part.{part};
 ghost use Rattle.esr_opening.specs.Spent.{has_fault, Spends};
 
 use crate::agreement::agrees;
@@ -14,8 +18,11 @@ use esr_formats::{read_info, write_name};
 use esr_meta::SnapInfo;
 use esr_names::BlobName;
 use esr_root::{RootData, RootSnap};
-use esr_seq::{Bytes, Text};
+use esr_seq::{Bytes, Seq, Text};
 use std::alloc::Global;
+
+/// Infos of snapshots, in order.
+pub type SnapInfos = Seq<SnapInfo>;
 
 /// The info of these bytes.
 fn parse_info<F>(
@@ -23,7 +30,8 @@ fn parse_info<F>(
     name: Text,
     bytes: Option<Bytes>,
 ) -> Result<SnapInfo, OpenRefusal<F>>
-    ensures { Says (read_as info_from name bytes) result }
+    ensures says { Says (read_as info_from name bytes) result }
+    ensures apart { IfOk result (λ info. AreApart (map ref_of_code info.indices)) }
 {
     let Some(bytes) = bytes else {
         return Err(OpenRefusal::Damaged {
@@ -32,7 +40,10 @@ fn parse_info<F>(
         });
     };
     match read_info(alloc, bytes.as_slice()) {
-        Ok(info) => Ok(info),
+        Ok(info) => {
+            let _ = &info.name;
+            Ok(info)
+        }
         Err(refusal) => Err(unread(name, refusal)),
     }
 }
@@ -59,7 +70,7 @@ fn check_agreement<F>(
     })
 }
 
-/// Refuses a snapshot without an info that agrees.
+/// The info of the snapshot. Refuses one that isn't there, or doesn't agree with the root.
 #[tactic(auto, unfolding(esr_names::specs::Layout::IsName))]
 fn check_info<D: Depot>(
     alloc: Global,
@@ -67,34 +78,39 @@ fn check_info<D: Depot>(
     root: &RootData,
     number: u64,
     snap: &RootSnap,
-) -> Result<(), OpenRefusal<D::Fetch>>
+) -> Result<SnapInfo, OpenRefusal<D::Fetch>>
     ensures looked { Looked (D.look depot.old) (D.look depot.new) (D.faults depot.old) (D.faults depot.new) }
     ensures answer { Answers D.Fetch.faults (now (D.look depot.old)) (D.faults depot.old) (D.faults depot.new)
-        (λ i. info_in i.blobs root.now number snap.now) result }
+        (λ i. info_in i.blobs root.now number snap.now) (part (λ _. tt) result) }
+    ensures info { IfOk result (IsInfoOf (now (D.look depot.old)) root.now snap.now) }
     ensures spends { Spends (D.look depot.old).sure (D.look depot.new).sure 1 (has_fault result) }
 {
     let name = write_name(alloc, &BlobName::Snap(snap.uuid))?;
     let bytes = fetch_blob(alloc, depot, &name)?;
     let info = parse_info(alloc, name, bytes)?;
-    check_agreement(alloc, root, number, snap, &info)
+    check_agreement(alloc, root, number, snap, &info)?;
+    Ok(info)
 }
 
-/// Refuses the first of the snapshots without an info that agrees.
+/// The infos of the snapshots, in their order. Refuses the first snapshot without an info that agrees with the root.
 pub(crate) fn check_infos<D: Depot>(
     alloc: Global,
     depot: &mut D,
     root: &RootData,
     number: u64,
     snaps: &[RootSnap],
-) -> Result<(), OpenRefusal<D::Fetch>>
+) -> Result<SnapInfos, OpenRefusal<D::Fetch>>
     ensures looked { Looked (D.look depot.old) (D.look depot.new) (D.faults depot.old) (D.faults depot.new) }
     ensures answer { Answers D.Fetch.faults (now (D.look depot.old)) (D.faults depot.old) (D.faults depot.new)
-        (λ i. infos_in i.blobs root.now number snaps.now) result }
+        (λ i. infos_in i.blobs root.now number snaps.now) (part (λ _. tt) result) }
+    ensures infos { IfOk result (AreInfosIn (now (D.look depot.old)) root.now snaps.now) }
     ensures spends { Spends (D.look depot.old).sure (D.look depot.new).sure (length snaps.now) (has_fault result) }
     ensures few { length snaps.now < 2 ^ 60 }
 {
+    let mut infos = SnapInfos::new(alloc);
     for snap in snaps {
-        check_info(alloc, depot, root, number, snap)?;
+        let info = check_info(alloc, depot, root, number, snap)?;
+        infos.push(info)?;
     }
-    Ok(())
+    Ok(infos)
 }

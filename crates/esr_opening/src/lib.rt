@@ -17,6 +17,7 @@ mod term;
 #[cfg(test)]
 mod tests;
 
+pub use infos::SnapInfos;
 pub use laws::{agreement_is, kept_images_open};
 pub use opening::{Opening, open_container};
 pub use refusal::{OpenRefusal, Why};

@@ -2,20 +2,23 @@
 ghost use Rattle.std.specs.Prelude.{◌≡◌, ◌+◌, ◌^◌, ◌≤◌, Option, IfOk, IfErr};
 ghost use Rattle.esr_model.specs.Kept.{first_id};
 ghost use Rattle.esr_depot.specs.Look.{now};
+ghost use Rattle.esr_formats.specs.Roots.{root_of};
 ghost use Rattle.esr_progress.specs.Plan.{no_plan};
 ghost use Rattle.esr_opening.specs.Found.{found};
 ghost use Rattle.esr_opening.specs.Opening.{IsOpening, IsOpenRefused};
+ghost use Rattle.esr_opening.specs.Listed.{AreListed, AreInfosIn};
 ghost use Rattle.esr_opening.specs.Looked.{Looked, Answers};
+ghost use Rattle.esr_opening.specs.Part.{part};
 ghost use Rattle.esr_opening.specs.Spent.{has_fault, Spends};
 ghost use Rattle.esr_opening.specs.Terms.{IsFit};
 ghost use Rattle.esr_opening.specs.declared.refusal.OpenRefusal.TheVariants.{DepotFault};
 
-use crate::OpenRefusal;
 use crate::laws::opened_worlds_are_in_order;
 use crate::own::check_own;
 use crate::record::find_record;
 use crate::root::find_whole_root;
 use crate::term::begin_term;
+use crate::{OpenRefusal, SnapInfos};
 use esr_depot::Depot;
 use esr_names::Id;
 use esr_progress::Progress;
@@ -24,12 +27,14 @@ use esr_root::RootData;
 use std::alloc::Global;
 
 /// A container that was opened, with what a repository keeps of it at its start: the record of the new term, the safe
-/// root, an empty list of ops, and the first id of the term.
+/// root and the infos of its snapshots, an empty list of ops, and the first id of the term.
 #[derive(Drop)]
 pub struct Opening<D: Depot> {
     pub depot: D,
     pub cluster: ClusterRecord,
     pub root: RootData,
+    /// The infos of the listed snapshots, in the root's order.
+    pub infos: SnapInfos,
     pub progress: Progress,
     pub next: Id,
 }
@@ -41,7 +46,8 @@ pub fn open_container<D: Depot>(
     alloc: Global,
     mut depot: D,
 ) -> Result<Opening<D>, (D, OpenRefusal<D::Fetch>)>
-    ensures opened { IfOk result (λ o. IsOpening (D.look depot) (D.look o.depot) (record { cluster = o.cluster; root = o.root; plan = o.progress; next = o.next.number })) }
+    ensures opened { IfOk result (λ o. IsOpening (D.look depot) (D.look o.depot) (record { cluster = o.cluster; root = o.root; infos = o.infos; plan = o.progress; next = o.next.number })) }
+    ensures listed { IfOk result (λ o. AreListed (root_of o.root) o.infos) }
     ensures refused { IfErr result (λ e. IsOpenRefused D.Fetch.faults (D.look depot) (D.look e.0) (D.faults depot) (D.faults e.0) e.1) }
     ensures counted { IfOk result (λ o. D.faults depot ≤ D.faults o.depot) }
     ensures recounted { IfErr result (λ e. D.faults depot ≤ D.faults e.0) }
@@ -49,12 +55,13 @@ pub fn open_container<D: Depot>(
     ensures sure { IfErr result (λ e. 2 ^ 61 ≤ (D.look depot).sure → (fetch : Option D.Fetch) → e.1 ≡ DepotFault fetch → ⊥) }
 {
     match open_in_place(alloc, &mut depot) {
-        Ok((cluster, root)) => {
+        Ok((cluster, root, infos)) => {
             let next = Id::new(cluster.term, 0);
             Ok(Opening {
                 depot,
                 cluster,
                 root,
+                infos,
                 progress: Progress::new(alloc),
                 next,
             })
@@ -63,34 +70,36 @@ pub fn open_container<D: Depot>(
     }
 }
 
-/// The record and the safe root, where nothing is wrong with them.
+/// The record, the safe root and the infos of its snapshots, where nothing is wrong with them.
 fn find<D: Depot>(
     alloc: Global,
     depot: &mut D,
-) -> Result<(ClusterRecord, RootData), OpenRefusal<D::Fetch>>
+) -> Result<(ClusterRecord, RootData, SnapInfos), OpenRefusal<D::Fetch>>
     ensures looked { Looked (D.look depot.old) (D.look depot.new) (D.faults depot.old) (D.faults depot.new) }
-    ensures answer { Answers D.Fetch.faults (now (D.look depot.old)) (D.faults depot.old) (D.faults depot.new) found result }
+    ensures answer { Answers D.Fetch.faults (now (D.look depot.old)) (D.faults depot.old) (D.faults depot.new) found (part (λ o. (o.0, o.1)) result) }
     ensures fit { IfOk result (λ o. IsFit o.0 o.1) }
+    ensures infos { IfOk result (λ o. AreInfosIn (now (D.look depot.old)) o.1 o.1.snapshots o.2) }
     ensures spends { Spends (D.look depot.old).sure (D.look depot.new).sure (2 + 2 ^ 60) (has_fault result) }
 {
     let cluster = find_record(alloc, depot)?;
-    let root = find_whole_root(alloc, depot, cluster.safe)?;
+    let (root, infos) = find_whole_root(alloc, depot, cluster.safe)?;
     check_own(alloc, &cluster, &root)?;
-    Ok((cluster, root))
+    Ok((cluster, root, infos))
 }
 
-/// Finds the record and the safe root, and begins the next term.
+/// Finds the record, the safe root and the infos of its snapshots, and begins the next term.
 fn open_in_place<D: Depot>(
     alloc: Global,
     depot: &mut D,
-) -> Result<(ClusterRecord, RootData), OpenRefusal<D::Fetch>>
-    ensures opened { IfOk result (λ o. IsOpening (D.look depot.old) (D.look depot.new) (record { cluster = o.0; root = o.1; plan = no_plan; next = first_id o.0.term })) }
+) -> Result<(ClusterRecord, RootData, SnapInfos), OpenRefusal<D::Fetch>>
+    ensures opened { IfOk result (λ o. IsOpening (D.look depot.old) (D.look depot.new) (record { cluster = o.0; root = o.1; infos = o.2; plan = no_plan; next = first_id o.0.term })) }
+    ensures listed { IfOk result (λ o. AreListed (root_of o.1) o.2) }
     ensures refused { IfErr result (λ e. IsOpenRefused D.Fetch.faults (D.look depot.old) (D.look depot.new) (D.faults depot.old) (D.faults depot.new) e) }
     ensures counted { D.faults depot.old ≤ D.faults depot.new }
     ensures spends { Spends (D.look depot.old).sure (D.look depot.new).sure (2 ^ 61) (has_fault result) }
 {
     opened_worlds_are_in_order();
-    let (cluster, root) = find(alloc, depot)?;
+    let (cluster, root, infos) = find(alloc, depot)?;
     let next = begin_term(alloc, depot, &cluster)?;
-    Ok((next, root))
+    Ok((next, root, infos))
 }

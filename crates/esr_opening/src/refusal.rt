@@ -4,7 +4,7 @@ use esr_depot::CallError;
 use esr_json::Reason;
 use esr_names::{BlobName, Id};
 use esr_seq::Text;
-use std::alloc::AllocError;
+use std::alloc::{AllocError, AllocFailed};
 
 /// What is wrong with a blob, or with the cluster record.
 #[derive(Clone, Copy, Debug, PartialEq, Eq)]
@@ -56,6 +56,17 @@ impl<F> From<AllocError> for OpenRefusal<F> {
     ghost from_gives = { λ _ r. r ≡ Memory };
 
     fn from(_: AllocError) -> Self {
+        OpenRefusal::Memory
+    }
+}
+
+impl<T: Drop, F> From<AllocFailed<T>> for OpenRefusal<F> {
+    ghost use Rattle.std.specs.Prelude.{◌≡◌};
+    ghost use Rattle.esr_opening.specs.declared.refusal.OpenRefusal.TheVariants.{Memory};
+
+    ghost from_gives = { λ _ r. r ≡ Memory };
+
+    fn from(_: AllocFailed<T>) -> Self {
         OpenRefusal::Memory
     }
 }

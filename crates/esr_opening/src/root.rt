@@ -1,14 +1,16 @@
 //! The safe root is read.
-ghost use Rattle.std.specs.Prelude.{◌≡◌, ◌<◌, ◌^◌, Ok, IfSome};
+ghost use Rattle.std.specs.Prelude.{◌≡◌, ◌<◌, ◌^◌, Ok, IfOk, IfSome};
 ghost use Rattle.esr_root.specs.Reading.{root_from};
 ghost use Rattle.esr_depot.specs.Look.{now};
 ghost use Rattle.esr_opening.specs.Found.{read_as, root_in};
+ghost use Rattle.esr_opening.specs.Listed.{AreInfosIn};
 ghost use Rattle.esr_opening.specs.Looked.{Looked, Answers, Says};
+ghost use Rattle.esr_opening.specs.Part.{part};
 ghost use Rattle.esr_opening.specs.Spent.{has_fault, Spends};
 ghost use Rattle.esr_opening.specs.Terms.{safe_place, whole_root_in};
 
 use crate::blob::{fetch_blob, unread};
-use crate::infos::check_infos;
+use crate::infos::{SnapInfos, check_infos};
 use crate::{OpenRefusal, Why};
 use esr_depot::Depot;
 use esr_formats::{read_root, write_name};
@@ -65,19 +67,20 @@ fn find_root<D: Depot>(
     parse_root(alloc, name, bytes)
 }
 
-/// The safe root, where each snapshot that it lists has an info that agrees.
+/// The safe root and the infos of the snapshots that it lists, each of which is to agree with it.
 pub(crate) fn find_whole_root<D: Depot>(
     alloc: Global,
     depot: &mut D,
     safe: i64,
-) -> Result<RootData, OpenRefusal<D::Fetch>>
+) -> Result<(RootData, SnapInfos), OpenRefusal<D::Fetch>>
     ensures looked { Looked (D.look depot.old) (D.look depot.new) (D.faults depot.old) (D.faults depot.new) }
     ensures answer { Answers D.Fetch.faults (now (D.look depot.old)) (D.faults depot.old) (D.faults depot.new)
-        (λ i. whole_root_in i.blobs safe) result }
+        (λ i. whole_root_in i.blobs safe) (part (λ o. o.0) result) }
+    ensures infos { IfOk result (λ o. AreInfosIn (now (D.look depot.old)) o.0 o.0.snapshots o.1) }
     ensures spends { Spends (D.look depot.old).sure (D.look depot.new).sure (2 ^ 60) (has_fault result) }
 {
     let root = find_root(alloc, depot, safe)?;
     let number = safe_place(safe).unwrap_or(0);
-    check_infos(alloc, depot, &root, number, root.snapshots.as_slice())?;
-    Ok(root)
+    let infos = check_infos(alloc, depot, &root, number, root.snapshots.as_slice())?;
+    Ok((root, infos))
 }

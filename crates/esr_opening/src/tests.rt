@@ -1,6 +1,7 @@
 //! What an earlier run left, and what opening answers.
 use crate::held::{Faulty, Held, HeldBlob, HeldFetch};
 use crate::{OpenRefusal, Opening, Why, open_container};
+use esr_formats::write_info;
 use esr_json::{Key, Reason};
 use esr_names::{BlobName, Id};
 use esr_seq::{Bytes, Seq, Text};
@@ -124,6 +125,17 @@ fn outcome(alloc: Global, held: Held) -> Result<(Bytes, Option<Why>), AllocError
     }
 }
 
+/// The texts of the infos of the container, once it is opened.
+fn info_texts(alloc: Global, held: Held) -> Result<Bytes, AllocError> {
+    let mut texts = Bytes::new(alloc);
+    if let Ok(opening) = open_container(alloc, held) {
+        for info in opening.infos.as_slice() {
+            texts.extend_from_slice(write_info(alloc, info)?.as_slice())?;
+        }
+    }
+    Ok(texts)
+}
+
 #[test]
 fn what_was_left_is_opened_or_refused(rt: HostRuntime) -> Result<(), Fail> {
     let alloc = rt.alloc();
@@ -169,13 +181,15 @@ fn what_was_left_is_opened_or_refused(rt: HostRuntime) -> Result<(), Fail> {
 }
 
 #[test]
-fn an_opened_container_has_its_root_and_the_next_id(rt: HostRuntime) -> Result<(), Fail> {
+fn an_opened_container_has_its_root_its_infos_and_the_next_id(rt: HostRuntime) -> Result<(), Fail> {
     let alloc = rt.alloc();
     let left = held(alloc, RECORD, ROOT, INFO, Faulty::Nothing)?;
     let opened = open_container(alloc, left).ok();
     assert_eq!(rt; opened.as_ref().map(|o| o.next), Some(Id::new(2, 0)));
     assert_eq!(rt; opened.as_ref().map(|o| o.cluster.term), Some(2));
     assert_eq!(rt; opened.map(|o| o.root.snapshots.as_slice().len()), Some(1));
+    let texts = info_texts(alloc, held(alloc, RECORD, ROOT, INFO, Faulty::Nothing)?)?;
+    assert_eq!(rt; texts.as_slice(), INFO.as_bytes());
     Ok(())
 }
 

@@ -354,9 +354,6 @@ module _ (ops : List (ℕ × Op)) (deletes : List (ℕ × Deletion)) (completed 
         )
 
     gives_final : (work : CodeWork) → ready_of ops completed seats term (take at ops) e ≡ Some ready.Finalize → IsFinalWork e.1 work → IsGivenBy e at ticket work kinds.Finalize copy
-    gives_final (works.Shard uuid shard index place) chosen h = absurd h
-    gives_final works.Drop chosen h = absurd h
-    gives_final (works.RestoreShard uuid shard index place) chosen h = absurd h
     gives_final (works.Finalize info shards) chosen h =
         let (goes, free, final) = picked ops completed seats term (take at ops) e (Some ready.Finalize) chosen in (
           (e.1, ready_final at e there (map result_of shards) goes h.0 final, h.1),
@@ -365,6 +362,7 @@ module _ (ops : List (ℕ × Op)) (deletes : List (ℕ × Deletion)) (completed 
               (ticketed (final_ticket f w e.0 e.1 (map result_of shards)) (seat_of_code (seat_for kinds.Finalize e.0)) _ w.ops (unchanged kinds.Finalize refl)
               (λ i. record { kind = OfFinalize; op = e.0; term = is.term_is i; raised = None; settled = false; out = true })),
         )
+    gives_final work chosen h = absurd h
 
     largest_by : (index number : ℕ) (base : Option ℕ) → IsMost (IsLive w.root w.ops index number) base → Largest w index number base
     largest_by index number None m = m
@@ -444,9 +442,6 @@ module _ (ops : List (ℕ × Op)) (deletes : List (ℕ × Deletion)) (completed 
           (λ j. record { kind = OfShard (own_id j) (own_number j); op = e.0; term = is.term_is j; raised = None; settled = false; out = true })))
 
       gives_shard : (work : CodeWork) (kind : SeatKind) → IsShardWork e.1 s work → IsSeatOf s kind → IsBaseFor root ops kind copy.base → IsGivenBy e at ticket work kind copy
-      gives_shard (works.Finalize info shards) kind h seat base = absurd h
-      gives_shard works.Drop kind h seat base = absurd h
-      gives_shard (works.RestoreShard uuid shard index place) kind h seat base = absurd h
       gives_shard (works.Shard uuid shard index place) kinds.Finalize h seat base = absurd seat
       gives_shard (works.Shard uuid shard index place) kinds.Drop h seat base = absurd seat
       gives_shard (works.Shard uuid shard index place) (kinds.Shard own) h seat base =
@@ -455,6 +450,7 @@ module _ (ops : List (ℕ × Op)) (deletes : List (ℕ × Deletion)) (completed 
             gives_one shard.index.number shard.number uuid.number index place (option_map number_of copy.base) (sym h.1) (sym h.2) h.0 h.3 h.4 most,
             takes_one shard.index.number shard.number (option_map number_of copy.base) own (sym h.1) (sym h.2) seat.0 seat.1,
           )
+      gives_shard work kind h seat base = absurd h
 
     gives_any : (kind : Kind) → ready_of ops completed seats term (take at ops) e ≡ Some kind → (work : CodeWork) (seat : SeatKind) → IsWorkFor e.1 kind work → IsSeatFor e.1 kind seat → IsBaseFor root ops seat copy.base
         → IsGivenBy e at ticket work seat copy

@@ -186,15 +186,13 @@ module _ (ops : List (ℕ × Op)) (deletes : List (ℕ × Deletion)) (completed 
 
         gives_work : (work : CodeWork) (copy : Copied) → IsRestoreWork e.1 (read_work r.place s) work → GivesWork w e.0 work copy
         unfolding gives_it one
-        gives_work (works.Shard uuid shard index place) copy hw = absurd hw
-        gives_work (works.Finalize info shards) copy hw = absurd hw
-        gives_work works.Drop copy hw = absurd hw
         gives_work (works.RestoreShard uuid shard index place) copy hw = record {
           gives = gives_it shard.index.number shard.number uuid.number (sym hw.1) (sym hw.2) (hw.0 ∙ ap (λ (x : RestorePlan). x.uuid) (sym open_one.2));
           name_is = hw.3;
           place_is = hw.4;
           few = subst (λ (k : ℕ). k < 1024) (sym hw.2) (alike.few (read_work r.place s) (in_plan s is_ready.s_there));
         }
+        gives_work work copy hw = absurd hw
 
         -- the list in which it is given
         abbrev with_read : ShardId → ℕ → Plan
@@ -238,10 +236,8 @@ module _ (ops : List (ℕ × Op)) (deletes : List (ℕ × Deletion)) (completed 
               (sym put_is) handed_plan))
 
           takes_work : (work : CodeWork) (copy : Copied) → IsRestoreWork e.1 (read_work r.place s) work → (f : Formats) → IsPlanOf (taken_by f w e.0 (given_by work copy) (fin.get w.ops e.0)) (with_read own ticket)
-          takes_work (works.Shard uuid shard index place) copy hw f = absurd hw
-          takes_work (works.Finalize info shards) copy hw f = absurd hw
-          takes_work works.Drop copy hw f = absurd hw
           takes_work (works.RestoreShard uuid shard index place) copy hw f = takes_it shard.index.number shard.number uuid.number (sym hw.1) (sym hw.2) f
+          takes_work work copy hw f = absurd hw
 
   pub lowest_restore : (at i : ℕ) (x : IsUnreadAt restores at i) (e : ℕ × RestorePlan) → slice_get restores at ≡ Some e → (o : ℕ) → o ≡ e.0 → IsLowest (HasUnread w) (Some o)
   lowest_restore at i x e there o o_is =

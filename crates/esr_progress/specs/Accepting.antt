@@ -1,10 +1,10 @@
 -- What accepting a command answers.
-use Rattle.std.specs.Prelude.{◌≡◌, ℕ, Bool, List, suc, ◌+◌, ◌<◌, ◌≤◌, true, Some, Result, Ok, Err}
+use Rattle.std.specs.Prelude.{◌≡◌, ℕ, Bool, List, [], suc, ◌+◌, ◌<◌, ◌≤◌, true, Some, Result, Ok, Err}
 use Rattle.std.specs.FinMap as fin
 use Rattle.esr_model.specs.Values.{Bytes, RootData}
 use Rattle.esr_model.specs.Kept.{first_id}
 use Rattle.esr_core.specs.World.{World, Deletion}
-use Rattle.esr_core.specs.Entry.{AskedIndex, Asked, Snapshot, Restore}
+use Rattle.esr_core.specs.Entry.{AskedIndex, Asked, Snapshot, Clone, DeleteSnapshots, Restore, Cleanup}
 use Rattle.esr_core.specs.After.{asked, asked_op, new_names}
 use Rattle.esr_core.specs.Generations.{OpTexts}
 use Rattle.esr_formats.specs.Formats.{formats}
@@ -18,7 +18,7 @@ use Rattle.esr_progress.specs.Plan.{Plan, IsPlanOf}
 -- how many ids the command draws: its uuid, and one for each index name that neither the root nor an open op has
 abbrev pub drawn_by : World → Asked → ℕ
 drawn_by w (Snapshot name indices moment) = suc (new_names w indices)
-drawn_by w (Restore name place) = 0
+drawn_by w command = 0
 
 -- no rule of accepting refuses it
 pub record MayAccept (w : World) (name : Bytes) : Type 0 where
@@ -30,7 +30,7 @@ pub record MayAccept (w : World) (name : Bytes) : Type 0 where
 abbrev pub TextsAreWritable : World → Asked → Type 0
 TextsAreWritable w (Snapshot name indices moment) =
     (known : Bytes → Bytes → ℕ → Bool) (told : Bytes → Bytes → ℕ → List (Bytes × Bytes)) → OpTexts (formats known told) (asked_op w name indices moment)
-TextsAreWritable w (Restore name place) = Unit {0}
+TextsAreWritable w command = Unit {0}
 
 -- the op was added; its uuid is the next id
 pub record IsAccepted (w : World) (command : Asked) (new : Plan) (accepted : Accepted) : Type 0 where
@@ -52,7 +52,10 @@ IsRefused w name command (refusals.IdsSpent next) = (next.number ≡ w.next_id) 
 
 abbrev pub name_asked : Asked → Bytes
 name_asked (Snapshot name indices moment) = name
+name_asked (Clone source name indices moment) = name
+name_asked (DeleteSnapshots names) = []
 name_asked (Restore name place) = name
+name_asked Cleanup = []
 
 -- ---- a restore
 

@@ -4,7 +4,7 @@ use Rattle.std.specs.List.{AllByRecursion}
 use Rattle.esr_progress.specs.declared.command.AskedIndex.{AskedIndex as CodeAsked}
 use Rattle.esr_progress.specs.declared.command.Command.{Command}
 use Rattle.esr_progress.specs.declared.command.Command.TheVariants as commands
-use Rattle.esr_core.specs.Entry.{AskedIndex, Asked, Snapshot, Restore}
+use Rattle.esr_core.specs.Entry.{AskedIndex, Asked, Snapshot, Clone, DeleteSnapshots, Restore, Cleanup}
 use Rattle.esr_core.specs.Allowed.{AreDistinct}
 
 abbrev pub asked_index_of : CodeAsked → AskedIndex
@@ -12,12 +12,17 @@ asked_index_of a = record { name = a.name; shards = a.shards; place = a.place }
 
 abbrev pub asked_of : Command → Asked
 asked_of (commands.Create name indices moment) = Snapshot name (map asked_index_of indices) moment
+asked_of (commands.Clone source name indices moment) = Clone source name indices moment
+asked_of (commands.Delete names) = DeleteSnapshots names
+asked_of (commands.Restore name place) = Restore name place
+asked_of commands.Cleanup = Cleanup
 
 -- an index of a command has 1 to 1,024 shards
 abbrev pub HasShards : AskedIndex → Type 0
 HasShards a = (1 ≤ a.shards) × (a.shards ≤ 1024)
 
--- the names of a command's indices are distinct, and each has 1 to 1,024 shards
+-- It asks for a snapshot; the names of its indices are distinct, and each has 1 to 1,024 shards. A restore is asked for by a
+-- step of its own, and the other commands by none so far.
 abbrev pub IsAskable : Asked → Type 0
 IsAskable (Snapshot name indices moment) = AreDistinct indices × AllByRecursion HasShards indices
-IsAskable (Restore name place) = Unit {0}
+IsAskable command = ⊥

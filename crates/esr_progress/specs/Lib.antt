@@ -10,5 +10,6 @@ pub mod Inside
 pub mod Accepting
 pub mod Asking
 pub mod Units
+pub mod Infos
 pub mod Changes
 pub mod Choice

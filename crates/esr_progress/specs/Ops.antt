@@ -47,16 +47,12 @@ is_free before s = is_pending s.state && not (list_any (λ (e : ℕ × Op). list
 -- the work on a shard of the op
 abbrev pub IsShardWork : Op → ShardWork → Work → Type 0
 IsShardWork op s (works.Shard uuid shard index place) = (uuid.number ≡ op.uuid) × (shard.index.number ≡ s.ref.id) × (shard.number ≡ s.number) × (index ≡ s.ref.name) × (place ≡ s.place)
-IsShardWork op s (works.Finalize info shards) = ⊥
-IsShardWork op s works.Drop = ⊥
-IsShardWork op s (works.RestoreShard uuid shard index place) = ⊥
+IsShardWork op s work = ⊥
 
 -- the op's shards are done with these results, of which the info tells
 abbrev pub IsFinalWork : Op → Work → Type 0
-IsFinalWork op (works.Shard uuid shard index place) = ⊥
 IsFinalWork op (works.Finalize info shards) = AllDone op.shards (map result_of shards) × (info_of_code info ≡ info_of op (map result_of shards))
-IsFinalWork op works.Drop = ⊥
-IsFinalWork op (works.RestoreShard uuid shard index place) = ⊥
+IsFinalWork op work = ⊥
 
 -- the shard is of this id and number, and done at the generation
 pub record IsDoneAt (index number : ℕ) (s : ShardWork) (generation : ℕ) : Type 0 where

@@ -42,6 +42,4 @@ is_waiting s = waits s.state
 -- the work on a shard of the restore
 abbrev pub IsRestoreWork : RestorePlan → ShardWork → Work → Type 0
 IsRestoreWork r s (works.RestoreShard uuid shard index place) = (uuid.number ≡ r.uuid) × (shard.index.number ≡ s.ref.id) × (shard.number ≡ s.number) × (index ≡ s.ref.name) × (place ≡ s.place)
-IsRestoreWork r s (works.Shard uuid shard index place) = ⊥
-IsRestoreWork r s (works.Finalize info shards) = ⊥
-IsRestoreWork r s works.Drop = ⊥
+IsRestoreWork r s work = ⊥

@@ -6,7 +6,7 @@ use Rattle.esr_core.specs.World.{World, Op, Deletion, ShardWork, RestoreShard, R
 use Rattle.esr_core.specs.Ready.{ReadyShard, ReadyFinalize, ReadyDrop, ReadyDelete, ReadyCleanup, ReadyRestore, AnyReady}
 use Rattle.esr_core.specs.After.{taken_by}
 use Rattle.esr_progress.specs.Plan.{Plan, IsPlanOf}
-use Rattle.esr_core.specs.Entry.{Given, GivenShard, GivenFinalize, GivenDrop, GivenRestore}
+use Rattle.esr_core.specs.Entry.{Given, GivenShard, GivenFinalize, GivenDrop, GivenRestore, GivenClone, GivenDelete, GivenCleanup}
 use Rattle.esr_core.specs.Allowed.{HasReady, GivesShard, GivesRestore}
 use Rattle.esr_formats.specs.Ids.{number_of}
 use Rattle.esr_formats.specs.Roots.{root_of}
@@ -24,6 +24,9 @@ given_by (works.Shard uuid shard index place) copy = GivenShard shard.index.numb
 given_by (works.Finalize info shards) copy = GivenFinalize (info_of_code info) (map result_of shards)
 given_by works.Drop copy = GivenDrop
 given_by (works.RestoreShard uuid shard index place) copy = GivenRestore shard.index.number shard.number uuid.number
+given_by (works.CloneShard source uuid shard index) copy = GivenClone shard.index.number shard.number source.number (option_map number_of copy.base)
+given_by (works.Delete uuids) copy = GivenDelete (map number_of uuids)
+given_by works.Cleanup copy = GivenCleanup
 
 abbrev pub given_of : ReadyUnit → Given
 given_of u = given_by u.work u.copy
@@ -54,6 +57,8 @@ GivesWork w o (works.Shard uuid shard index place) copy = ShardGiven w o shard.i
 GivesWork w o (works.Finalize info shards) copy = (op : Op) × ReadyFinalize w o op (map result_of shards) × (info_of_code info ≡ info_of op (map result_of shards))
 GivesWork w o works.Drop copy = ReadyDrop w o
 GivesWork w o (works.RestoreShard uuid shard index place) copy = RestoreGiven w o shard.index.number shard.number uuid.number index place
+-- the others are not given so far
+GivesWork w o work copy = ⊥
 
 -- the ready unit of the lowest op is given
 pub record GivesUnit (w : World) (u : ReadyUnit) : Type 0 where

@@ -88,13 +88,17 @@ impl Progress {
 
 /// The name, the indices and the moment of a snapshot.
 fn parts(command: &Command) -> (&SnapName, &[AskedIndex], u64)
+    requires { IsAskable (asked_of command.now) }
     ensures { asked_of command.now ≡ Snapshot result.0.now (map asked_index_of result.1.now) result.2 }
 {
     let Command::Create {
         name,
         indices,
         moment,
-    } = command;
+    } = command
+    else {
+        unreachable!()
+    };
     (name, indices.as_slice(), *moment)
 }
 

@@ -1,5 +1,5 @@
 //! What a caller asks for.
-use esr_names::{IndexName, SnapName};
+use esr_names::{IndexName, IndexNames, SnapName, SnapNames};
 use esr_seq::{Seq, Text};
 
 /// An index that a snapshot is to hold.
@@ -15,7 +15,7 @@ pub struct AskedIndex {
 /// The indices of a snapshot, in the order of the command.
 pub type AskedIndices = Seq<AskedIndex>;
 
-/// A command.
+/// A command. Clones, deletes and cleanups are not accepted so far.
 #[derive(Debug, Drop)]
 pub enum Command {
     /// Makes a snapshot of these indices.
@@ -24,6 +24,22 @@ pub enum Command {
         indices: AskedIndices,
         moment: u64,
     },
+    /// Makes a snapshot of what another one has of these indices, of all where none is named.
+    Clone {
+        source: SnapName,
+        name: SnapName,
+        indices: IndexNames,
+        moment: u64,
+    },
+    Delete {
+        names: SnapNames,
+    },
+    /// Restores the files of a snapshot below a place.
+    Restore {
+        name: SnapName,
+        place: Text,
+    },
+    Cleanup,
 }
 
 /// A command was accepted as this op, for which so many ids were drawn.

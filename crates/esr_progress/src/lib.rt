@@ -5,6 +5,7 @@ mod accept;
 mod changes;
 mod command;
 mod delete;
+mod infos;
 mod open_op;
 mod progress;
 mod ready;

@@ -49,6 +49,13 @@ impl Progress {
         }
     }
 
+    /// The number of the next op.
+    pub fn next_op(&self) -> u64
+        ensures { result ≡ self.now.next_op }
+    {
+        self.next_op
+    }
+
     /// A copy.
     pub fn copy(&self, alloc: Global) -> Result<Progress, AllocError>
         ensures { IfOk result (λ p. p ≡ self.now) }

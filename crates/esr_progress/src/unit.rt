@@ -4,7 +4,7 @@ ghost use Rattle.esr_progress.specs.Plan.{kind_of_code};
 ghost use Rattle.esr_progress.specs.Seats.{is_of_shard};
 
 use esr_meta::SnapInfo;
-use esr_names::{Id, IndexName, ShardId};
+use esr_names::{Id, Ids, IndexName, ShardId};
 use esr_results::ShardResults;
 use esr_root::RootData;
 use esr_seq::Text;
@@ -33,6 +33,19 @@ pub enum Work {
         index: IndexName,
         place: Text,
     },
+    /// Lists the files that the snapshot `source` has of a shard for the snapshot `uuid`. Not given so far.
+    CloneShard {
+        source: Id,
+        uuid: Id,
+        shard: ShardId,
+        index: IndexName,
+    },
+    /// Takes these snapshots out of the root. Not given so far.
+    Delete {
+        uuids: Ids,
+    },
+    /// Removes what the root doesn't reach. Not given so far.
+    Cleanup,
 }
 
 /// What a unit may rely on, copied as it was given: the safe root with its generation (-1: none), and the largest live

@@ -20,8 +20,9 @@ use Rattle.esr_desk.specs.declared.fault.By.{By}
 use Rattle.esr_desk.specs.declared.fault.By.TheVariants as by
 use Rattle.esr_desk.specs.Start.{Start, formats_of, world_of, or_no_ticket, ticket_of}
 use Rattle.esr_desk.specs.Damage.{IsBase, BaseFault, WasMissing, IsBad}
-use Rattle.esr_desk.specs.Shown.{Counts, DepotShown, SourceShown, ReadShown, StepShown, IsShown, IsUntold, HadFault, HadRefusal, AreShown}
+use Rattle.esr_desk.specs.Shown.{Counts, DepotShown, SourceShown, ReadShown, StepShown, IsShown, IsUntold, HadFault, HadRefusal}
 use Rattle.esr_quiet.specs.Refusals.{IsByRule}
+use Rattle.esr_quiet.specs.Caused.{AreCaused}
 use Rattle.esr_quiet.specs.Smooth.{IsSpent, IsSmooth, NoneFailed}
 use Rattle.esr_quiet.specs.Prefixes.{Prefixes}
 use Rattle.esr_quiet.proofs.Prefixes.{told_at, place_of, has_front, has_at}
@@ -137,6 +138,7 @@ module _ (s : Start) (log : List Moment) (smooth : IsSmooth s log) (prefixes : P
   no_rule : (command : Asked) (name : BlobName) → IsByRule command (NameTaken name) → ⊥
   no_rule (Snapshot of indices time) name h = h
   no_rule (Restore of place) name h = h
+  no_rule command name h = h
 
   -- no name is taken
   untaken : (front back : List Moment) → log ≡ front ++ back → (who : ℕ) (name : BlobName) → HadRefusal front who (NameTaken name) → ⊥
@@ -159,11 +161,11 @@ module _ (s : Start) (log : List Moment) (smooth : IsSmooth s log) (prefixes : P
   shows c front back is who out (OfPrint name stated_len stated_digest found_len found_digest) b h = h
   shows c front back is who out (OfDisagreement name other) b h = h
 
-  pub none_failed : {S F H T : Type 0} (c : Counts S F H T) (faults : List (Fault S F H T)) → AreShown c s log faults → NoneFailed log
+  pub none_failed : {S F H T : Type 0} (c : Counts S F H T) (faults : List (Fault S F H T)) → AreCaused c s log faults → NoneFailed log
   none_failed c faults shown m why has step reply =
       let p = place_of log m has in
       let w : World = world_of s p.front in
       let fails = fails_at (formats_of s) s.part_size w m why (quiet_at s log smooth p.front (m ∷ p.back) p.is).present (legal_at s log smooth p.front p.back m p.is) step reply in
       let same : fails.t ≡ ticket_of s p.front m.entry.who = sym (ap or_no_ticket fails.out.there) in
-      let x = shown.shown (length p.front) m.entry.who why (record { front = p.front; moment = m; back = p.back; is = p.is; place_is = refl; of = refl; step = step; reply = reply }) in
+      let x = shown (length p.front) m.entry.who why (record { front = p.front; moment = m; back = p.back; is = p.is; place_is = refl; of = refl; step = step; reply = reply }) in
       shows c p.front (m ∷ p.back) p.is m.entry.who (subst (IsOut w m.entry.who) same fails.out) why x.0 x.1

@@ -17,7 +17,7 @@ use Rattle.esr_core.specs.Ready.{Waits}
 use Rattle.esr_core.specs.Steps.{Largest, Removes, with_ticket, settled, given, shard_ticket, final_ticket}
 use Rattle.esr_core.specs.Turns.{plain_ticket, fails}
 use Rattle.esr_core.specs.Ids.{Law}
-use Rattle.esr_core.specs.Entry.{AskedIndex, Snapshot, Restore, Given, GivenShard, GivenFinalize, GivenDrop, GivenRestore, Why, Read, ReadBlob, RestoredShard, CommitTest, RemoveTests, ReadFails, Step, AskStep, CommitStep, LatestStep, ReadStep, DepotFault, Reply, WasDone, WasReplaced, WasFetched, WasAbsent, WasRemoved, HasEnded, Refused, Moment}
+use Rattle.esr_core.specs.Entry.{AskedIndex, Snapshot, Restore, Given, GivenShard, GivenFinalize, GivenDrop, GivenRestore, GivenClone, GivenDelete, GivenCleanup, Why, Read, ReadBlob, RestoredShard, CommitTest, RemoveTests, ReadFails, Step, AskStep, CommitStep, LatestStep, ReadStep, DepotFault, Reply, WasDone, WasReplaced, WasFetched, WasAbsent, WasRemoved, HasEnded, Refused, Moment}
 use Rattle.esr_core.specs.After.{asked, asked_op, taken_by, taken_shard, taken_restore, taken_restore_shard, read_told, shard_over, read_over, caller_told, with_given, change, committing, fetching, told_blob, done_of, done_by, failed_of, failed_by, is_stale, settled_of, dropped_of, tried, blobs_in, after}
 use Rattle.esr_core.specs.Allowed as allowed
 use Rattle.esr_core.specs.Allowed.{latest_text, Told, SameBlobs, Adds, Accepts, Gives, Draws, Commits, Raises, Settles, Fails, Dones, Drops, IsOwnTest, RestoreAllows, OpeningRestore, NotListed, NamedByDelete, FullOfRestores, ReadAllows, ReadFound, ReadMissing, ReadFault, RestoringShard, ReaderFailing, CheckingAll, CheckFailing, VerifyAllows, DrawingTest, TestSpent, BeginningTest, BeginTestFails, CommittingTest, TestTaken, CommitTestFails, RemovingTests, RemoveTestsFails, VerifyingAll, VerifyFailing, Allows, Allowed}
@@ -246,6 +246,9 @@ module _ (f : Formats) (w : World) (shelf : List Shelved) (law : Law f w shelf) 
       subst (λ x. IsFree f (record (taken_restore w o index number x) { blobs = blobs })) (sym g.ready.there)
       (subst (λ x. IsFree f (record (taken_restore_shard w o g.r x) { blobs = blobs })) (sym g.found)
       (beside (shard_handed w o g.r g.s).restores (shard_handed w o g.r g.s).readers w.next_op (suc w.next_ticket) blobs back w.caller (tests_was f w l blobs back)))
+  gives o (GivenClone index number source base) g blobs back = absurd g
+  gives o (GivenDelete uuids) g blobs back = absurd g
+  gives o GivenCleanup g blobs back = absurd g
   gives o GivenDrop g blobs back = dropping (fin.get w.ops o)
     where
       dropping : (found : Option Op) → IsFree f (record (taken_by f w o GivenDrop found) { blobs = blobs })

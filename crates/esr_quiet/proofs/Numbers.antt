@@ -9,7 +9,7 @@ use Rattle.esr_core.specs.World.{World, Op, ShardWork, Drop, Swap, Ticket, ReadS
 use Rattle.esr_core.specs.Restores.{restore_shard}
 use Rattle.esr_core.specs.Steps.{noting, shard_ticket, final_ticket}
 use Rattle.esr_core.specs.Turns.{plain_ticket}
-use Rattle.esr_core.specs.Entry.{Asked, Snapshot, Restore, Given, GivenShard, GivenFinalize, GivenDrop, GivenRestore, Read, ReadBlob, RestoredShard, CheckedAll, DrawTest, CommitTest, ReadFails, Step, AskStep, TakeStep, DrawStep, BeginStep, CommitStep, LatestStep, FetchStep, RaiseStep, SettleStep, DoneStep, FailedStep, FinishStep, DroppedStep, ElectStep, ReadStep, DepotFault, Reply, Gave, DrawnFrom, WasDone, WasThere, WasFetched, HasEnded, Refused, AcceptedRestore, Moment}
+use Rattle.esr_core.specs.Entry.{Asked, Snapshot, Clone, DeleteSnapshots, Restore, Cleanup, Given, GivenShard, GivenFinalize, GivenDrop, GivenRestore, Read, ReadBlob, RestoredShard, CheckedAll, DrawTest, CommitTest, ReadFails, Step, AskStep, TakeStep, DrawStep, BeginStep, CommitStep, LatestStep, FetchStep, RaiseStep, SettleStep, DoneStep, FailedStep, FinishStep, DroppedStep, ElectStep, ReadStep, DepotFault, Reply, Gave, DrawnFrom, WasDone, WasThere, WasFetched, HasEnded, Refused, AcceptedRestore, Moment}
 use Rattle.esr_core.specs.After.{asked, taken_shard, taken_restore_shard, taken_restore, taken_by, read_told, shard_over, read_over, read_step, read_by, test_left, shard_of, with_given, committing, told_blob, fetching, settled_by, settled_of, done_by, done_of, is_stale, failed_by, failed_of, dropped_of, done_step, has_text, fallen, is_latest, faulted, answered, after}
 use Rattle.esr_core.specs.History.{world_from}
 use Rattle.esr_quiet.proofs.Maps.{get_other, some_none}
@@ -38,7 +38,7 @@ numbered_change w k g (Some t) is n = record { next = n.next; none = put_numbere
 
 numbered_asked : (w : World) (command : Asked) → Numbered w → Numbered (asked w command)
 numbered_asked w (Snapshot name indices moment) n = record { next = n.next; none = n.none }
-numbered_asked w (Restore name place) n = n
+numbered_asked w command n = n
 
 numbered_shard : (w : World) (o : ℕ) (op : Op) (base : Option ℕ) (s : Option ShardWork) → Numbered w → Numbered (taken_shard w o op base s)
 numbered_shard w o op base None n = n
@@ -59,6 +59,7 @@ numbered_taken f w o (GivenFinalize info results) (Some op) n = record { next = 
 numbered_taken f w o (GivenFinalize info results) None n = n
 numbered_taken f w o GivenDrop op n = record { next = later w n; none = more_numbered w (plain_ticket w o Drop) n }
 numbered_taken f w o (GivenRestore index number uuid) op n = numbered_restore w o index number (fin.get w.restores o) n
+numbered_taken f w o unit op n = n
 
 numbered_settled_by : (f : Formats) (w : World) (k : ℕ) (t : Ticket) (s : Option Swap) (g : Option ℕ) → fin.get w.tickets k ≡ Some t → Numbered w → Numbered (settled_by f w k t s g)
 numbered_settled_by f w k t (Some s) (Some g) is n = record { next = n.next; none = put_numbered w k t _ n is }
@@ -168,7 +169,10 @@ numbered_fault f w k LatestStep image n = numbered_tried w k n
 numbered_fault f w k (BeginStep name) image n = numbered_either _ w (is_latest name) (numbered_tried w k n) n
 numbered_fault f w k (ReadStep (CommitTest name)) image n = numbered_left w name (fin.get w.blobs (f.names.text name)) (told_blob f image name) n
 numbered_fault f w k (AskStep (Snapshot name indices moment)) image n = numbered_fallen f w _ image n (numbered_step f w k (AskStep (Snapshot name indices moment)) HasEnded image n)
+numbered_fault f w k (AskStep (Clone source name indices moment)) image n = numbered_fallen f w w image n n
+numbered_fault f w k (AskStep (DeleteSnapshots names)) image n = numbered_fallen f w w image n n
 numbered_fault f w k (AskStep (Restore name place)) image n = n
+numbered_fault f w k (AskStep Cleanup) image n = numbered_fallen f w w image n n
 numbered_fault f w k RaiseStep image n = numbered_fallen f w _ image n (numbered_step f w k RaiseStep HasEnded image n)
 numbered_fault f w k SettleStep image n = numbered_fallen f w _ image n (numbered_step f w k SettleStep HasEnded image n)
 numbered_fault f w k DroppedStep image n = numbered_fallen f w _ image n (numbered_step f w k DroppedStep HasEnded image n)

@@ -8,7 +8,7 @@ use Rattle.esr_model.specs.Image.{Image}
 use Rattle.esr_core.specs.World.{World, Op, ShardWork, Swap, Ticket, ReadState, Restored, NotRestored, RestoreShard, Restoring, Reader, swap, record_of}
 use Rattle.esr_core.specs.Restores.{restore_shard}
 use Rattle.esr_core.specs.Steps.{noting}
-use Rattle.esr_core.specs.Entry.{Asked, Snapshot, Restore, Given, GivenShard, GivenFinalize, GivenDrop, GivenRestore, Read, ReadBlob, RestoredShard, CheckedAll, DrawTest, CommitTest, ReadFails, Step, AskStep, TakeStep, DrawStep, BeginStep, CommitStep, LatestStep, FetchStep, RaiseStep, SettleStep, DoneStep, FailedStep, FinishStep, DroppedStep, ElectStep, ReadStep, DeposedAt, DepotFault, Reply, Gave, DrawnFrom, WasDone, WasThere, WasFetched, HasEnded, Refused, AcceptedRestore, Moment}
+use Rattle.esr_core.specs.Entry.{Asked, Snapshot, Clone, DeleteSnapshots, Restore, Cleanup, Given, GivenShard, GivenFinalize, GivenDrop, GivenRestore, Read, ReadBlob, RestoredShard, CheckedAll, DrawTest, CommitTest, ReadFails, Step, AskStep, TakeStep, DrawStep, BeginStep, CommitStep, LatestStep, FetchStep, RaiseStep, SettleStep, DoneStep, FailedStep, FinishStep, DroppedStep, ElectStep, ReadStep, DeposedAt, DepotFault, Reply, Gave, DrawnFrom, WasDone, WasThere, WasFetched, HasEnded, Refused, AcceptedRestore, Moment}
 use Rattle.esr_core.specs.After.{asked, taken_shard, taken_restore_shard, taken_restore, taken_by, read_told, shard_over, read_over, read_step, read_by, test_left, shard_of, with_given, committing, told_blob, fetching, settled_by, settled_of, done_by, done_of, is_stale, failed_by, failed_of, dropped_of, done_step, has_text, fallen, is_latest, faulted, answered, after}
 use Rattle.esr_core.specs.Allowed as allowed
 use Rattle.esr_core.specs.Allowed.{RestoreAllows, OpeningRestore, ReadAllows, ReadFound, VerifyAllows, DrawingTest, Allows, Allowed}
@@ -36,7 +36,7 @@ others_change w k g (Some t) q apart = get_other w.tickets k (g t) q apart
 
 others_asked : (w : World) (command : Asked) (q : ℕ) → held (asked w command) q ≡ held w q
 others_asked w (Snapshot name indices moment) q = refl
-others_asked w (Restore name place) q = refl
+others_asked w command q = refl
 
 others_shard : (w : World) (o : ℕ) (op : Op) (base : Option ℕ) (s : Option ShardWork) (q : ℕ) → q ≢ w.next_ticket → held (taken_shard w o op base s) q ≡ held w q
 others_shard w o op base None q apart = refl
@@ -57,6 +57,7 @@ others_taken f w o (GivenFinalize info results) (Some op) q apart = get_other w.
 others_taken f w o (GivenFinalize info results) None q apart = refl
 others_taken f w o GivenDrop op q apart = get_other w.tickets w.next_ticket _ q apart
 others_taken f w o (GivenRestore index number uuid) op q apart = others_restore w o index number (fin.get w.restores o) q
+others_taken f w o unit op q apart = refl
 
 others_settled_by : (f : Formats) (w : World) (k : ℕ) (t : Ticket) (s : Option Swap) (n : Option ℕ) (q : ℕ) → q ≢ k → held (settled_by f w k t s n) q ≡ held w q
 others_settled_by f w k t (Some s) (Some n) q apart = get_other w.tickets k _ q apart
@@ -159,7 +160,10 @@ others_fault f w k LatestStep image q apart = others_tried w k q apart
 others_fault f w k (BeginStep name) image q apart = others_either w _ w (is_latest name) q (others_tried w k q apart) refl
 others_fault f w k (ReadStep (CommitTest name)) image q apart = others_left w name (fin.get w.blobs (f.names.text name)) (told_blob f image name) q
 others_fault f w k (AskStep (Snapshot name indices moment)) image q apart = others_fallen f w _ image q (others_step f w k (AskStep (Snapshot name indices moment)) HasEnded image q apart ended_none)
+others_fault f w k (AskStep (Clone source name indices moment)) image q apart = others_fallen f w w image q refl
+others_fault f w k (AskStep (DeleteSnapshots names)) image q apart = others_fallen f w w image q refl
 others_fault f w k (AskStep (Restore name place)) image q apart = refl
+others_fault f w k (AskStep Cleanup) image q apart = others_fallen f w w image q refl
 others_fault f w k RaiseStep image q apart = others_fallen f w _ image q (others_step f w k RaiseStep HasEnded image q apart ended_none)
 others_fault f w k SettleStep image q apart = others_fallen f w _ image q (others_step f w k SettleStep HasEnded image q apart ended_none)
 others_fault f w k DroppedStep image q apart = others_fallen f w _ image q (others_step f w k DroppedStep HasEnded image q apart ended_none)

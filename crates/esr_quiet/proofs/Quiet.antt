@@ -163,7 +163,7 @@ module _ (s : Start) where
         ops = put_steady s w.ops w.next_op (asked_op w name indices moment) (asked_steady s w (suc w.next_id) indices (steady name indices moment refl)) q.ops;
         tickets = q.tickets;
       }
-  quiet_asked w q (Restore name place) steady = q
+  quiet_asked w q command steady = q
 
   -- restores, their tickets and numbers aside
   quiet_same : (w v : World) → IsQuiet s w → v.deposed ≡ w.deposed → v.deletes ≡ w.deletes → v.ops ≡ w.ops → v.term ≡ w.term → v.tickets ≡ w.tickets → IsQuiet s v
@@ -238,6 +238,7 @@ module _ (s : Start) where
   quiet_taken f w q o GivenDrop op there =
       record { present = q.present; no_deletes = q.no_deletes; ops = q.ops; tickets = put_fine s w.term w.tickets w.next_ticket _ (record { present = refl; no_delete = drop_delete; steady = λ i n e. absurd (drop_shard i n e) }) q.tickets }
   quiet_taken f w q o (GivenRestore index number uuid) op there = quiet_restore w q o index number (fin.get w.restores o)
+  quiet_taken f w q o unit op there = q
 
   quiet_drawn : (w : World) → IsQuiet s w → (k n : ℕ) (o : Option Ticket) → fin.get w.tickets k ≡ o → IsQuiet s (record (with_given w k (λ t. record t { first = w.next_id; drawn = n }) o) { next_id = w.next_id + n })
   quiet_drawn w q k n o there = let x = quiet_change w q k (λ t. record t { first = w.next_id; drawn = n }) (λ t h. h) o there in record { present = x.present; no_deletes = x.no_deletes; ops = x.ops; tickets = x.tickets }

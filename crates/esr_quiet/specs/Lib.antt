@@ -5,3 +5,4 @@ pub mod Refusals
 pub mod Numbers
 pub mod Asking
 pub mod Prefixes
+pub mod Caused

@@ -11,15 +11,17 @@ RefusesSnapshot refusal = ⊥
 
 -- or a restore
 abbrev pub RefusesRestore : Refusal → Type 0
-RefusesRestore (NoSnapshot name) = Unit {0}
+RefusesRestore (NoSnapshot place) = Unit {0}
 RefusesRestore (BeingDeleted op) = Unit {0}
 RefusesRestore (TooMany limit) = Unit {0}
 RefusesRestore refusal = ⊥
 
--- a rule of accepting refused the command
+-- A rule of accepting refused the command. Clones, deletes and cleanups are so far refused while a cleanup is open, and none
+-- is open here.
 abbrev pub IsByRule : Asked → Refusal → Type 0
 IsByRule (Snapshot name indices moment) refusal = RefusesSnapshot refusal
 IsByRule (Restore name place) refusal = RefusesRestore refusal
+IsByRule command refusal = ⊥
 
 -- a command was asked for
 abbrev pub IsOfCommand : Moment → Type 0

@@ -3,15 +3,16 @@ ghost use Rattle.std.specs.Prelude.{◌≡◌, ◌≢◌, ◌∷◌, ◌++◌, [
 ghost use Rattle.esr_core.specs.Entry.{TakeStep, Given, Gave, Moment};
 ghost use Rattle.esr_desk.specs.declared.fault.Fault.{Fault};
 ghost use Rattle.esr_desk.specs.Start.{Start, Legal, ticket_of};
-ghost use Rattle.esr_desk.specs.Shown.{Counts, AreShown};
+ghost use Rattle.esr_desk.specs.Shown.{Counts};
 ghost use Rattle.esr_desk.specs.Grew.{AllOf};
+ghost use Rattle.esr_quiet.specs.Caused.{AreCaused};
 ghost use Rattle.esr_quiet.specs.Smooth.{IsSmooth, NoneFailed};
 ghost use Rattle.esr_quiet.specs.Refusals.{AreByRule};
 ghost use Rattle.esr_quiet.specs.Prefixes.{Prefixes};
 
 /// Over quiet objects that tell no unit fails: what could show a failure doesn't come.
 pub fn no_unit_fails<S, F, H, T>()
-    ensures { (c : Counts S F H T) (s : Start) (log : List Moment) (faults : List (Fault S F H T)) → IsSmooth s log → AreShown c s log faults → NoneFailed log }
+    ensures { (c : Counts S F H T) (s : Start) (log : List Moment) (faults : List (Fault S F H T)) → IsSmooth s log → AreCaused c s log faults → NoneFailed log }
 {
     each_world_is_free();
     none_fail_where_free::<S, F, H, T>();
@@ -35,7 +36,7 @@ pub fn other_tickets_stay()
 
 /// Where each world of the history is lawful and free, no unit fails.
 pub(crate) fn none_fail_where_free<S, F, H, T>()
-    ensures { (c : Counts S F H T) (s : Start) (log : List Moment) (faults : List (Fault S F H T)) → IsSmooth s log → Prefixes s log → AreShown c s log faults → NoneFailed log }
+    ensures { (c : Counts S F H T) (s : Start) (log : List Moment) (faults : List (Fault S F H T)) → IsSmooth s log → Prefixes s log → AreCaused c s log faults → NoneFailed log }
 {}
 
 /// And only rules refuse.

@@ -1,5 +1,6 @@
-pub mod Readers
 pub mod Outcome
+pub mod Once
 pub mod Conditions
 pub mod Parts
 pub mod Shown
+pub mod AllShown

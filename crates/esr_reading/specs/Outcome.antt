@@ -5,14 +5,16 @@ use Rattle.esr_core.specs.Entry.{Read, ReadStep, Reply, Refusal, Refused, Moment
 use Rattle.esr_desk.specs.declared.refusal.StepRefusal.{StepRefusal}
 use Rattle.esr_desk.specs.Refusals.{told_refusal}
 use Rattle.esr_desk.specs.Start.{Start, Legal}
+use Rattle.esr_desk.specs.Once.{HasMadeNone}
 use Rattle.esr_desk.specs.Outcome.{Spends}
-use Rattle.esr_reading.specs.Readers.{reader_of}
+use Rattle.esr_desk.specs.Readers.{reader_of}
 
 -- the history may have gone on, but not by the ticket
 pub record Waited (s : Start) (old new : List Moment) (who : ℕ) : Type 0 where
   pub others : List Moment
   pub grew : new ≡ old ++ others
   pub alone : reader_of s new who ≡ reader_of s old who
+  pub besides : HasMadeNone others who
   -- where nobody else makes a step, it is as it was
   pub nobody : s.alone ≡ true → others ≡ []
   pub legal : Legal s new

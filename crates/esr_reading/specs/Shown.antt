@@ -14,7 +14,7 @@ use Rattle.esr_desk.specs.declared.fault.By.{By}
 use Rattle.esr_desk.specs.declared.fault.By.TheVariants as by
 use Rattle.esr_desk.specs.Start.{Start, formats_of}
 use Rattle.esr_desk.specs.Shown.{Faulty}
-use Rattle.esr_reading.specs.Readers.{reader_of}
+use Rattle.esr_desk.specs.Readers.{reader_of}
 use Rattle.esr_reading.specs.Parts.{AreFronts, AreExact}
 
 -- How often a fetch or a target has failed, and for which address a target was made.

@@ -1,26 +1,39 @@
 //! One call for each step of a restore's ticket.
-ghost use Rattle.std.specs.Prelude.{◌≡◌, ℕ, true, false, Option, Some, None, IsTrue, IfOk, IfSome, OnOk, OnErr};
+ghost use Rattle.std.specs.Prelude.{◌≡◌, ℕ, map, true, false, Option, Some, None, IsTrue, IfOk, IfSome, OnOk, OnErr};
 ghost use Rattle.esr_model.specs.Values.{Bytes};
-ghost use Rattle.esr_core.specs.Entry.{ReadBlob, RestoredShard, ReadFails, HasEnded};
+ghost use Rattle.esr_core.specs.Entry.{Restore, AskStep, ReadBlob, RestoredShard, ReadFails, HasEnded, AcceptedRestore as Accepted};
 ghost use Rattle.esr_names.specs.Layout.{IsName};
 ghost use Rattle.esr_formats.specs.Names.{name_of};
+ghost use Rattle.esr_formats.specs.Refs.{ref_of_code};
 ghost use Rattle.esr_desk.specs.Entries.{why_of};
-ghost use Rattle.esr_desk.specs.Outcome.{fetch_reply};
+ghost use Rattle.esr_desk.specs.Outcome.{Outcome as AskOutcome, fetch_reply};
 ghost use Rattle.esr_desk.specs.Conditions.{Holds};
-ghost use Rattle.esr_reading.specs.Readers.{reader_of, read_by};
+ghost use Rattle.esr_desk.specs.Readers.{reader_of, read_by};
 ghost use Rattle.esr_reading.specs.Outcome.{Outcome};
+ghost use Rattle.esr_reading.specs.Once.{IsUnread};
 ghost use Rattle.esr_reading.specs.Conditions.{CanRead, CanEnd};
 ghost use Rattle.esr_reading.specs.Shown.{IsShown};
 
 use esr_depot::Fetch;
-use esr_desk::{By, Desk, StepRefusal, Why};
-use esr_names::BlobName;
+use esr_desk::{AcceptedRestore, By, Desk, StepRefusal, Why};
+use esr_names::{BlobName, SnapName};
+use esr_seq::Text;
 use esr_source::Target;
 use std::alloc::Global;
 
 /// The steps of restores. Each adds one entry to the history, or none where it answers `Memory` or `TurnsSpent`; nothing
 /// else of the caller's own changes then. None writes to the container.
 pub trait RestoreDesk: Desk {
+    /// Asks for a restore of the files of the snapshot of that name below a place. The answer tells its indices.
+    fn restore(
+        &mut self,
+        alloc: Global,
+        name: &SnapName,
+        place: &Text,
+    ) -> Result<AcceptedRestore, StepRefusal>
+        ensures { AskOutcome Self.start (Self.seen self.old) (Self.seen self.new) 0 (AskStep (Restore name.now place.now))
+            (λ accepted. Accepted accepted.op accepted.uuid.number (map ref_of_code accepted.indices)) result };
+
     /// The blob of that name, to be read from its first byte, or `None` where there is none.
     fn read(
         &mut self,
@@ -31,6 +44,7 @@ pub trait RestoreDesk: Desk {
         requires mine { Self.holds self.old ticket }
         requires layout { IsName name }
         requires may { CanRead Self.start (reader_of Self.start (Self.seen self.old) ticket) (name_of name) }
+        requires new { IsUnread (Self.seen self.old) ticket (name_of name) }
         ensures step { Outcome Self.start (Self.seen self.old) (Self.seen self.new) ticket (ReadBlob (name_of name)) fetch_reply result }
         ensures own { IfOk result (λ o. reader_of Self.start (Self.seen self.new) ticket
             ≡ read_by Self.Fetch.left (name_of name) o (reader_of Self.start (Self.seen self.old) ticket)) }

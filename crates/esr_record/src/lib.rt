@@ -6,8 +6,6 @@ mod ops;
 mod reading;
 mod record;
 mod steps;
-#[cfg(test)]
-mod tests;
 mod writing;
 
 pub use op::{Making, OpWork, RecordOp};

@@ -1,50 +1,48 @@
 -- A command that is asked for.
-use Rattle.std.proofs.Common.{◌≡◌, ℕ, suc, ◌+◌, ◌^◌, ◌<◌, ◌≤◌, true, false, List, map, Some, None, refl, sym, ap, ◌∙◌, subst, arith}
+use Rattle.std.proofs.Common.{◌≡◌, ℕ, suc, ◌+◌, ◌^◌, ◌<◌, ◌≤◌, true, List, map, Some, None, refl, sym, ap, ◌∙◌, subst, arith}
 use Rattle.std.specs.FinMap as fin
 use Rattle.esr_model.specs.Kept.{first_id}
 use Rattle.esr_core.specs.World.{World, Deletion, record_ops, ledger_of}
-use Rattle.esr_core.specs.Entry.{Asked, Snapshot, Restore, is_recorded, AskStep, Accepted, CleanupRunning, NameInUse, TooMany, IdsSpent, Moment}
+use Rattle.esr_core.specs.Entry.{Asked, Snapshot, is_recorded, AskStep, Accepted, CleanupRunning, NameInUse, TooMany, IdsSpent, Moment}
 use Rattle.esr_core.specs.After.{asked}
+use Rattle.esr_core.specs.Tracked.{Tracked}
 use Rattle.esr_core.specs.Allowed.{NoCleanup, IsNameOf, IsUnused, open_count, Accepting, Cleaning, Used, Full, AskSpent}
 use Rattle.esr_record.specs.Record.{Record}
 use Rattle.esr_root.specs.Root.{Root}
 use Rattle.esr_formats.specs.Roots.{root_of}
 use Rattle.esr_formats.specs.Clusters.{op_of, cluster_of}
-use Rattle.esr_progress.specs.Asked.{asked_of, IsAskable}
-use Rattle.esr_progress.specs.declared.command.Command.{Command}
-use Rattle.esr_progress.specs.declared.command.Command.TheVariants as commands
+use Rattle.esr_progress.specs.Asked.{IsAskable}
 use Rattle.esr_progress.specs.Plan.{Plan, IsPlanOf, IsAskedIn}
 use Rattle.esr_progress.specs.Accepting.{drawn_by, MayAccept, IsAccepted, name_asked}
 use Rattle.esr_progress.specs.declared.command.Accepted.{Accepted as CodeAccepted}
 use Rattle.esr_desk.specs.Start.{Start, world_of}
 use Rattle.esr_repo.specs.May.{MaySwap, MayRefuse}
-use Rattle.esr_repo.proofs.Swapping.{cluster_from}
+use Rattle.esr_repo.proofs.Swapping.{infos_swapped, cluster_from}
 
 -- ---- why it is refused
 
-both : false ≡ true → ⊥
-both e = cc
+-- each command that may be asked so is recorded
+recorded : (command : Asked) → IsAskable command → is_recorded command ≡ true
+recorded (Snapshot name indices moment) askable = refl
+recorded command askable = absurd askable
 
--- each command of the code is recorded
-pub recorded : (command : Command) → is_recorded (asked_of command) ≡ true
-recorded (commands.Create name indices moment) = refl
+pub cleanup_refused : (s : Start) (log : List Moment) (command : Asked) (d : ℕ) → IsAskable command → (x : Deletion) × (fin.get (world_of s log).deletes d ≡ Some x) × (x.clean ≡ true) → MayRefuse s log 0 (AskStep command) (CleanupRunning d)
+cleanup_refused s log command d askable h = record { plain = refl; allows = λ image tells same. Cleaning command d h.0 image (recorded command askable) h.1 h.2 same }
 
-pub cleanup_refused : (s : Start) (log : List Moment) (command : Asked) (d : ℕ) → is_recorded command ≡ true → (x : Deletion) × (fin.get (world_of s log).deletes d ≡ Some x) × (x.clean ≡ true) → MayRefuse s log 0 (AskStep command) (CleanupRunning d)
-cleanup_refused s log command d kept h = record { plain = refl; allows = λ image same. Cleaning command d h.0 image kept h.1 h.2 same }
+pub used_refused : (s : Start) (log : List Moment) (command : Asked) (uuid : ℕ) → IsAskable command → NoCleanup (world_of s log) × IsNameOf (world_of s log) (name_asked command) uuid → MayRefuse s log 0 (AskStep command) (NameInUse uuid)
+used_refused s log (Snapshot name indices moment) uuid askable h = record { plain = refl; allows = λ image tells same. Used name indices moment uuid image h.0 h.1 same }
+used_refused s log command uuid askable h = absurd askable
 
-pub used_refused : (s : Start) (log : List Moment) (command : Asked) (uuid : ℕ) → is_recorded command ≡ true → NoCleanup (world_of s log) × IsNameOf (world_of s log) (name_asked command) uuid → MayRefuse s log 0 (AskStep command) (NameInUse uuid)
-used_refused s log (Snapshot name indices moment) uuid kept h = record { plain = refl; allows = λ image same. Used name indices moment uuid image h.0 h.1 same }
-used_refused s log (Restore name place) uuid kept h = absurd (both kept)
+pub full_refused : (s : Start) (log : List Moment) (command : Asked) (limit : ℕ) → IsAskable command → (limit ≡ 1000) × NoCleanup (world_of s log) × IsUnused (world_of s log) (name_asked command) × (1000 ≤ open_count (world_of s log)) → MayRefuse s log 0 (AskStep command) (TooMany limit)
+full_refused s log (Snapshot name indices moment) limit askable h =
+    subst (λ (n : ℕ). MayRefuse s log 0 (AskStep (Snapshot name indices moment)) (TooMany n)) (sym h.0) (record { plain = refl; allows = λ image tells same. Full name indices moment image h.1 h.2 h.3 same })
+full_refused s log command limit askable h = absurd askable
 
-pub full_refused : (s : Start) (log : List Moment) (command : Asked) (limit : ℕ) → is_recorded command ≡ true → (limit ≡ 1000) × NoCleanup (world_of s log) × IsUnused (world_of s log) (name_asked command) × (1000 ≤ open_count (world_of s log)) → MayRefuse s log 0 (AskStep command) (TooMany limit)
-full_refused s log (Restore name place) limit kept h = absurd (both kept)
-full_refused s log (Snapshot name indices moment) limit kept h = subst (λ (n : ℕ). MayRefuse s log 0 (AskStep (Snapshot name indices moment)) (TooMany n)) (sym h.0) (record { plain = refl; allows = λ image same. Full name indices moment image h.1 h.2 h.3 same })
-
-pub spent_refused : (s : Start) (log : List Moment) (command : Asked) (next : ℕ) → is_recorded command ≡ true → (next ≡ (world_of s log).next_id) × MayAccept (world_of s log) (name_asked command) × (first_id (suc (world_of s log).term) ≤ (world_of s log).next_id + drawn_by (world_of s log) command)
+pub spent_refused : (s : Start) (log : List Moment) (command : Asked) (next : ℕ) → IsAskable command → (next ≡ (world_of s log).next_id) × MayAccept (world_of s log) (name_asked command) × (first_id (suc (world_of s log).term) ≤ (world_of s log).next_id + drawn_by (world_of s log) command)
     → MayRefuse s log 0 (AskStep command) (IdsSpent next)
-spent_refused s log (Restore name place) next kept h = absurd (both kept)
-spent_refused s log (Snapshot name indices moment) next kept h =
-    subst (λ (n : ℕ). MayRefuse s log 0 (AskStep (Snapshot name indices moment)) (IdsSpent n)) (sym h.0) (record { plain = refl; allows = λ image same. AskSpent name indices moment image h.1.no_cleanup h.1.unused h.1.room h.2 same })
+spent_refused s log (Snapshot name indices moment) next askable h =
+    subst (λ (n : ℕ). MayRefuse s log 0 (AskStep (Snapshot name indices moment)) (IdsSpent n)) (sym h.0) (record { plain = refl; allows = λ image tells same. AskSpent name indices moment image h.1.no_cleanup h.1.unused h.1.room h.2 same })
+spent_refused s log command next askable h = absurd askable
 
 -- ---- what is kept
 
@@ -53,7 +51,7 @@ asked_in w plan root term next plan_is root_is term_is next_is = record { plan =
 
 asked_deletes : (w : World) (command : Asked) → (asked w command).deletes ≡ w.deletes
 asked_deletes w (Snapshot name indices moment) = refl
-asked_deletes w (Restore name place) = refl
+asked_deletes w command = refl
 
 pub accepted_deletes : (w : World) (command : Asked) (p : Plan) (accepted : CodeAccepted) → w.deletes ≡ fin.empty → IsAccepted w command p accepted → p.deletes ≡ fin.empty
 accepted_deletes w command p accepted none is = is.plan.deletes ∙ asked_deletes w command ∙ none
@@ -61,18 +59,19 @@ accepted_deletes w command p accepted none is = is.plan.deletes ∙ asked_delete
 pub accepted_fits : (w : World) (command : Asked) (p : Plan) (accepted : CodeAccepted) → w.term < 2 ^ 63 → IsAccepted w command p accepted → w.next_id + accepted.drawn < 2 ^ 128
 accepted_fits w command p accepted most is = omega (arith, is.fits)
 
-pub may_ask : (s : Start) (log : List Moment) (command : Asked) (cluster : Record) (p : Plan) (accepted : CodeAccepted) (next : ℕ) → is_recorded command ≡ true → IsAskable command → MayAccept (world_of s log) (name_asked command) → IsAccepted (world_of s log) command p accepted
+pub may_ask : (s : Start) (log : List Moment) (command : Asked) (cluster : Record) (p : Plan) (accepted : CodeAccepted) (next : ℕ) → Tracked (world_of s log) → IsAskable command → MayAccept (world_of s log) (name_asked command) → IsAccepted (world_of s log) command p accepted
     → (cluster_of cluster).ledger ≡ ledger_of (world_of s log) → map op_of cluster.ops ≡ record_ops p.ops p.deletes → next ≡ (world_of s log).next_id + accepted.drawn
-    → MaySwap s log 0 (AskStep command) (Accepted accepted.op) cluster None (Some p) next
-may_ask s log (Restore name place) cluster p accepted next kept askable may is ledger ops next_is = absurd (both kept)
-may_ask s log (Snapshot name indices moment) cluster p accepted next kept askable may is ledger ops next_is =
+    → MaySwap s log 0 (AskStep command) (Accepted accepted.op) cluster None None (Some p) next
+may_ask s log (Snapshot name indices moment) cluster p accepted next tracked askable may is ledger ops next_is =
     let fits = subst (λ (n : ℕ). (world_of s log).next_id + n < first_id (suc (world_of s log).term)) is.drawn is.fits in
     record {
       swaps = refl;
       answers = refl;
-      allows = λ image same. Accepting name indices moment accepted.op image (record { number = is.number; distinct = askable.0; no_cleanup = may.no_cleanup; unused = may.unused; room = may.room; fits = fits; texts = is.texts s.known s.told }) same;
+      allows = λ image tells same. Accepting name indices moment accepted.op image (record { number = is.number; distinct = askable.0; no_cleanup = may.no_cleanup; unused = may.unused; room = may.room; fits = fits; texts = is.texts s.known s.told }) same;
       cluster_is = cluster_from (asked (world_of s log) (Snapshot name indices moment)) cluster p is.plan ledger ops;
       root_is = λ old h. h;
+      infos_are = infos_swapped s log 0 (AskStep (Snapshot name indices moment)) tracked tt;
       plan_is = λ old h. is.plan;
       next_is = next_is ∙ ap (λ (n : ℕ). (world_of s log).next_id + n) is.drawn;
     }
+may_ask s log command cluster p accepted next tracked askable may is ledger ops next_is = absurd askable

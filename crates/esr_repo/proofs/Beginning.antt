@@ -33,11 +33,11 @@ begun_repo l s clock past k b =
             ranked = b.order.ranked;
             no_deletes = b.order.no_deletes;
             no_deleting = no_deleting s.world b.no_tickets;
-            no_restore = b.no_restore;
+            read_tracked = b.read_tracked;
             few_ops = omega arith;
             few_tickets = omega arith;
           };
-      live = λ e. (b.live, b.kept);
+      live = λ e. (b.live, b.kept, record { are = b.infos; listed = b.listed });
       fallen = λ place e. absurd (never place e);
     }
   where

@@ -1,5 +1,5 @@
 -- Entries of steps that call the container for a blob.
-use Rattle.std.proofs.Common.{◌≡◌, ◌⊎◌, ℕ, ◌≤◌, Bool, true, false, cond, List, [], ◌∷◌, ◌++◌, Option, Some, None, Result, Ok, Err, IsSome, IfSome, refl, sym, ap, ◌∙◌, subst, inl, inr, nat_cmp, Ordering, Less, Equal, Greater, is_eq, true≢false}
+use Rattle.std.proofs.Common.{◌≡◌, ◌⊎◌, ℕ, zero, suc, ◌≤◌, Bool, true, false, cond, List, [], ◌∷◌, ◌++◌, Option, Some, None, Result, Ok, Err, IsSome, IfSome, refl, sym, ap, ◌∙◌, subst, inl, inr, nat_cmp, Ordering, Less, Equal, Greater, is_eq, true≢false}
 use Rattle.std.specs.Prelude.{option_map, if◌then◌else◌}
 use Rattle.std.specs.Ordering.{eq_by_cmp}
 use Rattle.std.specs.Cmp.{nat_cmp_total, eq_by_cmp_equiv}
@@ -9,10 +9,10 @@ use Rattle.std.specs.FinMap as fin
 use Rattle.esr_model.specs.Names.{BlobName, Latest}
 use Rattle.esr_model.specs.Values.{Bytes, ReadsBack, Formats}
 use Rattle.esr_model.specs.Image.{Blobs, Image, IsStored}
-use Rattle.esr_core.specs.World.{World, Ticket, record_of}
+use Rattle.esr_core.specs.World.{World, Ticket, Reader, record_of}
 use Rattle.esr_core.specs.Steps.{noting}
-use Rattle.esr_core.specs.Entry.{Reply, BeginStep, CommitStep, LatestStep, FetchStep, WasBegun, WasDone, WasThere, WasReplaced, WasFetched, WasAbsent, Refused, DepotFault, NameTaken, Entry, Moment}
-use Rattle.esr_core.specs.After.{with_given, change, told_blob, committing, fetching, swaps_record, is_latest, tried, answered, blobs_in, after}
+use Rattle.esr_core.specs.Entry.{ReadBlob, Step, Reply, BeginStep, CommitStep, LatestStep, FetchStep, ReadStep, WasBegun, WasDone, WasThere, WasReplaced, WasFetched, WasAbsent, Refused, DepotFault, NameTaken, Entry, Moment}
+use Rattle.esr_core.specs.After.{with_given, change, told_blob, committing, fetching, read_told, swaps_record, is_latest, tried, faulted, answered, blobs_in, after}
 use Rattle.esr_core.specs.Allowed.{Allows, Told, IsMetadata, Allowed}
 use Rattle.esr_core.specs.Allowed as allowed
 use Rattle.esr_core.specs.Left.{Leaves}
@@ -30,18 +30,19 @@ use Rattle.esr_formats.proofs.NameTexts.{name_reads_back}
 use Rattle.esr_names.specs.Layout.{IsName, HasIds}
 use Rattle.esr_names.specs.declared.blob.BlobName.{BlobName as CodeName}
 use Rattle.esr_names.specs.declared.blob.BlobName.TheVariants as code
-use Rattle.esr_progress.specs.Plan.{Plan, seat_of, IsPlanOf}
+use Rattle.esr_progress.specs.Plan.{Plan, seat_of, reader_seat, IsPlanOf}
 use Rattle.esr_desk.specs.Start.{Start, formats_of, world_of, Legal}
 use Rattle.esr_desk.specs.Conditions.{Holds}
-use Rattle.esr_repo.specs.Log.{image_of, calls, log_of}
+use Rattle.esr_repo.specs.Log.{image_of, asks_container, calls, log_of}
 use Rattle.esr_repo.specs.Repo.{Kept, TellsSo, IsSteady, IsRepo}
 use Rattle.esr_repo.specs.Next.{Added, IsLive}
-use Rattle.esr_repo.specs.May.{opens_restore, Same, IsNamed, MayBegin, IsThere, IsAdded, MayCommit, IsPut, MayReplace, IsFound, MayFetch}
+use Rattle.esr_repo.specs.May.{CanTell, IsFetch, Same, IsNamed, MayBegin, IsThere, IsAdded, MayCommit, IsPut, MayReplace, IsFound, MayFetch}
 use Rattle.esr_repo.specs.Laws.{Laws}
 use Rattle.esr_repo.specs.Grown.{legal_step}
+use Rattle.esr_repo.proofs.InfosStay.{IsPlain as LeavesInfos}
 use Rattle.esr_repo.proofs.Frames.{rests_answered}
 use Rattle.esr_repo.proofs.Logs.{Goes, goes_passed, image_now, log_goes, log_stays}
-use Rattle.esr_repo.proofs.Repos.{cluster_is, names_are, plan_aside, kept_now, steady_now, text_same, added_repo, repo_stays}
+use Rattle.esr_repo.proofs.Repos.{cluster_is, names_are, plan_aside, infos_over, kept_now, steady_now, can_tell, text_same, added_repo, repo_stays}
 
 some_none : {A : Type 0} (x : A) → Some x ≡ None → ⊥
 some_none x e = cc
@@ -168,6 +169,57 @@ idles_either : (w a : World) (first : Bool) → Idles w a → Idles w (if first 
 idles_either w a true h = h
 idles_either w a false h = idles_same w
 
+-- ---- a step that fetches a blob
+
+fetch_no_swap : (step : Step) (name : BlobName) → IsFetch step name → swaps_record step ≡ false
+fetch_no_swap (FetchStep it) name h = refl
+fetch_no_swap (ReadStep (ReadBlob it)) name h = refl
+fetch_no_swap step name h = absurd h
+
+fetch_asks : (step : Step) (name : BlobName) → IsFetch step name → asks_container step ≡ true
+fetch_asks (FetchStep it) name h = refl
+fetch_asks (ReadStep (ReadBlob it)) name h = refl
+fetch_asks step name h = absurd h
+
+fetch_leaves : (step : Step) (name : BlobName) (reply : Reply) → IsFetch step name → LeavesInfos step reply
+fetch_leaves (FetchStep it) name reply h = tt
+fetch_leaves (ReadStep (ReadBlob it)) name reply h = tt
+fetch_leaves step name reply h = absurd h
+
+readers_stay : (readers : FinMap nat_cmp Reader) (k : ℕ) (q v : Reader) → fin.get readers k ≡ Some q → reader_seat v ≡ reader_seat q → (j : ℕ)
+    → option_map reader_seat (fin.get (fin.insert readers k v) j) ≡ option_map reader_seat (fin.get readers j)
+readers_stay readers k q v there same j = ap (option_map reader_seat) (fin.get-insert nat_cmp_total readers k v j) ∙ go (eq_by_cmp nat_cmp j k) refl
+  where
+    go : (b : Bool) → eq_by_cmp nat_cmp j k ≡ b → option_map reader_seat (cond b (Some v) (fin.get readers j)) ≡ option_map reader_seat (fin.get readers j)
+    go true e = ap Some same ∙ sym (ap (option_map reader_seat) (ap (fin.get readers) (nat_cmp-IsAntisymmetric j k (tied (nat_cmp j k) e)) ∙ there))
+    go false e = refl
+
+idles_told : (w : World) (k : ℕ) (name : BlobName) (bytes : Option Bytes) (o : Option Reader) → fin.get w.readers k ≡ o → Idles w (read_told w k name bytes o)
+idles_told w k name bytes None there = idles_same w
+idles_told w k name None (Some q) there = idles_same w
+idles_told w k name (Some bytes) (Some q) there =
+    record {
+      plan = λ p h. record { ops = h.ops; deletes = h.deletes; completed = h.completed; seats = h.seats; next_op = h.next_op; next_ticket = h.next_ticket; restores = h.restores; restore_count = h.restore_count; readers = λ j. h.readers j ∙ sym (readers_stay w.readers k q _ there refl j) };
+      next = refl;
+    }
+
+idles_fetched : (f : Formats) (w : World) (k : ℕ) (step : Step) (name : BlobName) (image : Option Image) → IsFetch step name → Idles w (answered f w k step WasFetched image)
+idles_fetched f w k (FetchStep it) name image h = idles_change w k (fetching it (told_blob f image it)) (seat_fetching it (told_blob f image it))
+idles_fetched f w zero (ReadStep (ReadBlob it)) name image h = idles_same w
+idles_fetched f w (suc k) (ReadStep (ReadBlob it)) name image h = idles_told w (suc k) it (told_blob f image it) (fin.get w.readers (suc k)) refl
+idles_fetched f w k step name image h = absurd h
+
+idles_absent : (f : Formats) (w : World) (k : ℕ) (step : Step) (name : BlobName) (image : Option Image) → IsFetch step name → Idles w (answered f w k step WasAbsent image)
+idles_absent f w k (FetchStep it) name image h = idles_same w
+idles_absent f w zero (ReadStep (ReadBlob it)) name image h = idles_same w
+idles_absent f w (suc k) (ReadStep (ReadBlob it)) name image h = idles_same w
+idles_absent f w k step name image h = absurd h
+
+idles_unfetched : (f : Formats) (w : World) (k : ℕ) (step : Step) (name : BlobName) (image : Option Image) → IsFetch step name → Idles w (faulted f w k step image)
+idles_unfetched f w k (FetchStep it) name image h = idles_same w
+idles_unfetched f w k (ReadStep (ReadBlob it)) name image h = idles_same w
+idles_unfetched f w k step name image h = absurd h
+
 -- ---- the image
 
 -- the image stays told or untold, and the record's text stays
@@ -250,6 +302,9 @@ module _ {old : Look} {s : Start} {clock : ℕ} {es : List Entry} {k : Kept} {d 
   contents_untold : (contents : Option Bytes) (bytes : Bytes) → Holds s contents bytes → now old ≡ None → contents ≡ None
   contents_untold contents bytes h e = h ∙ ap (λ (t : Bool). if t then Some bytes else None) (b.repo.tells.untold e)
 
+  tell_of : (o : Option Held) → TextStays (now old) o → CanTell s (option_map image_of o)
+  tell_of o h = can_tell s o (λ j e. let x = was_told (now old) o h j e in b.repo.tells.told x.0 x.1)
+
   -- ---- the image that the call leaves, answered or not
 
   module _ (o : Option Held) where
@@ -330,14 +385,14 @@ module _ {old : Look} {s : Start} {clock : ℕ} {es : List Entry} {k : Kept} {d 
           }
 
       -- what is kept stays
-      call_made : opens_restore e.step e.reply ≡ false → (mid es' : List Entry) → Pushed es mid es' e → IsCall old new s seen e → Idles (world_of s seen) (answered (formats_of s) (world_of s seen) e.who e.step e.reply (image_now new)) → Made old new s clock es es' k d seen e
-      call_made closed mid es' p c idles =
+      call_made : LeavesInfos e.step e.reply → (mid es' : List Entry) → Pushed es mid es' e → IsCall old new s seen e → Idles (world_of s seen) (answered (formats_of s) (world_of s seen) e.who e.step e.reply (image_now new)) → Made old new s clock es es' k d seen e
+      call_made leaves mid es' p c idles =
           let more = more_is es mid es' e p in
           let kept = kept_now old s clock es k d seen b.repo b.view b.live in
           let w : World = answered (formats_of s) (world_of s seen) e.who e.step e.reply (image_now new) in
           let rests = rests_answered (formats_of s) (world_of s seen) e.who e.step e.reply (image_now new) noswap in
           made old new s clock es es' k k d d seen e b more c
-          (added_repo old new s clock es es' k k d d seen e b.laws b.repo b.view c.goes c.tells more c.allowed closed
+          (added_repo old new s clock es es' k k d d seen e b.laws b.repo b.view c.goes c.tells more c.allowed
           (λ none. (
             rests.deposed ∙ b.live,
             record {
@@ -346,6 +401,7 @@ module _ {old : Look} {s : Start} {clock : ℕ} {es : List Entry} {k : Kept} {d 
               plan = plan_aside w (blobs_in (image_now new) (world_of s seen).blobs) w.deposed (after (formats_of s) (world_of s seen) here).caller k.plan (idles.plan k.plan kept.1.plan);
               next = kept.1.next ∙ sym idles.next;
             },
+            infos_over s (world_of s seen) here k.infos steady.tracked c.allowed leaves kept.2,
           ))
           (λ place n. absurd (some_none place (sym n ∙ kept.0))))
 
@@ -357,7 +413,7 @@ module _ {old : Look} {s : Start} {clock : ℕ} {es : List Entry} {k : Kept} {d 
       begin_ok x c mid es' p =
           let e : Entry = record { who = who; step = BeginStep nm; reply = WasBegun } in
           let same : now new ≡ now old = c.done in
-          call_made e refl refl mid es' p (call_is e refl SameImage (c.passed refl) refl (text_same_image (now old) (now new) same) (m.begins (named_of s nm back) (image_now new) (told_same (now new) same)) (same_cut (here e refl))) (idles_same (world_of s seen))
+          call_made e refl tt mid es' p (call_is e refl SameImage (c.passed refl) refl (text_same_image (now old) (now new) same) (m.begins (named_of s nm back) (image_now new) (tell_of (now new) (text_same_image (now old) (now new) same)) (told_same (now new) same)) (same_cut (here e refl))) (idles_same (world_of s seen))
 
       pub begin_fault : {T : Type 0} (error : CallError) → error ≡ Failed → Called {T = T} old new (λ _. SameImage) SameImage (Err error) → (mid es' : List Entry) → Pushed es mid es' (record { who = who; step = BeginStep nm; reply = Refused DepotFault })
           → Made old new s clock es es' k d seen (record { who = who; step = BeginStep nm; reply = Refused DepotFault })
@@ -365,7 +421,7 @@ module _ {old : Look} {s : Start} {clock : ℕ} {es : List Entry} {k : Kept} {d 
           let e : Entry = record { who = who; step = BeginStep nm; reply = Refused DepotFault } in
           let g = failed_is {T = T} old new (λ _. SameImage) SameImage error is c in
           let same : now new ≡ now old = g.1 in
-          call_made e refl refl mid es' p (call_is e refl SameImage g.0 refl (text_same_image (now old) (now new) same) (m.fails (named_of s nm back) (image_now new) (told_same (now new) same)) (same_cut (here e refl)))
+          call_made e refl tt mid es' p (call_is e refl SameImage g.0 refl (text_same_image (now old) (now new) same) (m.fails (named_of s nm back) (image_now new) (tell_of (now new) (text_same_image (now old) (now new) same)) (told_same (now new) same)) (same_cut (here e refl)))
           (idles_either (world_of s seen) (tried (world_of s seen) who) (is_latest nm) (idles_tried (world_of s seen) who))
 
     -- ---- a blob that is committed
@@ -395,7 +451,7 @@ module _ {old : Look} {s : Start} {clock : ℕ} {es : List Entry} {k : Kept} {d 
           → Leaves (formats_of s) s.part_size (world_of s seen) (record { entry = record { who = who; step = CommitStep nm; reply = reply }; image = image } ∷ []) (image_of i)
       commit_cut reply image i may =
           let left = commit_left (Some i) may in
-          inr (inl (allowed_is (Some i) (record { who = who; step = CommitStep nm; reply = Refused DepotFault }) refl left.0 (m.fails (named_of s nm back) (Some (image_of i)) left.1)))
+          inr (inl (allowed_is (Some i) (record { who = who; step = CommitStep nm; reply = Refused DepotFault }) refl left.0 (m.fails (named_of s nm back) (Some (image_of i)) (tell_of (Some i) left.0) left.1)))
 
       pub commit_done : (found : Commit) → found ≡ commits.Done → Called old new (Committed text contents) (CommitMay text contents) (Ok found) → (mid es' : List Entry) → Pushed es mid es' (record { who = who; step = CommitStep nm; reply = WasDone })
           → Made old new s clock es es' k d seen (record { who = who; step = CommitStep nm; reply = WasDone }) × (told_blob (formats_of s) (image_now new) nm ≡ contents)
@@ -403,8 +459,8 @@ module _ {old : Look} {s : Start} {clock : ℕ} {es : List Entry} {k : Kept} {d 
           let e : Entry = record { who = who; step = CommitStep nm; reply = WasDone } in
           let c' = of_name (Ok commits.Done) (subst (λ x. Called old new (Committed text contents) (CommitMay text contents) (Ok x)) what c) in
           let is : now new ≡ put_known (now old) name_text contents = c'.done.0 in (
-            call_made e refl refl mid es' p
-                (call_is e refl (CommitMay name_text contents) (c'.passed refl) refl (text_put (now new) name_text contents bytes h is) (m.commits (named_of s nm back) (image_now new) (told_of (now new) (IsAdded s seen nm bytes) (told_added (now new) is c'.done.1))) (commit_cut WasDone (image_now new)))
+            call_made e refl tt mid es' p
+                (call_is e refl (CommitMay name_text contents) (c'.passed refl) refl (text_put (now new) name_text contents bytes h is) (m.commits (named_of s nm back) (image_now new) (tell_of (now new) (text_put (now new) name_text contents bytes h is)) (told_of (now new) (IsAdded s seen nm bytes) (told_added (now new) is c'.done.1))) (commit_cut WasDone (image_now new)))
                 (idles_change (world_of s seen) who (committing nm (told_blob (formats_of s) (image_now new) nm)) (seat_committing nm (told_blob (formats_of s) (image_now new) nm))),
             blob_put (now new) nm contents bytes h is,
           )
@@ -413,7 +469,7 @@ module _ {old : Look} {s : Start} {clock : ℕ} {es : List Entry} {k : Kept} {d 
       told_there same taken i e =
           let was : now old ≡ Some i = sym same ∙ e in
           let found = some_of (blob i name_text) (taken i was) in (
-            (found.0, (ap (λ (x : Blobs). fin.get x name_text) (sym (blobs_are i was)) ∙ found.1, stored_is (m.commits (named_of s nm back) None tt))),
+            (found.0, (ap (λ (x : Blobs). fin.get x name_text) (sym (blobs_are i was)) ∙ found.1, stored_is (m.commits (named_of s nm back) None (can_tell s None (λ i e. absurd (some_none i (sym e)))) tt))),
             blobs_are i was,
           )
 
@@ -423,8 +479,8 @@ module _ {old : Look} {s : Start} {clock : ℕ} {es : List Entry} {k : Kept} {d 
           let e : Entry = record { who = who; step = CommitStep nm; reply = WasThere } in
           let c' = of_name (Ok commits.Exists) (subst (λ x. Called old new (Committed text contents) (CommitMay text contents) (Ok x)) what c) in
           let same : now new ≡ now old = c'.done.0 in
-          call_made e refl refl mid es' p
-          (call_is e refl (CommitMay name_text contents) (c'.passed refl) refl (text_same_image (now old) (now new) same) (m.finds (named_of s nm back) metadata (image_now new) (told_of (now new) (IsThere s seen nm) (told_there same c'.done.1))) (commit_cut WasThere (image_now new)))
+          call_made e refl tt mid es' p
+          (call_is e refl (CommitMay name_text contents) (c'.passed refl) refl (text_same_image (now old) (now new) same) (m.finds (named_of s nm back) metadata (image_now new) (tell_of (now new) (text_same_image (now old) (now new) same)) (told_of (now new) (IsThere s seen nm) (told_there same c'.done.1))) (commit_cut WasThere (image_now new)))
           (idles_change (world_of s seen) who (λ t. noting t nm) (λ t. refl))
 
       pub commit_taken : (found : Commit) → found ≡ commits.Exists → Called old new (Committed text contents) (CommitMay text contents) (Ok found) → (IsMetadata nm → ⊥) → (mid es' : List Entry) → Pushed es mid es' (record { who = who; step = CommitStep nm; reply = Refused (NameTaken nm) })
@@ -433,8 +489,8 @@ module _ {old : Look} {s : Start} {clock : ℕ} {es : List Entry} {k : Kept} {d 
           let e : Entry = record { who = who; step = CommitStep nm; reply = Refused (NameTaken nm) } in
           let c' = of_name (Ok commits.Exists) (subst (λ x. Called old new (Committed text contents) (CommitMay text contents) (Ok x)) what c) in
           let same : now new ≡ now old = c'.done.0 in
-          call_made e refl refl mid es' p
-          (call_is e refl (CommitMay name_text contents) (c'.passed refl) refl (text_same_image (now old) (now new) same) (m.taken (named_of s nm back) other (image_now new) (told_of (now new) (IsThere s seen nm) (told_there same c'.done.1))) (commit_cut (Refused (NameTaken nm)) (image_now new)))
+          call_made e refl tt mid es' p
+          (call_is e refl (CommitMay name_text contents) (c'.passed refl) refl (text_same_image (now old) (now new) same) (m.taken (named_of s nm back) other (image_now new) (tell_of (now new) (text_same_image (now old) (now new) same)) (told_of (now new) (IsThere s seen nm) (told_there same c'.done.1))) (commit_cut (Refused (NameTaken nm)) (image_now new)))
           (idles_same (world_of s seen))
 
       pub commit_fault : (error : CallError) → error ≡ Failed → Called old new (Committed text contents) (CommitMay text contents) (Err error) → (mid es' : List Entry) → Pushed es mid es' (record { who = who; step = CommitStep nm; reply = Refused DepotFault })
@@ -443,7 +499,7 @@ module _ {old : Look} {s : Start} {clock : ℕ} {es : List Entry} {k : Kept} {d 
           let e : Entry = record { who = who; step = CommitStep nm; reply = Refused DepotFault } in
           let g = failed_is old new (Committed name_text contents) (CommitMay name_text contents) error is (of_name (Err error) c) in
           let left = commit_left (now new) g.1 in
-          call_made e refl refl mid es' p (call_is e refl (CommitMay name_text contents) g.0 refl left.0 (m.fails (named_of s nm back) (image_now new) left.1) (commit_cut (Refused DepotFault) (image_now new))) (idles_same (world_of s seen))
+          call_made e refl tt mid es' p (call_is e refl (CommitMay name_text contents) g.0 refl left.0 (m.fails (named_of s nm back) (image_now new) (tell_of (now new) left.0) left.1) (commit_cut (Refused DepotFault) (image_now new))) (idles_same (world_of s seen))
 
     -- ---- `index.latest` is replaced
 
@@ -469,7 +525,7 @@ module _ {old : Look} {s : Start} {clock : ℕ} {es : List Entry} {k : Kept} {d 
           → Leaves (formats_of s) s.part_size (world_of s seen) (record { entry = record { who = who; step = LatestStep; reply = reply }; image = image } ∷ []) (image_of i)
       replace_cut reply image i may =
           let left = replace_left (Some i) may in
-          inr (inl (allowed_is (Some i) (record { who = who; step = LatestStep; reply = Refused DepotFault }) refl left.0 (m.fails (named_of s Latest back) (Some (image_of i)) left.1)))
+          inr (inl (allowed_is (Some i) (record { who = who; step = LatestStep; reply = Refused DepotFault }) refl left.0 (m.fails (named_of s Latest back) (Some (image_of i)) (tell_of (Some i) left.0) left.1)))
 
       pub replace_ok : (x : Unit {0}) → Called old new (λ _. Replaced text contents) (ReplaceMay text contents) (Ok x) → (mid es' : List Entry) → Pushed es mid es' (record { who = who; step = LatestStep; reply = WasReplaced })
           → Made old new s clock es es' k d seen (record { who = who; step = LatestStep; reply = WasReplaced })
@@ -477,8 +533,8 @@ module _ {old : Look} {s : Start} {clock : ℕ} {es : List Entry} {k : Kept} {d 
           let e : Entry = record { who = who; step = LatestStep; reply = WasReplaced } in
           let c' = of_latest (Ok x) c in
           let is : now new ≡ put_known (now old) latest_text contents = c'.done in
-          call_made e refl refl mid es' p
-          (call_is e refl (ReplaceMay latest_text contents) (c'.passed refl) refl (text_put (now new) latest_text contents bytes h is) (m.puts (named_of s Latest back) (image_now new) (told_of (now new) (IsPut s seen Latest bytes) (blobs_put (now new) latest_text contents bytes h is))) (replace_cut WasReplaced (image_now new)))
+          call_made e refl tt mid es' p
+          (call_is e refl (ReplaceMay latest_text contents) (c'.passed refl) refl (text_put (now new) latest_text contents bytes h is) (m.puts (named_of s Latest back) (image_now new) (tell_of (now new) (text_put (now new) latest_text contents bytes h is)) (told_of (now new) (IsPut s seen Latest bytes) (blobs_put (now new) latest_text contents bytes h is))) (replace_cut WasReplaced (image_now new)))
           idles_latest
 
       pub replace_fault : (error : CallError) → error ≡ Failed → Called {T = Unit {0}} old new (λ _. Replaced text contents) (ReplaceMay text contents) (Err error) → (mid es' : List Entry) → Pushed es mid es' (record { who = who; step = LatestStep; reply = Refused DepotFault })
@@ -487,34 +543,37 @@ module _ {old : Look} {s : Start} {clock : ℕ} {es : List Entry} {k : Kept} {d 
           let e : Entry = record { who = who; step = LatestStep; reply = Refused DepotFault } in
           let g = failed_is {T = Unit {0}} old new (λ _. Replaced latest_text contents) (ReplaceMay latest_text contents) error is (of_latest (Err error) c) in
           let left = replace_left (now new) g.1 in
-          call_made e refl refl mid es' p (call_is e refl (ReplaceMay latest_text contents) g.0 refl left.0 (m.fails (named_of s Latest back) (image_now new) left.1) (replace_cut (Refused DepotFault) (image_now new))) idles_latest
+          call_made e refl tt mid es' p (call_is e refl (ReplaceMay latest_text contents) g.0 refl left.0 (m.fails (named_of s Latest back) (image_now new) (tell_of (now new) left.0) left.1) (replace_cut (Refused DepotFault) (image_now new))) idles_latest
 
     -- ---- a blob that is fetched
 
-    module _ (who : ℕ) (nm : BlobName) (m : MayFetch s seen who nm) (back : ReadsBack name_kind nm) (text : Bytes) (named : text ≡ name_kind.text nm) where
+    module _ (who : ℕ) (step : Step) (nm : BlobName) (m : MayFetch s seen who step nm) (back : ReadsBack name_kind nm) (text : Bytes) (named : text ≡ name_kind.text nm) where
       abbrev fetched_text : Bytes
       fetched_text = (formats_of s).names.text nm
+
+      noswap : swaps_record step ≡ false
+      noswap = fetch_no_swap step nm m.is
 
       told_found : (found : Option Bytes) → now new ≡ now old → ((i : Held) → now old ≡ Some i → blob i fetched_text ≡ found) → (i : Held) → now new ≡ Some i → IsFound s seen nm found i.blobs
       told_found found same is i e =
           let was : now old ≡ Some i = sym same ∙ e in
           (ap (λ (x : Blobs). fin.get x fetched_text) (sym (blobs_are i was)) ∙ is i was, blobs_are i was)
 
-      pub fetch_found : {F : Type 0} (o : Option F) (x : F) → o ≡ Some x → IfSome o (λ _. IsTaken (now old) text) → Called old new (λ _. SameImage) SameImage (Ok o) → (mid es' : List Entry) → Pushed es mid es' (record { who = who; step = FetchStep nm; reply = WasFetched })
-          → Made old new s clock es es' k d seen (record { who = who; step = FetchStep nm; reply = WasFetched })
+      pub fetch_found : {F : Type 0} (o : Option F) (x : F) → o ≡ Some x → IfSome o (λ _. IsTaken (now old) text) → Called old new (λ _. SameImage) SameImage (Ok o) → (mid es' : List Entry) → Pushed es mid es' (record { who = who; step = step; reply = WasFetched })
+          → Made old new s clock es es' k d seen (record { who = who; step = step; reply = WasFetched })
       fetch_found o x is taken c mid es' p =
-          let e : Entry = record { who = who; step = FetchStep nm; reply = WasFetched } in
+          let e : Entry = record { who = who; step = step; reply = WasFetched } in
           let c' = subst (λ o. Called old new (λ _. SameImage) SameImage (Ok o)) is c in
           let same : now new ≡ now old = c'.done in
           let there : IsTaken (now old) fetched_text = subst (λ t. IsTaken (now old) t) (named ∙ names_text s nm) (subst (λ o. IfSome o (λ _. IsTaken (now old) text)) is taken) in
-          call_made e refl refl mid es' p
-          (call_is e refl SameImage (c'.passed refl) refl (text_same_image (now old) (now new) same)
-          (m.fetches (named_of s nm back) (image_now new)
+          call_made e noswap (fetch_leaves step nm e.reply m.is) mid es' p
+          (call_is e noswap SameImage (c'.passed refl) (fetch_asks step nm m.is) (text_same_image (now old) (now new) same)
+          (m.fetches (named_of s nm back) (image_now new) (tell_of (now new) (text_same_image (now old) (now new) same))
           (told_of (now new) (λ blobs. (bytes : Bytes) × IsFound s seen nm (Some bytes) blobs) (λ i q.
           let was : now old ≡ Some i = sym same ∙ q in
           let found = some_of (blob i fetched_text) (there i was) in
-          (found.0, (ap (λ (y : Blobs). fin.get y fetched_text) (sym (blobs_are i was)) ∙ found.1, blobs_are i was))))) (same_cut (here e refl)))
-          (idles_change (world_of s seen) who (fetching nm (told_blob (formats_of s) (image_now new) nm)) (seat_fetching nm (told_blob (formats_of s) (image_now new) nm)))
+          (found.0, (ap (λ (y : Blobs). fin.get y fetched_text) (sym (blobs_are i was)) ∙ found.1, blobs_are i was))))) (same_cut (here e noswap)))
+          (idles_fetched (formats_of s) (world_of s seen) who step nm (image_now new) m.is)
 
       -- what can be read is what is told
       pub fetch_told : now new ≡ now old → (left : Option Bytes) → left ≡ blob_known (now old) text → told_blob (formats_of s) (image_now new) nm ≡ left
@@ -539,21 +598,21 @@ module _ {old : Look} {s : Start} {clock : ℕ} {es : List Entry} {k : Kept} {d 
               let found = some_of (blob i text) (taken i e) in
               (found.0, is ∙ ap (λ (x : Option Held). blob_known x text) e ∙ found.1 ∙ sym (ap (λ (t : Bool). if t then Some found.0 else None) (b.repo.tells.told i e)))
 
-      pub fetch_absent : {F : Type 0} (o : Option F) → o ≡ None → IsFree (now old) text → Called old new (λ _. SameImage) SameImage (Ok o) → (mid es' : List Entry) → Pushed es mid es' (record { who = who; step = FetchStep nm; reply = WasAbsent })
-          → Made old new s clock es es' k d seen (record { who = who; step = FetchStep nm; reply = WasAbsent })
+      pub fetch_absent : {F : Type 0} (o : Option F) → o ≡ None → IsFree (now old) text → Called old new (λ _. SameImage) SameImage (Ok o) → (mid es' : List Entry) → Pushed es mid es' (record { who = who; step = step; reply = WasAbsent })
+          → Made old new s clock es es' k d seen (record { who = who; step = step; reply = WasAbsent })
       fetch_absent {F} o is free c mid es' p =
-          let e : Entry = record { who = who; step = FetchStep nm; reply = WasAbsent } in
+          let e : Entry = record { who = who; step = step; reply = WasAbsent } in
           let c' = subst (λ (o : Option F). Called old new (λ _. SameImage) SameImage (Ok o)) is c in
           let same : now new ≡ now old = c'.done in
           let free' : IsFree (now old) fetched_text = subst (λ t. IsFree (now old) t) (named ∙ names_text s nm) free in
-          call_made e refl refl mid es' p
-          (call_is e refl SameImage (c'.passed refl) refl (text_same_image (now old) (now new) same) (m.misses (named_of s nm back) (image_now new) (told_of (now new) (IsFound s seen nm None) (told_found None same free'))) (same_cut (here e refl)))
-          (idles_same (world_of s seen))
+          call_made e noswap (fetch_leaves step nm e.reply m.is) mid es' p
+          (call_is e noswap SameImage (c'.passed refl) (fetch_asks step nm m.is) (text_same_image (now old) (now new) same) (m.misses (named_of s nm back) (image_now new) (tell_of (now new) (text_same_image (now old) (now new) same)) (told_of (now new) (IsFound s seen nm None) (told_found None same free'))) (same_cut (here e noswap)))
+          (idles_absent (formats_of s) (world_of s seen) who step nm (image_now new) m.is)
 
-      pub fetch_fault : {T : Type 0} (error : CallError) → error ≡ Failed → Called {T = T} old new (λ _. SameImage) SameImage (Err error) → (mid es' : List Entry) → Pushed es mid es' (record { who = who; step = FetchStep nm; reply = Refused DepotFault })
-          → Made old new s clock es es' k d seen (record { who = who; step = FetchStep nm; reply = Refused DepotFault })
+      pub fetch_fault : {T : Type 0} (error : CallError) → error ≡ Failed → Called {T = T} old new (λ _. SameImage) SameImage (Err error) → (mid es' : List Entry) → Pushed es mid es' (record { who = who; step = step; reply = Refused DepotFault })
+          → Made old new s clock es es' k d seen (record { who = who; step = step; reply = Refused DepotFault })
       fetch_fault {T} error is c mid es' p =
-          let e : Entry = record { who = who; step = FetchStep nm; reply = Refused DepotFault } in
+          let e : Entry = record { who = who; step = step; reply = Refused DepotFault } in
           let g = failed_is {T = T} old new (λ _. SameImage) SameImage error is c in
           let same : now new ≡ now old = g.1 in
-          call_made e refl refl mid es' p (call_is e refl SameImage g.0 refl (text_same_image (now old) (now new) same) (m.fails (named_of s nm back) (image_now new) (told_same (now new) same)) (same_cut (here e refl))) (idles_same (world_of s seen))
+          call_made e noswap (fetch_leaves step nm e.reply m.is) mid es' p (call_is e noswap SameImage g.0 refl (text_same_image (now old) (now new) same) (m.fails (named_of s nm back) (image_now new) (tell_of (now new) (text_same_image (now old) (now new) same)) (told_same (now new) same)) (same_cut (here e noswap))) (idles_unfetched (formats_of s) (world_of s seen) who step nm (image_now new) m.is)

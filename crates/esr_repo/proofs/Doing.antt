@@ -1,41 +1,28 @@
--- A shard that is done: the entry that says so counts on the image of the container.
-use Rattle.std.proofs.Common.{◌≡◌, ℕ, false, List, [], ◌∷◌, ◌++◌, Option, Some, None, option_map, refl, sym, ap, ◌∙◌, subst, inl}
+-- A shard that is done.
+use Rattle.std.proofs.Common.{◌≡◌, ℕ, false, List, Option, Some, None, refl, sym, ap, ◌∙◌, subst}
 use Rattle.std.specs.FinMap as fin
-use Rattle.esr_model.specs.Values.{ShardResult, ReadsBack}
-use Rattle.esr_core.specs.World.{World, Op, Ticket, record_of}
-use Rattle.esr_core.specs.Entry.{DoneStep, HasEnded, Entry, Moment}
-use Rattle.esr_core.specs.After.{done_by, done_of, blobs_in, after}
-use Rattle.esr_core.specs.Allowed.{Allows, Allowed, Told, DoneBy, Doing}
+use Rattle.esr_model.specs.Values.{ShardResult}
+use Rattle.esr_model.specs.Image.{Image}
+use Rattle.esr_core.specs.World.{World, Op, Ticket}
+use Rattle.esr_core.specs.Entry.{DoneStep, HasEnded, Moment}
+use Rattle.esr_core.specs.After.{done_by, done_of}
+use Rattle.esr_core.specs.Allowed.{Allows, SameBlobs, Doing}
 use Rattle.esr_core.specs.Tracked.{Tracked}
-use Rattle.esr_depot.specs.Image.{Image as Held}
-use Rattle.esr_depot.specs.Look.{Look, now}
-use Rattle.esr_formats.specs.Clusters.{cluster_kind}
 use Rattle.esr_progress.specs.Plan.{Plan, IsPlanOf}
 use Rattle.esr_desk.specs.Conditions.{CanEnd}
 use Rattle.esr_desk.specs.Start.{Start, formats_of, world_of, or_no_ticket, ticket_of}
-use Rattle.esr_repo.specs.Log.{image_of, log_of}
-use Rattle.esr_repo.specs.Repo.{Kept, TellsSo, IsSteady, IsRepo}
-use Rattle.esr_repo.specs.Next.{Added, IsLive}
-use Rattle.esr_repo.specs.Laws.{Laws}
+use Rattle.esr_repo.specs.Next.{Added}
+use Rattle.esr_repo.specs.May.{CanTell, MayNote}
 use Rattle.esr_repo.specs.Grown.{out_is, put_there, added_ticket}
-use Rattle.esr_repo.proofs.Frames.{rests_answered}
-use Rattle.esr_repo.proofs.Logs.{goes_same, image_now}
-use Rattle.esr_repo.proofs.Repos.{cluster_is, plan_aside, kept_now, steady_now, image_same, text_same, added, added_repo}
-use Rattle.esr_repo.proofs.Stepping.{added_from}
+use Rattle.esr_repo.proofs.Stepping.{told_if, added_from}
 
 -- where the container tells, the ticket wrote what the result says
-done_where_told : (s : Start) (l : Look) (t : Ticket) (r : ShardResult) → TellsSo l s.tells → CanEnd s t r → Told (image_now l) (λ blobs. DoneBy (formats_of s) s.part_size t r)
-done_where_told s l t r tells can = go (now l) refl
-  where
-    go : (o : Option Held) → now l ≡ o → Told (option_map image_of o) (λ blobs. DoneBy (formats_of s) s.part_size t r)
-    go None e = tt
-    go (Some i) e = can.done (tells.told i e)
-
-done_allows : (s : Start) (log : List Moment) (l : Look) (k : ℕ) (r : ShardResult) → TellsSo l s.tells → IsSteady s log l → CanEnd s (ticket_of s log k) r → Allows (formats_of s) s.part_size (world_of s log) k (DoneStep r) HasEnded (image_now l)
-done_allows s log l k r tells steady can =
+done_allows : (s : Start) (log : List Moment) (k : ℕ) (r : ShardResult) (image : Option Image) → Tracked (world_of s log) → CanEnd s (ticket_of s log k) r → CanTell s image → SameBlobs (world_of s log) image
+    → Allows (formats_of s) s.part_size (world_of s log) k (DoneStep r) HasEnded image
+done_allows s log k r image tracked can tells same =
     let out = out_is s log k can.out in
-    let shard = steady.tracked.shards k (ticket_of s log k) r.index r.shard out.there can.out can.is in
-    Doing k r (image_now l)
+    let shard = tracked.shards k (ticket_of s log k) r.index r.shard out.there can.out can.is in
+    Doing k r image
     (record {
       t = ticket_of s log k;
       out = out;
@@ -51,9 +38,9 @@ done_allows s log l k r tells steady can =
       last = can.last;
       snap_noted = can.snap_noted;
       index_noted = can.index_noted;
-      done = done_where_told s l (ticket_of s log k) r tells can;
+      done = told_if s image _ tells can.done;
     })
-    (image_same s log l steady)
+    same
 
 next_done : (w : World) (k : ℕ) (r : ShardResult) (o : Option Ticket) → (done_of w k r o).next_id ≡ w.next_id
 next_done w k r None = refl
@@ -63,58 +50,16 @@ next_done w k r (Some t) = go (fin.get w.ops t.op)
     go None = refl
     go (Some op) = refl
 
-module _ (laws : Laws) (l : Look) (s : Start) (clock : ℕ) (es mid es' : List Entry) (k : Kept) (d : Option ℕ) (seen : List Moment) (who : ℕ) (outcome : ShardResult)
-    (r : IsRepo l s clock es k d) (view : log_of l clock es ≡ seen) (reserved : mid ≡ es) (pushed : es' ≡ mid ++ record { who = who; step = DoneStep outcome; reply = HasEnded } ∷ [])
-    (live : IsLive s seen) (can : CanEnd s (ticket_of s seen who) outcome) (new : Plan) (plan_is : IsPlanOf (done_of (world_of s seen) who outcome (fin.get (world_of s seen).tickets who)) new) where
-  abbrev e : Entry
-  e = record { who = who; step = DoneStep outcome; reply = HasEnded }
-
-  abbrev m : Moment
-  m = record { entry = e; image = image_now l }
-
-  abbrev next : World
-  next = done_of (world_of s seen) who outcome (fin.get (world_of s seen).tickets who)
-
-  abbrev kept_then : Kept
-  kept_then = record { cluster = k.cluster; root = k.root; plan = new; next = k.next }
-
-  more : es' ≡ es ++ e ∷ []
-  more = pushed ∙ ap (λ (x : List Entry). x ++ e ∷ []) reserved
-
-  here : IsSteady s seen l
-  here = steady_now l s clock es k d seen r view
-
-  same_record : record_of (after (formats_of s) (world_of s seen) m) ≡ record_of (world_of s seen)
-  same_record = laws.record_stays (formats_of s) (world_of s seen) m refl
-
-  done_allowed : Allowed (formats_of s) s.part_size (world_of s seen) m
-  done_allowed = record {
-    answered = inl (live, done_allows s seen l who outcome r.tells here can);
-    record_back = subst (λ kind. ReadsBack kind (record_of (after (formats_of s) (world_of s seen) m))) (sym (cluster_is s)) (subst (λ x. ReadsBack cluster_kind x) (sym same_record) here.record_back);
-    text = λ image is. text_same s seen l here image is ∙ ap (λ x. Some ((formats_of s).cluster.text x)) (sym same_record);
-  }
-
-  pub done_added : Added s seen (log_of l clock es') who (DoneStep outcome) HasEnded
-  done_added = added l l s clock es es' k kept_then d d seen e laws r view (goes_same l e refl) r.tells more done_allowed
-
-  pub done_repo : IsRepo l s clock es' kept_then d
-  done_repo =
-      let kept = kept_now l s clock es k d seen r view live in
-      let rests = rests_answered (formats_of s) (world_of s seen) who (DoneStep outcome) HasEnded (image_now l) refl in
-      added_repo l l s clock es es' k kept_then d d seen e laws r view (goes_same l e refl) r.tells more done_allowed refl
-      (λ none. (
-        rests.deposed ∙ live,
-        record {
-          cluster = kept.1.cluster ∙ sym same_record;
-          root = kept.1.root ∙ sym rests.root;
-          plan = plan_aside next (blobs_in (image_now l) (world_of s seen).blobs) next.deposed next.caller new plan_is;
-          next = kept.1.next ∙ sym (next_done (world_of s seen) who outcome (fin.get (world_of s seen).tickets who));
-        },
-      ))
-      (λ place n. absurd (never place (sym n ∙ kept.0)))
-    where
-      never : (n : ℕ) → Some n ≡ None → ⊥
-      never n q = cc
+pub may_note_done : (s : Start) (old log : List Moment) (k : ℕ) (r : ShardResult) (plan p : Plan) (next : ℕ) → log ≡ old → Tracked (world_of s log) → CanEnd s (ticket_of s old k) r → IsPlanOf (world_of s log) plan
+    → ((w : World) → IsPlanOf w plan → IsPlanOf (done_of w k r (fin.get w.tickets k)) p) → next ≡ (world_of s log).next_id → MayNote s log k (DoneStep r) HasEnded (Some p) next
+may_note_done s old log k r plan p next e tracked before plan_is goes next_is =
+    let can : CanEnd s (ticket_of s log k) r = subst (λ (l : List Moment). CanEnd s (ticket_of s l k) r) (sym e) before in
+    record {
+      plain = refl;
+      allows = λ image tells same. done_allows s log k r image tracked can tells same;
+      plan_is = λ image q h. goes (world_of s log) plan_is;
+      next_is = λ image. next_is ∙ sym (next_done (world_of s log) k r (fin.get (world_of s log).tickets k));
+    }
 
 -- ---- its ticket
 

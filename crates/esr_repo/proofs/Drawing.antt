@@ -21,8 +21,7 @@ use Rattle.esr_repo.specs.Grown.{out_is, added_ticket, changed_ticket}
 pub may_look : (s : Start) (log : List Moment) (snapshots : List RootSnap) (safe next : ℕ) → snapshots ≡ (world_of s log).root.snapshots → safe ≡ (world_of s log).safe → next ≡ (world_of s log).next_id → MayNote s log 0 LookStep (Looked snapshots safe) None next
 may_look s log snapshots safe next listed safe_is next_is = record {
   plain = refl;
-  closed = refl;
-  allows = λ image same. subst (λ (x : List RootSnap). Allows (formats_of s) s.part_size (world_of s log) 0 LookStep (Looked x safe) image) (sym listed)
+  allows = λ image tells same. subst (λ (x : List RootSnap). Allows (formats_of s) s.part_size (world_of s log) 0 LookStep (Looked x safe) image) (sym listed)
       (subst (λ (n : ℕ). Allows (formats_of s) s.part_size (world_of s log) 0 LookStep (Looked (world_of s log).root.snapshots n) image) (sym safe_is) (Looking image same));
   plan_is = λ image old h. h;
   next_is = λ image. next_is;
@@ -51,8 +50,7 @@ drawn_plan w k n next p h = go (fin.get w.tickets k) refl
 pub may_note_draw : (s : Start) (log : List Moment) (k n first next : ℕ) → CanDraw s (ticket_of s log k) n → first ≡ (world_of s log).next_id → next ≡ (world_of s log).next_id + n → next < first_id (suc (world_of s log).term) → MayNote s log k (DrawStep n) (DrawnFrom first) None next
 may_note_draw s log k n first next can first_is next_is below = record {
   plain = refl;
-  closed = refl;
-  allows = λ image same. Drawing k n first image (record { may = may_draw s log k n can; first_is = first_is; fits = subst (λ (x : ℕ). x < first_id (suc (world_of s log).term)) next_is below }) same;
+  allows = λ image tells same. Drawing k n first image (record { may = may_draw s log k n can; first_is = first_is; fits = subst (λ (x : ℕ). x < first_id (suc (world_of s log).term)) next_is below }) same;
   plan_is = λ image old h. drawn_plan (world_of s log) k n ((world_of s log).next_id + n) old h;
   next_is = λ image. next_is;
 }
@@ -60,7 +58,7 @@ may_note_draw s log k n first next can first_is next_is below = record {
 pub may_refuse_draw : (s : Start) (log : List Moment) (k n next : ℕ) → CanDraw s (ticket_of s log k) n → next ≡ (world_of s log).next_id → first_id (suc (world_of s log).term) ≤ (world_of s log).next_id + n → MayRefuse s log k (DrawStep n) (IdsSpent next)
 may_refuse_draw s log k n next can next_is spent = record {
   plain = refl;
-  allows = λ image same. subst (λ (x : ℕ). Allows (formats_of s) s.part_size (world_of s log) k (DrawStep n) (Refused (IdsSpent x)) image) (sym next_is) (DrawSpent k n image (may_draw s log k n can) spent same);
+  allows = λ image tells same. subst (λ (x : ℕ). Allows (formats_of s) s.part_size (world_of s log) k (DrawStep n) (Refused (IdsSpent x)) image) (sym next_is) (DrawSpent k n image (may_draw s log k n can) spent same);
 }
 
 pub drawn_ticket : (s : Start) (old mid new : List Moment) (k n first : ℕ) → mid ≡ old → first ≡ (world_of s mid).next_id → (ticket_of s old k).out ≡ true → Added s mid new k (DrawStep n) (DrawnFrom first) → ticket_of s new k ≡ record (ticket_of s old k) { first = first; drawn = n }

@@ -32,8 +32,7 @@ may_finish s old log k plan p next e before plan_is goes next_is =
     let can : CanFinish (ticket_of s log k) = subst (λ (l : List Moment). CanFinish (ticket_of s l k)) (sym e) before in
     record {
       plain = refl;
-      closed = refl;
-      allows = λ image same. Finishing k image (record { t = ticket_of s log k; out = out_is s log k can.out; no_shard = can.no_shard; done = inl can.settled }) same;
+      allows = λ image tells same. Finishing k image (record { t = ticket_of s log k; out = out_is s log k can.out; no_shard = can.no_shard; done = inl can.settled }) same;
       plan_is = λ image q h. goes (world_of s log) plan_is;
       next_is = λ image. next_is ∙ sym (next_given (world_of s log) k ended);
     }
@@ -99,8 +98,7 @@ may_fail s old log k why plan p term next e before tracked no_deleting plan_is t
     let op = op_of (world_of s log) k (ticket_of s log k) tracked no_deleting out.there can in
     record {
       plain = refl;
-      closed = refl;
-      allows = λ image same. Failing k why image (record { t = ticket_of s log k; out = out; unsettled = can.unsettled; unit = can.unit; op = op.0; op_there = op.1 }) same;
+      allows = λ image tells same. Failing k why image (record { t = ticket_of s log k; out = out; unsettled = can.unsettled; unit = can.unit; op = op.0; op_there = op.1 }) same;
       plan_is = λ image q h. goes (world_of s log) plan_is (sym term_is);
       next_is = λ image. next_is ∙ sym (next_failed (world_of s log) k (fin.get (world_of s log).tickets k));
     }

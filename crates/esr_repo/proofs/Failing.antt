@@ -108,8 +108,11 @@ never_deposed f part_size w who step place image (allowed.Reading k read reply i
 
 -- a step without a call of the container
 pub noted_none : {s : Start} {log : List Moment} {who : ℕ} {step : Step} {reply : Reply} {plan : Option Plan} {next : ℕ} → MayNote s log who step reply plan next → tells_none reply ≡ true
-noted_none {s} {log} {who} {step} {reply} {plan} {next} may = go reply (may.allows None tt) may.plain
+noted_none {s} {log} {who} {step} {reply} {plan} {next} may = go reply (may.allows None (λ image e. absurd (untold image e)) tt) may.plain
   where
+    untold : (image : Image) → None ≡ Some image → ⊥
+    untold image e = cc
+
     go : (r : Reply) → Allows (formats_of s) s.part_size (world_of s log) who step r None → calls step r ≡ false → tells_none r ≡ true
     go (Refused DepotFault) a plain = absurd (true≢false plain)
     go (Refused (DeposedAt place)) a plain = absurd (never_deposed (formats_of s) s.part_size (world_of s log) who step place None a)

@@ -12,7 +12,10 @@ pub mod Ended
 pub mod Written
 pub mod Swapping
 pub mod Accepts
-pub mod Taken
 pub mod Doing
+pub mod Taken
+pub mod Reading
+pub mod Restores
 pub mod Failing
 pub mod Calms
+pub mod InfosStay

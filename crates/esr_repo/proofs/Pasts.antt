@@ -12,6 +12,7 @@ use Rattle.esr_depot.specs.declared.error.CallError.TheVariants.{Memory}
 use Rattle.esr_depot.specs.Image.{Image as Held}
 use Rattle.esr_depot.specs.Look.{Look, now}
 use Rattle.esr_depot.specs.Calls.{Change, Stays, Called}
+use Rattle.esr_meta.specs.Info.{Info}
 use Rattle.esr_desk.specs.Start.{Start, formats_of, world_of}
 use Rattle.esr_repo.specs.Log.{image_of, image_at, calls, ticks, log_of}
 use Rattle.esr_repo.specs.Repo.{Kept, TellsSo, IsRepo}
@@ -211,6 +212,10 @@ wanting_whole {T} {old} {s} {clock} {es} {k} {d} {seen} b past p new mid reserve
       repo = (wanting b new mid reserved ok may error is c).1;
       past = subst (λ (x : List Entry). IsPast s clock past new x) (sym reserved) (past_stays old new s clock past es b.repo.bounded p stays);
     }
+
+-- the infos are as they were
+pub same_infos : {l : Look} {s : Start} {clock : ℕ} {past : ℕ → Held → Type 0} {es : List Entry} {d : Option ℕ} (k : Kept) (infos : List Info) → infos ≡ k.infos → IsWhole l s clock past es k d → IsWhole l s clock past es (record k { infos = infos }) d
+same_infos {l} {s} {clock} {past} {es} {d} k infos same w = subst (λ (x : List Info). IsWhole l s clock past es (record k { infos = x }) d) (sym same) w
 
 -- ---- the beginning
 

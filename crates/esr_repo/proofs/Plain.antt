@@ -5,22 +5,25 @@ use Rattle.std.specs.FinMap as fin
 use Rattle.esr_model.specs.Values.{ReadsBack}
 use Rattle.esr_model.specs.Image.{Image}
 use Rattle.esr_core.specs.World.{World, record_of}
-use Rattle.esr_core.specs.Entry.{Restore, Step, AskStep, Refused, Refusal, DeposedAt, DepotFault, Entry, Moment}
+use Rattle.esr_core.specs.Entry.{RemoveTests, Step, SettleStep, ReadStep, Reply, Refused, Refusal, DeposedAt, DepotFault, Entry, Moment}
 use Rattle.esr_core.specs.After.{answered, blobs_in, after}
-use Rattle.esr_core.specs.Allowed.{Allows, IsDeposed, Allowed}
+use Rattle.esr_core.specs.Allowed.{Allows, SameBlobs, IsDeposed, Allowed}
+use Rattle.esr_core.specs.Tracked.{Tracked}
 use Rattle.esr_depot.specs.Look.{Look}
+use Rattle.esr_meta.specs.Info.{Info}
 use Rattle.esr_formats.specs.Clusters.{cluster_kind}
 use Rattle.esr_progress.specs.Plan.{Plan, IsPlanOf}
 use Rattle.esr_desk.specs.Start.{Start, formats_of, world_of, or_no_ticket, ticket_of}
-use Rattle.esr_repo.specs.Log.{calls, log_of}
-use Rattle.esr_repo.specs.Repo.{Kept, IsSteady, IsRepo}
+use Rattle.esr_repo.specs.Log.{asks_container, calls, log_of}
+use Rattle.esr_repo.specs.Repo.{Kept, HasInfos, IsSteady, IsRepo}
 use Rattle.esr_repo.specs.Next.{Added, IsLive}
-use Rattle.esr_repo.specs.May.{opens_restore, MayNote, MayRefuse}
+use Rattle.esr_repo.specs.May.{MayNote, MayRefuse}
 use Rattle.esr_repo.specs.Laws.{Laws}
 use Rattle.esr_repo.specs.Grown.{added_ticket}
+use Rattle.esr_repo.proofs.InfosStay.{IsPlain as LeavesInfos}
 use Rattle.esr_repo.proofs.Frames.{IsPlain, NoSwap, ByRule, plain_is, rests_answered}
 use Rattle.esr_repo.proofs.Logs.{goes_same, image_now}
-use Rattle.esr_repo.proofs.Repos.{cluster_is, plan_aside, kept_now, steady_now, image_same, text_same, added, added_repo}
+use Rattle.esr_repo.proofs.Repos.{cluster_is, plan_aside, infos_aside, infos_over, blobs_same, kept_now, steady_now, image_same, tells_now, text_same, added, added_repo}
 
 -- what the record, the root and the flag are after a step without a call
 record Stays (w new : World) : Type 0 where
@@ -37,10 +40,27 @@ stays_after laws s w m plain = go (plain_is (formats_of s) w m.entry.who m.entry
         record { record_is = laws.record_stays (formats_of s) w m e; root = rests.root; deposed = rests.deposed }
     go (ByRule e) = record { record_is = ap record_of e; root = ap (λ (x : World). x.root) e; deposed = ap (λ (x : World). x.deposed) e }
 
--- a refusal opens no restore
-refused_closed : (step : Step) (refusal : Refusal) → opens_restore step (Refused refusal) ≡ false
-refused_closed (AskStep (Restore name place)) refusal = refl
-refused_closed step refusal = refl
+swaps : true ≡ false → ⊥
+swaps e = cc
+
+-- a step that doesn't ask the container settles nothing and removes no blob
+quiet_leaves : (step : Step) (reply : Reply) → asks_container step ≡ false → LeavesInfos step reply
+quiet_leaves SettleStep reply e = absurd (swaps e)
+quiet_leaves (ReadStep (RemoveTests names)) reply e = absurd (swaps e)
+quiet_leaves step reply e = tt
+
+noted_leaves : (s : Start) (w : World) (who : ℕ) (step : Step) (reply : Reply) (image : Option Image) → calls step reply ≡ false → (answered (formats_of s) w who step reply image ≡ w) ⊎ LeavesInfos step reply
+noted_leaves s w who step (Refused DepotFault) image e = absurd (swaps e)
+noted_leaves s w who step (Refused refusal) image e = inl refl
+noted_leaves s w who step reply image e = inr (quiet_leaves step reply e)
+
+-- the infos stay over a step without a call
+infos_noted : (s : Start) (w : World) (m : Moment) (infos : List Info) → Tracked w → calls m.entry.step m.entry.reply ≡ false → SameBlobs w m.image → Allowed (formats_of s) s.part_size w m
+    → HasInfos s w infos → HasInfos s (after (formats_of s) w m) infos
+infos_noted s w m infos tracked plain same allowed h = elim (noted_leaves s w m.entry.who m.entry.step m.entry.reply m.image plain) [
+  | inl e ↦ infos_aside s w (after (formats_of s) w m) infos (ap (λ (x : World). x.root) e) (ap (λ (x : World). x.tickets) e) (blobs_same w m.image same) h
+  | inr leaves ↦ infos_over s w m infos tracked allowed leaves h
+]
 
 -- such a step is allowed where its answer is
 allowed_plain : (laws : Laws) (s : Start) (log : List Moment) (l : Look) (e : Entry) → IsSteady s log l → calls e.step e.reply ≡ false
@@ -84,7 +104,7 @@ module _ (laws : Laws) (l : Look) (s : Start) (clock : ℕ) (es mid es' : List E
 
     pub deposed_repo : IsRepo l s clock es' k d
     deposed_repo =
-        added_repo l l s clock es es' k k d d seen e laws r view (goes_same l e by_rule) r.tells more deposed_allowed (ap (opens_restore e.step) refused ∙ refused_closed e.step (DeposedAt place))
+        added_repo l l s clock es es' k k d d seen e laws r view (goes_same l e by_rule) r.tells more deposed_allowed
         (λ none. absurd (never place (sym fell ∙ none)))
         (λ other n. (stays_after laws s (world_of s seen) entry_moment by_rule).deposed ∙ is_deposed)
       where
@@ -95,10 +115,10 @@ module _ (laws : Laws) (l : Look) (s : Start) (clock : ℕ) (es mid es' : List E
 
   module _ (live : IsLive s seen) (plan : Option Plan) (next : ℕ) (may : MayNote s seen e.who e.step e.reply plan next) (new : Plan) (new_is : new ≡ unwrap_or plan k.plan) where
     abbrev kept_then : Kept
-    kept_then = record { cluster = k.cluster; root = k.root; plan = new; next = next }
+    kept_then = record { cluster = k.cluster; root = k.root; infos = k.infos; plan = new; next = next }
 
     note_allowed : Allowed (formats_of s) s.part_size (world_of s seen) entry_moment
-    note_allowed = allowed_plain laws s seen l e here may.plain (inl (live, may.allows (image_now l) (image_same s seen l here)))
+    note_allowed = allowed_plain laws s seen l e here may.plain (inl (live, may.allows (image_now l) (tells_now s l r.tells) (image_same s seen l here)))
 
     pub note_added : Added s seen (log_of l clock es') e.who e.step e.reply
     note_added = added l l s clock es es' k kept_then d d seen e laws r view (goes_same l e may.plain) r.tells more note_allowed
@@ -108,7 +128,7 @@ module _ (laws : Laws) (l : Look) (s : Start) (clock : ℕ) (es mid es' : List E
         let now = kept_now l s clock es k d seen r view live in
         let stays = stays_after laws s (world_of s seen) entry_moment may.plain in
         let w : World = answered (formats_of s) (world_of s seen) e.who e.step e.reply (image_now l) in
-        added_repo l l s clock es es' k kept_then d d seen e laws r view (goes_same l e may.plain) r.tells more note_allowed may.closed
+        added_repo l l s clock es es' k kept_then d d seen e laws r view (goes_same l e may.plain) r.tells more note_allowed
         (λ none. (
           stays.deposed ∙ live,
           record {
@@ -117,6 +137,7 @@ module _ (laws : Laws) (l : Look) (s : Start) (clock : ℕ) (es mid es' : List E
             plan = plan_aside w (blobs_in (image_now l) (world_of s seen).blobs) w.deposed (after (formats_of s) (world_of s seen) entry_moment).caller new (subst (IsPlanOf w) (sym new_is) (may.plan_is (image_now l) k.plan now.1.plan));
             next = may.next_is (image_now l);
           },
+          infos_noted s (world_of s seen) entry_moment k.infos here.tracked may.plain (image_same s seen l here) note_allowed now.2,
         ))
         (λ place n. absurd (never place (sym n ∙ now.0)))
       where
@@ -131,9 +152,6 @@ refused_answer s w who step refusal image plain = by refusal plain
   where
     by : (x : Refusal) → calls step (Refused x) ≡ false → answered (formats_of s) w who step (Refused x) image ≡ w
     by DepotFault e = absurd (swaps e)
-      where
-        swaps : true ≡ false → ⊥
-        swaps q = cc
     by x e = refl
 
 pub refused_tickets : (s : Start) (old new : List Moment) (who : ℕ) (step : Step) (refusal : Refusal) → calls step (Refused refusal) ≡ false → Added s old new who step (Refused refusal) → (j : ℕ) → ticket_of s new j ≡ ticket_of s old j
@@ -144,7 +162,6 @@ refused_tickets s old new who step refusal plain a j =
 pub may_refuse : (s : Start) (log : List Moment) (who : ℕ) (step : Step) (refusal : Refusal) (next : ℕ) → next ≡ (world_of s log).next_id → MayRefuse s log who step refusal → MayNote s log who step (Refused refusal) None next
 may_refuse s log who step refusal next is may = record {
   plain = may.plain;
-  closed = refused_closed step refusal;
   allows = may.allows;
   plan_is = λ image old h. subst (λ (w : World). IsPlanOf w old) (sym (refused_answer s (world_of s log) who step refusal image may.plain)) h;
   next_is = λ image. is ∙ ap (λ (w : World). w.next_id) (sym (refused_answer s (world_of s log) who step refusal image may.plain));

@@ -1,28 +1,34 @@
 -- A container with its history, after one more entry.
 use Rattle.std.proofs.Common.{◌≡◌, ℕ, suc, ◌+◌, ◌≤◌, Bool, true, false, List, [], ◌∷◌, ◌++◌, length, Option, Some, None, refl, sym, ap, ◌∙◌, subst, arith, length-append}
 use Rattle.std.specs.Prelude.{option_map}
-use Rattle.esr_model.specs.Values.{ReadsBack}
-use Rattle.esr_model.specs.Image.{Blobs, Image}
-use Rattle.esr_core.specs.World.{World, Caller, record_of}
+use Rattle.std.specs.Ordering.{nat_cmp}
+use Rattle.std.specs.FinMap.{FinMap}
+use Rattle.std.specs.FinMap as fin
+use Rattle.esr_model.specs.Values.{RootData, ReadsBack}
+use Rattle.esr_model.specs.Image.{Blobs, Image, At}
+use Rattle.esr_core.specs.World.{World, Ticket, Caller, record_of}
 use Rattle.esr_core.specs.World as core
 use Rattle.esr_core.specs.Entry.{Entry, Moment}
 use Rattle.esr_core.specs.After.{blobs_in, after}
 use Rattle.esr_core.specs.Allowed.{SameBlobs, Allowed}
 use Rattle.esr_core.specs.Tracked.{Tracked}
 use Rattle.esr_core.specs.Ranked.{Ranked}
+use Rattle.esr_core.specs.ReadTracked.{ReadTracked}
 use Rattle.esr_depot.specs.Image.{Image as Held}
 use Rattle.esr_depot.specs.Look.{Look, now}
 use Rattle.esr_depot.specs.Calls.{Stays}
+use Rattle.esr_meta.specs.Info.{Info}
 use Rattle.esr_formats.specs.Formats.{formats}
 use Rattle.esr_formats.specs.Clusters.{cluster_kind}
 use Rattle.esr_formats.specs.Names.{name_kind}
 use Rattle.esr_progress.specs.Plan.{Plan, IsPlanOf}
 use Rattle.esr_desk.specs.Start.{Start, formats_of, world_of, Legal}
 use Rattle.esr_repo.specs.Log.{image_of, tick, ticks, log_of}
-use Rattle.esr_repo.specs.Repo.{Kept, IsKeptOf, TellsSo, NoDeleting, NoRestore, IsSteady, IsRepo}
+use Rattle.esr_repo.specs.Repo.{Kept, IsKeptOf, TellsSo, NoDeleting, AreListed, HasInfos, IsSteady, IsRepo}
 use Rattle.esr_repo.specs.Next.{Added, IsLive}
-use Rattle.esr_repo.specs.May.{opens_restore}
+use Rattle.esr_repo.specs.May.{CanTell}
 use Rattle.esr_repo.specs.Laws.{Laws}
+use Rattle.esr_repo.proofs.InfosStay.{IsPlain as LeavesInfos, infos_stay, infos_step, root_step}
 use Rattle.esr_repo.proofs.Frames.{frame_after}
 use Rattle.esr_repo.specs.Grown.{legal_step, world_step}
 use Rattle.esr_repo.proofs.Logs.{Goes, image_now, log_goes, log_stays, ticks-append}
@@ -50,15 +56,37 @@ pub plan_aside : (w : World) (blobs : Blobs) (deposed : Bool) (caller : Caller) 
 plan_aside w blobs deposed caller p h =
     record { ops = h.ops; deletes = h.deletes; completed = h.completed; seats = h.seats; next_op = h.next_op; next_ticket = h.next_ticket; restores = h.restores; restore_count = h.restore_count; readers = h.readers }
 
+-- the infos of a world are told by its root, its tickets and its blobs
+pub infos_aside : (s : Start) (w new : World) (infos : List Info) → new.root ≡ w.root → new.tickets ≡ w.tickets → new.blobs ≡ w.blobs → HasInfos s w infos → HasInfos s new infos
+infos_aside s w new infos root tickets blobs h = record {
+  are =
+      infos_stay (formats_of s) w new s.tells infos root
+      (λ k t there. (t, ap (λ (m : FinMap nat_cmp Ticket). fin.get m k) tickets ∙ there, refl))
+      (λ told name bytes at. subst (λ (b : Blobs). At (formats_of s) b name bytes) (sym blobs) at) h.are;
+  listed = subst (λ (r : RootData). AreListed r infos) (sym root) h.listed;
+}
+
+-- they stay over a step that settles nothing and removes no blob
+pub infos_over : (s : Start) (w : World) (m : Moment) (infos : List Info) → Tracked w → Allowed (formats_of s) s.part_size w m → LeavesInfos m.entry.step m.entry.reply → HasInfos s w infos → HasInfos s (after (formats_of s) w m) infos
+infos_over s w m infos tracked allowed leaves h = record {
+  are = infos_step (formats_of s) s.part_size w m s.tells infos tracked allowed leaves h.are;
+  listed = subst (λ (r : RootData). AreListed r infos) (sym (root_step (formats_of s) w m tracked leaves)) h.listed;
+}
+
+-- an image with the blobs of the world leaves them
+pub blobs_same : (w : World) (image : Option Image) → SameBlobs w image → blobs_in image w.blobs ≡ w.blobs
+blobs_same w None same = refl
+blobs_same w (Some image) same = same
+
 -- where no record swap has failed, what is kept is that of the world
-pub kept_now : (l : Look) (s : Start) (clock : ℕ) (es : List Entry) (k : Kept) (d : Option ℕ) (seen : List Moment) → IsRepo l s clock es k d → log_of l clock es ≡ seen → IsLive s seen → (d ≡ None) × IsKeptOf (world_of s seen) k
+pub kept_now : (l : Look) (s : Start) (clock : ℕ) (es : List Entry) (k : Kept) (d : Option ℕ) (seen : List Moment) → IsRepo l s clock es k d → log_of l clock es ≡ seen → IsLive s seen → (d ≡ None) × IsKeptOf (world_of s seen) k × HasInfos s (world_of s seen) k.infos
 kept_now l s clock es k d seen r view live = go d refl
   where
     alive : (world_of s (log_of l clock es)).deposed ≡ false
     alive = ap (λ v. (world_of s v).deposed) view ∙ live
 
-    go : (o : Option ℕ) → d ≡ o → (d ≡ None) × IsKeptOf (world_of s seen) k
-    go None e = (e, subst (λ v. IsKeptOf (world_of s v) k) view (r.live e).1)
+    go : (o : Option ℕ) → d ≡ o → (d ≡ None) × IsKeptOf (world_of s seen) k × HasInfos s (world_of s seen) k.infos
+    go None e = (e, subst (λ v. IsKeptOf (world_of s v) k) view (r.live e).1, subst (λ v. HasInfos s (world_of s v) k.infos) view (r.live e).2)
     go (Some place) e = absurd (both (sym (r.fallen place e) ∙ alive))
 
 -- and what holds of the world in any case
@@ -74,6 +102,14 @@ image_same s log l h = go (now l) refl
     go : (o : Option Held) → now l ≡ o → SameBlobs (world_of s log) (option_map image_of o)
     go None e = tt
     go (Some i) e = ap (λ (x : Image). x.blobs) (h.image i e)
+
+-- an image of it is told only where it was told that it tells
+pub can_tell : (s : Start) (o : Option Held) → ((i : Held) → o ≡ Some i → s.tells ≡ true) → CanTell s (option_map image_of o)
+can_tell s None h = λ image e. absurd (some_none image (sym e))
+can_tell s (Some i) h = λ image e. h i refl
+
+pub tells_now : (s : Start) (l : Look) → TellsSo l s.tells → CanTell s (image_now l)
+tells_now s l tells = can_tell s (now l) tells.told
 
 -- the text of the container's record is that of the world's
 pub text_same : (s : Start) (log : List Moment) (l : Look) → IsSteady s log l → (image : Image) → image_now l ≡ Some image → image.text ≡ Some ((formats_of s).cluster.text (record_of (world_of s log)))
@@ -120,9 +156,9 @@ module _ (old new : Look) (s : Start) (clock : ℕ) (es es' : List Entry) (k k' 
     longer : length (log_of new clock es') ≡ suc (length seen)
     longer = ap length new_log ∙ length-append seen (moment ∷ []) ∙ omega arith
 
-    new_steady : opens_restore e.step e.reply ≡ false → IsSteady s (log_of new clock es') new
-    new_steady closed =
-        let frame = frame_after (formats_of s) (world_of s seen) moment closed in
+    new_steady : IsSteady s (log_of new clock es') new
+    new_steady =
+        let frame = frame_after (formats_of s) (world_of s seen) moment in
         let w' : World = after (formats_of s) (world_of s seen) moment in
         record {
           legal = new_legal;
@@ -132,22 +168,22 @@ module _ (old new : Look) (s : Start) (clock : ℕ) (es es' : List Entry) (k k' 
           ranked = subst Ranked (sym new_world) (laws.ranked (formats_of s) s.part_size (world_of s seen) moment steady.tracked steady.ranked allowed);
           no_deletes = ap (λ (w : World). w.deletes) new_world ∙ frame.deletes steady.no_deletes;
           no_deleting = subst (λ (w : World). NoDeleting w) (sym new_world) (frame.no_deleting steady.no_deleting);
-          no_restore = subst (λ (w : World). NoRestore w) (sym new_world) (frame.no_restore steady.no_restore);
+          read_tracked = subst ReadTracked (sym new_world) (laws.read_tracked (formats_of s) s.part_size (world_of s seen) moment steady.tracked steady.read_tracked allowed);
           few_ops = subst (λ (w : World). w.next_op ≤ s.world.next_op + length (log_of new clock es')) (sym new_world) (omega (arith, frame.ops, steady.few_ops, longer));
           few_tickets = subst (λ (w : World). w.next_ticket ≤ s.world.next_ticket + length (log_of new clock es')) (sym new_world) (omega (arith, frame.tickets, steady.few_tickets, longer));
         }
 
-    -- and it is a container with its history again, where the entry opens no restore
-    pub added_repo : opens_restore e.step e.reply ≡ false → (d' ≡ None → ((after (formats_of s) (world_of s seen) moment).deposed ≡ false) × IsKeptOf (after (formats_of s) (world_of s seen) moment) k')
+    -- and it is a container with its history again
+    pub added_repo : (d' ≡ None → ((after (formats_of s) (world_of s seen) moment).deposed ≡ false) × IsKeptOf (after (formats_of s) (world_of s seen) moment) k' × HasInfos s (after (formats_of s) (world_of s seen) moment) k'.infos)
         → ((place : ℕ) → d' ≡ Some place → (after (formats_of s) (world_of s seen) moment).deposed ≡ true) → IsRepo new s clock es' k' d'
-    added_repo closed live fallen =
+    added_repo live fallen =
         record {
           roomy = r.roomy;
           bounded = r.bounded;
           clock_is = goes.clock ∙ ap (λ t. tick t e) r.clock_is ∙ sym (ticks-append clock es e) ∙ ap (ticks clock) (sym pushed);
           tells = tells;
-          steady = new_steady closed;
-          live = λ n. subst (λ (w : World). (w.deposed ≡ false) × IsKeptOf w k') (sym new_world) (live n);
+          steady = new_steady;
+          live = λ n. subst (λ (w : World). (w.deposed ≡ false) × IsKeptOf w k' × HasInfos s w k'.infos) (sym new_world) (live n);
           fallen = λ place n. ap (λ (w : World). w.deposed) new_world ∙ fallen place n;
         }
 
@@ -174,10 +210,10 @@ repo_stays old new s clock es k d r n =
             ranked = h.ranked;
             no_deletes = h.no_deletes;
             no_deleting = h.no_deleting;
-            no_restore = h.no_restore;
+            read_tracked = h.read_tracked;
             few_ops = h.few_ops;
             few_tickets = h.few_tickets;
           });
-      live = λ e. subst (λ v. ((world_of s v).deposed ≡ false) × IsKeptOf (world_of s v) k) (sym same) (r.live e);
+      live = λ e. subst (λ v. ((world_of s v).deposed ≡ false) × IsKeptOf (world_of s v) k × HasInfos s (world_of s v) k.infos) (sym same) (r.live e);
       fallen = λ place e. ap (λ v. (world_of s v).deposed) same ∙ r.fallen place e;
     }

@@ -9,13 +9,20 @@ use Rattle.esr_model.specs.Image.{Image}
 use Rattle.esr_core.specs.World.{World, Ticket}
 use Rattle.esr_core.specs.Entry.{Step, Reply, Refused, DepotFault, Moment}
 use Rattle.esr_core.specs.After.{with_given, change, faulted}
+use Rattle.esr_core.specs.Allowed.{Told}
 use Rattle.esr_desk.specs.Refusals.{refusal_of}
 use Rattle.esr_desk.specs.declared.refusal.StepRefusal.{StepRefusal}
 use Rattle.esr_desk.specs.declared.refusal.StepRefusal.TheVariants as steps
 use Rattle.esr_desk.specs.declared.refusal.EntryRefusal.TheVariants as code
 use Rattle.esr_desk.specs.Start.{Start, formats_of, world_of, or_no_ticket, ticket_of}
 use Rattle.esr_repo.specs.Next.{Added, AddedOr, Did}
+use Rattle.esr_repo.specs.May.{CanTell}
 use Rattle.esr_repo.specs.Grown.{added_ticket}
+
+-- what holds where the container tells
+pub told_if : (s : Start) (image : Option Image) (P : Type 0) → CanTell s image → (s.tells ≡ true → P) → Told image (λ blobs. P)
+told_if s None P tells h = tt
+told_if s (Some i) P tells h = h (tells i refl)
 
 -- a step after a check that added nothing
 pub did_from : {X : Type 0} (s : Start) (old mid new : List Moment) (who : ℕ) (step : Step) (ok : X → Reply) (r : Result X StepRefusal) → mid ≡ old → Did s mid new who step ok r → Did s old new who step ok r

@@ -1,5 +1,5 @@
 -- The steps of a ticket that swap the record.
-use Rattle.std.proofs.Common.{◌≡◌, ◌≢◌, ◌⊎◌, ℕ, suc, ◌-◌, ◌^◌, ◌<◌, ◌≤◌, Bool, true, false, cond, nat_cmp, List, map, Option, Some, None, Result, Ok, Err, ℤ, pos, negsuc, ◌+ℤ◌, ◌≤ℤ◌, ◌<ℤ◌, to_z, w64, refl, sym, ap, ◌∙◌, subst, inl, inr, arith}
+use Rattle.std.proofs.Common.{◌≡◌, ◌≢◌, ◌⊎◌, ℕ, suc, ◌-◌, ◌^◌, ◌<◌, ◌≤◌, Bool, true, false, cond, nat_cmp, List, [], ◌∷◌, ◌++◌, append-nil, map, Option, Some, None, Result, Ok, Err, ℤ, pos, negsuc, ◌+ℤ◌, ◌≤ℤ◌, ◌<ℤ◌, to_z, w64, refl, sym, ap, ◌∙◌, subst, inl, inr, arith}
 use Rattle.std.specs.Prelude.{if◌then◌else◌, ◌==◌}
 use Rattle.std.specs.Ordering.{int_eq, eq_by_cmp}
 use Rattle.std.specs.Cmp.{nat_cmp_total}
@@ -8,20 +8,24 @@ use Rattle.std.proofs.lemmas.Bool.{eqb-true, eq-eqb}
 use Rattle.std.proofs.lemmas.Bool.Decides.{Decides-int_eq}
 use Rattle.std.proofs.lemmas.Int.{ints, to_z_pos}
 use Rattle.std.specs.FinMap as fin
-use Rattle.esr_model.specs.Image.{Image}
+use Rattle.esr_model.specs.Image.{Blobs, Image}
 use Rattle.esr_model.specs.Shelf.{Shelved}
-use Rattle.esr_model.specs.Values.{ClusterRecord, RootData, SnapInfo, ShardResult, Formats}
-use Rattle.esr_core.specs.World.{World, Op, Ticket, Work, Shard, Finalize, Deleting, Drop, Swap, swap, swap_of, record_ops, ledger_of, record_of}
-use Rattle.esr_core.specs.Steps.{MaySettle}
-use Rattle.esr_core.specs.Entry.{RaiseStep, SettleStep, DroppedStep, RaisedTo, WasSettled, HasEnded, Refused, DepotFault, StaleTerm, GenerationsSpent, Refusal, Moment}
+use Rattle.esr_model.specs.Values.{ClusterRecord, RootData, SnapInfo, ShardResult, ReadsBack, Formats}
+use Rattle.esr_core.specs.World.{World, Op, AllDone, Ticket, Work, Shard, Finalize, Deleting, Drop, Swap, swap, swap_of, record_ops, ledger_of, record_of}
+use Rattle.esr_core.specs.Steps.{IsOut, MaySettle}
+use Rattle.esr_core.specs.Tracked.{Tracked}
+use Rattle.esr_core.specs.Entry.{Step, RaiseStep, SettleStep, DroppedStep, RaisedTo, WasSettled, HasEnded, Refused, DepotFault, StaleTerm, GenerationsSpent, Refusal, Moment}
 use Rattle.esr_core.specs.After.{with_given, change, raised, settled_by, settled_of, dropped_of, has_text, fallen}
 use Rattle.esr_core.specs.Allowed.{MayRaise, Raising, Settling, Dropping, RaiseStale, RaiseSpent, SettleStale, DropStale}
 use Rattle.esr_core.specs.Ranked.{Ranked}
 use Rattle.esr_record.specs.Record.{Record, AreNumbers}
+use Rattle.esr_meta.specs.Info.{Info}
 use Rattle.esr_record.specs.Steps.{raised as record_raised}
 use Rattle.esr_record.specs.declared.steps.RecordRefusal.{RecordRefusal}
 use Rattle.esr_record.specs.declared.steps.RecordRefusal.TheVariants as records
 use Rattle.esr_root.specs.Root.{Root}
+use Rattle.esr_formats.specs.Formats.{formats}
+use Rattle.esr_formats.specs.Infos.{info_of_code, info_kind}
 use Rattle.esr_formats.specs.Roots.{root_of}
 use Rattle.esr_formats.specs.Clusters.{count_of, cluster_of, op_of}
 use Rattle.esr_progress.specs.Plan.{Plan, Seat, seat_of, IsPlanOf}
@@ -33,10 +37,77 @@ use Rattle.esr_desk.specs.declared.refusal.StepRefusal.TheVariants as steps
 use Rattle.esr_desk.specs.declared.refusal.EntryRefusal.TheVariants as code
 use Rattle.esr_desk.specs.Start.{Start, formats_of, world_of, or_no_ticket, ticket_of}
 use Rattle.esr_repo.specs.Next.{Added, Did}
-use Rattle.esr_repo.specs.Repo.{NoDeleting}
-use Rattle.esr_repo.specs.May.{MaySwap, MayRefuse}
+use Rattle.esr_repo.specs.Repo.{NoDeleting, AreListed, HasInfos}
+use Rattle.esr_repo.specs.May.{swapped_world, IsMadeInfo, MaySwap, MayRefuse}
 use Rattle.esr_repo.specs.Grown.{out_is, put_there, added_ticket, changed_ticket}
+use Rattle.esr_repo.proofs.InfosStay.{IsPlain, HasSettled, infos_stay, root_step, works_step, infos_settled, listed_settled, of_ticket, final_info, info_apart}
+use Rattle.esr_repo.proofs.Repos.{infos_aside}
 use Rattle.esr_repo.proofs.Stepping.{next_given, added_from}
+
+-- ---- the infos
+
+-- they stay over a step that settles nothing
+pub infos_swapped : (s : Start) (log : List Moment) (who : ℕ) (step : Step) → Tracked (world_of s log) → IsPlain step HasEnded → (old : List Info) → HasInfos s (world_of s log) old
+    → HasInfos s (record (swapped_world s log who step) { blobs = (world_of s log).blobs }) (old ++ [])
+infos_swapped s log who step tracked plain old h =
+    let m : Moment = record { entry = record { who = who; step = step; reply = HasEnded }; image = None } in
+    let w : World = world_of s log in
+    let root = root_step (formats_of s) w m tracked plain in
+    subst (HasInfos s (record (swapped_world s log who step) { blobs = w.blobs })) (sym (append-nil old))
+    (record {
+      are = infos_stay (formats_of s) w (record (swapped_world s log who step) { blobs = w.blobs }) s.tells old root (works_step (formats_of s) w m tracked plain) (λ told name bytes at. at) h.are;
+      listed = subst (λ (r : RootData). AreListed r old) (sym root) h.listed;
+    })
+
+info_kind_is : (s : Start) → (formats_of s).info ≡ info_kind
+unfolding formats
+info_kind_is s = refl
+
+abbrev IsFinal : Ticket → Type 0
+IsFinal t = (info : SnapInfo) × (results : List ShardResult) × (made : Shelved) × (t.work ≡ Finalize info results made)
+
+none_some : (b : Swap) → None ≡ Some b → ⊥
+none_some b q = cc
+
+-- a swap is that of a finalization
+final_work : (f : Formats) (w : World) (k : ℕ) (t : Ticket) (change : Swap) → NoDeleting w → fin.get w.tickets k ≡ Some t → swap f t ≡ Some change → IsFinal t
+final_work f w k t change no_deleting there is = go t.work refl is
+  where
+    go : (work : Work) → t.work ≡ work → swap_of f work t.root ≡ Some change → IsFinal t
+    go (Finalize info results made) same e = (info, results, made, same)
+    go (Deleting uuids plan) same e = absurd (no_deleting k t uuids plan there same)
+    go (Shard index number) same e = absurd (none_some change e)
+    go Drop same e = absurd (none_some change e)
+
+-- its op is there, with its shards done
+pub info_there : (s : Start) (log : List Moment) (k : ℕ) (root : RootData) (seat : Seat) (plan : Plan) → Tracked (world_of s log) → NoDeleting (world_of s log) → CanSettle s (ticket_of s log k) root → (ticket_of s log k).term ≡ (world_of s log).term
+    → seat ≡ seat_of (ticket_of s log k) → IsPlanOf (world_of s log) plan → ((x : Op) (results : List ShardResult) → fin.get plan.ops seat.op ≡ Some x → AllDone x.shards results → ⊥) → ⊥
+info_there s log k root seat plan tracked no_deleting can present seat_is plan_is none =
+    let there = (out_is s log k can.put.out).there in
+    let final = final_work (formats_of s) (world_of s log) k (ticket_of s log k) can.change no_deleting there can.is in
+    let law = tracked.finals k (ticket_of s log k) final.0 final.1 final.2 there can.put.out can.put.unsettled present final.3 in
+    none law.op final.1 (ap (λ (m : FinMap nat_cmp Op). fin.get m seat.op) plan_is.ops ∙ ap (λ (x : Seat). fin.get (world_of s log).ops x.op) seat_is ∙ law.op_there) law.done
+
+-- over a settle there is one more
+infos_more : (s : Start) (log : List Moment) (k : ℕ) (root : RootData) (info : Info) → IsMadeInfo s log k info → Tracked (world_of s log) → CanSettle s (ticket_of s log k) root → (ticket_of s log k).term ≡ (world_of s log).term → IsFinal (ticket_of s log k)
+    → (old : List Info) → HasInfos s (world_of s log) old → HasInfos s (record (swapped_world s log k SettleStep) { blobs = (world_of s log).blobs }) (old ++ info ∷ [])
+infos_more s log k root info made tracked can present final old h =
+    let w : World = world_of s log in
+    let f = formats_of s in
+    let t : Ticket = ticket_of s log k in
+    let out : IsOut w k t = out_is s log k can.put.out in
+    let code : info_of_code info ≡ final.0 = made.is ∙ final_info w k t final.0 final.1 final.2 tracked out can.put.unsettled present final.3 made.op made.results made.there made.done in
+    let back : ReadsBack f.info final.0 = subst (λ kind. ReadsBack kind final.0) (sym (info_kind_is s)) (subst (ReadsBack info_kind) code made.back) in
+    let settled : HasSettled f w (settled_of f w k (Some t)) k info = of_ticket f w k can.n info t final.0 final.1 final.2 out can.put.unsettled present final.3 can.put.raised code (info_apart info made.valid) back in
+    infos_aside s (record (settled_of f w k (Some t)) { blobs = w.blobs }) (record (swapped_world s log k SettleStep) { blobs = w.blobs }) (old ++ info ∷ [])
+    (ap (λ (x : World). x.root) (ap (settled_of f w k) out.there)) (ap (λ (x : World). x.tickets) (ap (settled_of f w k) out.there)) refl
+    (record {
+      are = infos_settled f w (record (settled_of f w k (Some t)) { blobs = w.blobs }) k info tracked (settled_aside f w (settled_of f w k (Some t)) k info w.blobs settled) s.tells old (λ told name bytes at. at) h.listed h.are;
+      listed = listed_settled f w (record (settled_of f w k (Some t)) { blobs = w.blobs }) k info tracked (settled_aside f w (settled_of f w k (Some t)) k info w.blobs settled) old h.listed;
+    })
+  where
+    settled_aside : (f : Formats) (w v : World) (k : ℕ) (i : Info) (blobs : Blobs) → HasSettled f w v k i → HasSettled f w (record v { blobs = blobs }) k i
+    settled_aside f w v k i blobs h = record { t = h.t; out = h.out; unsettled = h.unsettled; present = h.present; info = h.info; results = h.results; made = h.made; work = h.work; root = h.root; works = h.works; code = h.code; apart = h.apart; back = h.back }
 
 -- ---- a raise
 
@@ -53,15 +124,16 @@ raised_root w k = go (fin.get w.tickets k)
 abbrev raising : (s : Start) (log : List Moment) (k : ℕ) → CanRaise s (ticket_of s log k) → MayRaise (formats_of s) (world_of s log) k
 raising s log k can = record { t = ticket_of s log k; out = out_is s log k can.out; s = can.change; is = can.is; unsettled = can.unsettled; once = can.once }
 
-pub may_raise : (s : Start) (log : List Moment) (k n : ℕ) (cluster : Record) (plan p : Plan) (next : ℕ) → CanRaise s (ticket_of s log k) → (ticket_of s log k).term ≡ (world_of s log).term → n ≡ (world_of s log).pending → n < 2 ^ 63
+pub may_raise : (s : Start) (log : List Moment) (k n : ℕ) (cluster : Record) (plan p : Plan) (next : ℕ) → Tracked (world_of s log) → CanRaise s (ticket_of s log k) → (ticket_of s log k).term ≡ (world_of s log).term → n ≡ (world_of s log).pending → n < 2 ^ 63
     → cluster_of cluster ≡ record_of (raised (world_of s log) k) → IsPlanOf (world_of s log) plan → ((w : World) → IsPlanOf w plan → w.pending ≡ n → IsPlanOf (raised w k) p) → next ≡ (world_of s log).next_id
-    → MaySwap s log k RaiseStep (RaisedTo n) cluster None (Some p) next
-may_raise s log k n cluster plan p next can present n_is room cluster_is plan_is goes next_is = record {
+    → MaySwap s log k RaiseStep (RaisedTo n) cluster None None (Some p) next
+may_raise s log k n cluster plan p next tracked can present n_is room cluster_is plan_is goes next_is = record {
   swaps = refl;
   answers = refl;
-  allows = λ image same. Raising k n image (record { may = raising s log k can; present = present; n_is = n_is; room = subst (λ (m : ℕ). m < 2 ^ 63) n_is room }) same;
+  allows = λ image tells same. Raising k n image (record { may = raising s log k can; present = present; n_is = n_is; room = subst (λ (m : ℕ). m < 2 ^ 63) n_is room }) same;
   cluster_is = cluster_is;
   root_is = λ old is. is ∙ sym (raised_root (world_of s log) k);
+  infos_are = infos_swapped s log k RaiseStep tracked tt;
   plan_is = λ old h. goes (world_of s log) plan_is (sym n_is);
   next_is = next_is ∙ sym (next_given (world_of s log) k (raise_by (world_of s log).pending));
 }
@@ -109,11 +181,11 @@ may_refuse_raise s log k seat r e refusal can seat_is r_is answer stale spent = 
     go : ((seat.term ≢ r.term) × (e ≡ records.StaleTerm seat.term r.term)) ⊎ IsSpent seat.term r e → MayRefuse s log k RaiseStep refusal
     go (inl h) =
         by (StaleTerm (ticket_of s log k).term (world_of s log).term) (sym (stale seat.term r.term h.1 ∙ ap (λ (n : ℕ). StaleTerm n r.term) own_is ∙ ap (StaleTerm (ticket_of s log k).term) term_is))
-        (record { plain = refl; allows = λ image same. RaiseStale k image (raising s log k can) (λ q. h.0 (own_is ∙ q ∙ sym term_is)) same })
+        (record { plain = refl; allows = λ image tells same. RaiseStale k image (raising s log k can) (λ q. h.0 (own_is ∙ q ∙ sym term_is)) same })
     go (inr h) =
         let last : (world_of s log).pending ≡ 2 ^ 63 = sym (ap (λ (c : ClusterRecord). c.ledger.pending) r_is) ∙ ap count_of h.1 in
         by (GenerationsSpent (world_of s log).pending) (sym (spent r.pending h.2 ∙ ap GenerationsSpent (ap (λ (c : ClusterRecord). c.ledger.pending) r_is)))
-        (record { plain = refl; allows = λ image same. RaiseSpent k image (raising s log k can) (sym own_is ∙ h.0 ∙ term_is) (omega arith) same })
+        (record { plain = refl; allows = λ image tells same. RaiseSpent k image (raising s log k can) (sym own_is ∙ h.0 ∙ term_is) (omega arith) same })
 
 -- ---- the ticket
 
@@ -216,22 +288,6 @@ settled_ledger s log k r new seat n m is seat_is raised in_it new_is own =
 some_same : (a b : Swap) → Some a ≡ Some b → a ≡ b
 some_same a b q = cc
 
-none_some : (b : Swap) → None ≡ Some b → ⊥
-none_some b q = cc
-
-abbrev IsFinal : Ticket → Type 0
-IsFinal t = (info : SnapInfo) × (results : List ShardResult) × (made : Shelved) × (t.work ≡ Finalize info results made)
-
--- a swap is that of a finalization
-final_work : (f : Formats) (w : World) (k : ℕ) (t : Ticket) (change : Swap) → NoDeleting w → fin.get w.tickets k ≡ Some t → swap f t ≡ Some change → IsFinal t
-final_work f w k t change no_deleting there is = go t.work refl is
-  where
-    go : (work : Work) → t.work ≡ work → swap_of f work t.root ≡ Some change → IsFinal t
-    go (Finalize info results made) same e = (info, results, made, same)
-    go (Deleting uuids plan) same e = absurd (no_deleting k t uuids plan there same)
-    go (Shard index number) same e = absurd (none_some change e)
-    go Drop same e = absurd (none_some change e)
-
 abbrev settle : Ticket → Ticket
 settle t = record t { settled = true }
 
@@ -261,11 +317,11 @@ settled_deletes s log k root plan p can plan_is none goes =
     ∙ ap (λ (w : World). w.deletes) (settled_is (formats_of s) (world_of s log) k (ticket_of s log k) can.change can.n (out_is s log k can.put.out).there can.is can.put.raised)
     ∙ removed_none (world_of s log).deletes (ticket_of s log k).op none
 
-pub may_swap_settle : (s : Start) (log : List Moment) (k : ℕ) (root : Root) (cluster : Record) (plan p : Plan) (next : ℕ) → NoDeleting (world_of s log) → CanSettle s (ticket_of s log k) (root_of root) → (ticket_of s log k).term ≡ (world_of s log).term
+pub may_swap_settle : (s : Start) (log : List Moment) (k : ℕ) (root : Root) (info : Info) (cluster : Record) (plan p : Plan) (next : ℕ) → IsMadeInfo s log k info → Tracked (world_of s log) → NoDeleting (world_of s log) → CanSettle s (ticket_of s log k) (root_of root) → (ticket_of s log k).term ≡ (world_of s log).term
     → IsPlanOf (world_of s log) plan → ((f : Formats) (w : World) (t : Ticket) (c : Swap) (n : ℕ) → IsPlanOf w plan → fin.get w.tickets k ≡ Some t → swap f t ≡ Some c → t.raised ≡ Some n → IsPlanOf (settled_of f w k (Some t)) p)
     → ((n : ℕ) → (ticket_of s log k).raised ≡ Some n → (cluster_of cluster).ledger ≡ record { safe = suc n; pending = (world_of s log).pending; term = (world_of s log).term }) → map op_of cluster.ops ≡ record_ops p.ops p.deletes → next ≡ (world_of s log).next_id
-    → MaySwap s log k SettleStep WasSettled cluster (Some root) (Some p) next
-may_swap_settle s log k root cluster plan p next no_deleting can present plan_is goes ledger ops next_is =
+    → MaySwap s log k SettleStep WasSettled cluster (Some root) (Some info) (Some p) next
+may_swap_settle s log k root info cluster plan p next made tracked no_deleting can present plan_is goes ledger ops next_is =
     let there = (out_is s log k can.put.out).there in
     let is = settled_is (formats_of s) (world_of s log) k (ticket_of s log k) can.change can.n there can.is can.put.raised in
     let final = final_work (formats_of s) (world_of s log) k (ticket_of s log k) can.change no_deleting there can.is in
@@ -273,9 +329,10 @@ may_swap_settle s log k root cluster plan p next no_deleting can present plan_is
     record {
       swaps = refl;
       answers = refl;
-      allows = λ image same. Settling k image (record { t = ticket_of s log k; s = can.change; n = can.n; may = may_settle s log k (root_of root) can; present = present; info = final.0; results = final.1; made = final.2; work = final.3 }) same;
+      allows = λ image tells same. Settling k image (record { t = ticket_of s log k; s = can.change; n = can.n; may = may_settle s log k (root_of root) can; present = present; info = final.0; results = final.1; made = final.2; work = final.3 }) same;
       cluster_is = cluster_from _ cluster p new (ledger can.n can.put.raised ∙ ap ledger_of (sym is)) ops;
       root_is = λ old h. can.root_is ∙ ap (λ (w : World). w.root) (sym is);
+      infos_are = infos_more s log k (root_of root) info made tracked can present final;
       plan_is = λ old h. new;
       next_is = next_is ∙ ap (λ (w : World). w.next_id) (sym is);
     }
@@ -286,7 +343,7 @@ may_refuse_settle s old log k root seat now e before seat_is now_is stale =
     let can : CanSettle s (ticket_of s log k) root = subst (λ (l : List Moment). CanSettle s (ticket_of s l k) root) (sym e) before in
     let own_is : seat.term ≡ (ticket_of s log k).term = ap (λ (x : Seat). x.term) seat_is in
     subst (MayRefuse s log k SettleStep) (ap (λ (n : ℕ). StaleTerm n (world_of s log).term) (sym own_is) ∙ ap (StaleTerm seat.term) (sym now_is))
-    (record { plain = refl; allows = λ image same. SettleStale k can.n (ticket_of s log k) can.change image (may_settle s log k root can) (λ q. stale (own_is ∙ q ∙ sym now_is)) same })
+    (record { plain = refl; allows = λ image tells same. SettleStale k can.n (ticket_of s log k) can.change image (may_settle s log k root can) (λ q. stale (own_is ∙ q ∙ sym now_is)) same })
 
 settled_puts : (s : Start) (old : List Moment) (k : ℕ) (root : RootData) → CanSettle s (ticket_of s old k) root → or_no_ticket (fin.get (settled_of (formats_of s) (world_of s old) k (fin.get (world_of s old).tickets k)).tickets k) ≡ settle (ticket_of s old k)
 settled_puts s old k root can =
@@ -327,20 +384,21 @@ pub dropped_deletes : (s : Start) (log : List Moment) (k : ℕ) (plan p : Plan) 
 dropped_deletes s log k plan p can plan_is none goes =
     (goes (world_of s log) plan_is).deletes ∙ ap (λ (w : World). w.deletes) (dropped_is (world_of s log) k (ticket_of s log k) (out_is s log k can.out).there) ∙ removed_none (world_of s log).deletes (ticket_of s log k).op none
 
-pub may_swap_drop : (s : Start) (log : List Moment) (k : ℕ) (cluster : Record) (plan p : Plan) (next : ℕ) → CanDrop (ticket_of s log k) → (ticket_of s log k).term ≡ (world_of s log).term
+pub may_swap_drop : (s : Start) (log : List Moment) (k : ℕ) (cluster : Record) (plan p : Plan) (next : ℕ) → Tracked (world_of s log) → CanDrop (ticket_of s log k) → (ticket_of s log k).term ≡ (world_of s log).term
     → IsPlanOf (world_of s log) plan → ((w : World) → IsPlanOf w plan → IsPlanOf (dropped_of w k (fin.get w.tickets k)) p)
     → (cluster_of cluster).ledger ≡ ledger_of (world_of s log) → map op_of cluster.ops ≡ record_ops p.ops p.deletes → next ≡ (world_of s log).next_id
-    → MaySwap s log k DroppedStep HasEnded cluster None (Some p) next
-may_swap_drop s log k cluster plan p next can present plan_is goes ledger ops next_is =
+    → MaySwap s log k DroppedStep HasEnded cluster None None (Some p) next
+may_swap_drop s log k cluster plan p next tracked can present plan_is goes ledger ops next_is =
     let out = out_is s log k can.out in
     let is = dropped_is (world_of s log) k (ticket_of s log k) out.there in
     let new = goes (world_of s log) plan_is in
     record {
       swaps = refl;
       answers = refl;
-      allows = λ image same. Dropping k image (record { may = record { t = ticket_of s log k; out = out; work = can.work }; present = present }) same;
+      allows = λ image tells same. Dropping k image (record { may = record { t = ticket_of s log k; out = out; work = can.work }; present = present }) same;
       cluster_is = cluster_from _ cluster p new (ledger ∙ ap ledger_of (sym is)) ops;
       root_is = λ old h. h ∙ ap (λ (w : World). w.root) (sym is);
+      infos_are = infos_swapped s log k DroppedStep tracked tt;
       plan_is = λ old h. new;
       next_is = next_is ∙ ap (λ (w : World). w.next_id) (sym is);
     }
@@ -350,7 +408,7 @@ may_refuse_drop s old log k seat now e before seat_is now_is stale =
     let can : CanDrop (ticket_of s log k) = subst (λ (l : List Moment). CanDrop (ticket_of s l k)) (sym e) before in
     let own_is : seat.term ≡ (ticket_of s log k).term = ap (λ (x : Seat). x.term) seat_is in
     subst (MayRefuse s log k DroppedStep) (ap (λ (n : ℕ). StaleTerm n (world_of s log).term) (sym own_is) ∙ ap (StaleTerm seat.term) (sym now_is))
-    (record { plain = refl; allows = λ image same. DropStale k image (record { t = ticket_of s log k; out = out_is s log k can.out; work = can.work }) (λ q. stale (own_is ∙ q ∙ sym now_is)) same })
+    (record { plain = refl; allows = λ image tells same. DropStale k image (record { t = ticket_of s log k; out = out_is s log k can.out; work = can.work }) (λ q. stale (own_is ∙ q ∙ sym now_is)) same })
 
 dropped_puts : (s : Start) (old : List Moment) (k : ℕ) → CanDrop (ticket_of s old k) → or_no_ticket (fin.get (dropped_of (world_of s old) k (fin.get (world_of s old).tickets k)).tickets k) ≡ end (ticket_of s old k)
 dropped_puts s old k can =

@@ -1,7 +1,7 @@
 -- Entries of steps that swap the cluster record.
-use Rattle.std.proofs.Common.{◌≡◌, ◌⊎◌, ℕ, ◌≤◌, Bool, true, false, List, [], ◌∷◌, Option, Some, None, Ok, Err, refl, sym, ap, ◌∙◌, subst, inl, inr, nat_cmp, Ordering, Less, Equal, Greater, is_eq, true≢false}
+use Rattle.std.proofs.Common.{◌≡◌, ◌⊎◌, ℕ, ◌≤◌, Bool, true, false, List, [], ◌∷◌, ◌++◌, Option, Some, None, Ok, Err, refl, sym, ap, ◌∙◌, subst, inl, inr, nat_cmp, Ordering, Less, Equal, Greater, is_eq, true≢false}
 use Rattle.std.specs.Prelude.{option_map, if◌then◌else◌}
-use Rattle.std.specs.Option.{unwrap_or}
+use Rattle.std.specs.Option.{unwrap_or, option_to_list}
 use Rattle.std.specs.Cmp.{eq_by_cmp_equiv}
 use Rattle.std.specs.Cmp.Lexicographic.{slice_cmp, nat_list_cmp_total}
 use Rattle.std.specs.FinMap.{nat_cmp-IsAntisymmetric, slice_cmp-IsAntisymmetric}
@@ -10,13 +10,14 @@ use Rattle.esr_model.specs.Values.{Bytes, ReadsBack, Formats}
 use Rattle.esr_model.specs.Uploads.{same_bytes}
 use Rattle.esr_model.specs.Image.{Image}
 use Rattle.esr_core.specs.World.{World, Ticket, Swap, swap, record_of}
-use Rattle.esr_core.specs.Entry.{Snapshot, Restore, Step, AskStep, RaiseStep, SettleStep, DroppedStep, ElectStep, Reply, HasEnded, Refused, DepotFault, Entry, Moment}
+use Rattle.esr_core.specs.Entry.{Snapshot, Clone, DeleteSnapshots, Cleanup, Step, AskStep, RaiseStep, SettleStep, DroppedStep, ElectStep, Reply, HasEnded, Refused, DepotFault, Entry, Moment}
 use Rattle.esr_core.specs.After.{with_given, done_step, swaps_record, text_is, has_text, settled_by, settled_of, dropped_of, fallen, faulted, answered, blobs_in, after}
 use Rattle.esr_core.specs.Allowed.{Accepts, Raises, Allows, SameBlobs, Told, Allowed}
 use Rattle.esr_core.specs.Allowed as allowed
 use Rattle.esr_core.specs.Left.{Leaves}
 use Rattle.esr_root.specs.Root.{Root}
 use Rattle.esr_record.specs.Record.{Record}
+use Rattle.esr_meta.specs.Info.{Info}
 use Rattle.esr_depot.specs.declared.error.CallError.{CallError}
 use Rattle.esr_depot.specs.declared.error.CallError.TheVariants.{Failed}
 use Rattle.esr_depot.specs.Image.{Image as Held, with_text, swap_known}
@@ -28,10 +29,10 @@ use Rattle.esr_formats.specs.Clusters.{cluster_of, cluster_kind}
 use Rattle.esr_progress.specs.Plan.{Plan, IsPlanOf}
 use Rattle.esr_desk.specs.Start.{Start, formats_of, world_of}
 use Rattle.esr_repo.specs.Log.{image_of, asks_container, calls}
-use Rattle.esr_repo.specs.Repo.{Kept, TellsSo, IsSteady}
-use Rattle.esr_repo.specs.May.{opens_restore, Same, is_refused, swapped_world, MaySwap}
+use Rattle.esr_repo.specs.Repo.{Kept, TellsSo, HasInfos, IsSteady}
+use Rattle.esr_repo.specs.May.{CanTell, Same, is_refused, swapped_world, MaySwap}
 use Rattle.esr_repo.proofs.Logs.{goes_passed, image_now}
-use Rattle.esr_repo.proofs.Repos.{cluster_is, plan_aside, kept_now, steady_now, text_same, added_repo}
+use Rattle.esr_repo.proofs.Repos.{cluster_is, plan_aside, infos_aside, blobs_same, kept_now, steady_now, can_tell, text_same, added_repo}
 use Rattle.esr_repo.proofs.BlobCalls.{Before, Pushed, IsCall, Made, more_is, made, failed_is, held_of, told_of}
 
 some_none : {A : Type 0} (x : A) → Some x ≡ None → ⊥
@@ -50,16 +51,6 @@ swap_asks DroppedStep h = refl
 swap_asks ElectStep h = refl
 swap_asks step h = absurd (true≢false (sym h))
 
--- a step that swaps the record opens no restore
-swap_closed : (step : Step) (reply : Reply) → swaps_record step ≡ true → opens_restore step reply ≡ false
-swap_closed (AskStep (Snapshot name indices moment)) reply h = refl
-swap_closed (AskStep (Restore name place)) reply h = absurd (true≢false (sym h))
-swap_closed RaiseStep reply h = refl
-swap_closed SettleStep reply h = refl
-swap_closed DroppedStep reply h = refl
-swap_closed ElectStep reply h = refl
-swap_closed step reply h = absurd (true≢false (sym h))
-
 -- it calls the container
 swap_calls : (step : Step) (reply : Reply) → swaps_record step ≡ true → is_refused reply ≡ false → calls step reply ≡ true
 swap_calls step (Refused refusal) h a = absurd (true≢false a)
@@ -68,6 +59,9 @@ swap_calls step reply h a = swap_asks step h
 module _ (f : Formats) (w : World) (who : ℕ) where
   done_is : (step : Step) (reply : Reply) (image : Option Image) → swaps_record step ≡ true → done_step f w who step reply image ≡ done_step f w who step HasEnded None
   done_is (AskStep (Snapshot name indices moment)) reply image h = refl
+  done_is (AskStep (Clone source name indices moment)) reply image h = refl
+  done_is (AskStep (DeleteSnapshots names)) reply image h = refl
+  done_is (AskStep Cleanup) reply image h = refl
   done_is RaiseStep reply image h = refl
   done_is SettleStep reply image h = refl
   done_is DroppedStep reply image h = refl
@@ -82,6 +76,9 @@ module _ (f : Formats) (w : World) (who : ℕ) where
   -- or to one of two, where it failed
   faulted_is : (step : Step) (image : Option Image) → swaps_record step ≡ true → faulted f w who step image ≡ fallen f w (done_step f w who step HasEnded None) image
   faulted_is (AskStep (Snapshot name indices moment)) image h = refl
+  faulted_is (AskStep (Clone source name indices moment)) image h = refl
+  faulted_is (AskStep (DeleteSnapshots names)) image h = refl
+  faulted_is (AskStep Cleanup) image h = refl
   faulted_is RaiseStep image h = refl
   faulted_is SettleStep image h = refl
   faulted_is DroppedStep image h = refl
@@ -107,6 +104,9 @@ module _ (f : Formats) (w : World) (who : ℕ) where
 
   swapped_live : (step : Step) → swaps_record step ≡ true → (done_step f w who step HasEnded None).deposed ≡ w.deposed
   swapped_live (AskStep (Snapshot name indices moment)) h = refl
+  swapped_live (AskStep (Clone source name indices moment)) h = refl
+  swapped_live (AskStep (DeleteSnapshots names)) h = refl
+  swapped_live (AskStep Cleanup) h = refl
   swapped_live RaiseStep h = given_live (λ t. record t { raised = Some w.pending }) (fin.get w.tickets who)
   swapped_live SettleStep h = settled_live (fin.get w.tickets who)
   swapped_live DroppedStep h = dropped_live (fin.get w.tickets who)
@@ -188,16 +188,17 @@ back_either up w true p q = p
 back_either up w false p q = q
 
 -- what is kept after a swap that was answered
-pub record Renews (k : Kept) (cluster : Record) (root : Option Root) (plan : Option Plan) (next : ℕ) (k' : Kept) : Type 0 where
+pub record Renews (k : Kept) (cluster : Record) (root : Option Root) (info : Option Info) (plan : Option Plan) (next : ℕ) (k' : Kept) : Type 0 where
   pub cluster_new : k'.cluster ≡ cluster
   pub root_new : k'.root ≡ unwrap_or root k.root
+  pub infos_new : k'.infos ≡ k.infos ++ option_to_list info
   pub plan_new : k'.plan ≡ unwrap_or plan k.plan
   pub next_new : k'.next ≡ next
 
 -- ---- the call
 
 module _ {old : Look} {s : Start} {clock : ℕ} {es : List Entry} {k : Kept} {d : Option ℕ} {seen : List Moment} (b : Before old s clock es k d seen) (new : Look)
-    (who : ℕ) (step : Step) (reply : Reply) (cluster : Record) (root : Option Root) (plan : Option Plan) (next : ℕ) (m : MaySwap s seen who step reply cluster root plan next)
+    (who : ℕ) (step : Step) (reply : Reply) (cluster : Record) (root : Option Root) (info : Option Info) (plan : Option Plan) (next : ℕ) (m : MaySwap s seen who step reply cluster root info plan next)
     (text : Bytes) (text_of : text ≡ cluster_kind.text (cluster_of cluster)) (back : ReadsBack cluster_kind (cluster_of cluster)) where
   steady : IsSteady s seen old
   steady = steady_now old s clock es k d seen b.repo b.view
@@ -223,6 +224,9 @@ module _ {old : Look} {s : Start} {clock : ℕ} {es : List Entry} {k : Kept} {d 
 
   told_blobs : (o : Option Held) → Swapping (now old) o text → Told (option_map image_of o) (Same s seen)
   told_blobs o h = told_of o (Same s seen) (λ j e. let x = was_held (now old) o text h j e in x.2 ∙ blobs_are x.0 x.1)
+
+  tell_of : (o : Option Held) → Swapping (now old) o text → CanTell s (option_map image_of o)
+  tell_of o h = can_tell s o (λ j e. let x = was_held (now old) o text h j e in b.repo.tells.told x.0 x.1)
 
   -- ---- the image that it leaves where it fails, or is cut off
 
@@ -257,7 +261,7 @@ module _ {old : Look} {s : Start} {clock : ℕ} {es : List Entry} {k : Kept} {d 
     bad_allowed : Swapping (now old) o text → Allowed (formats_of s) s.part_size was bad_moment
     bad_allowed h =
         record {
-          answered = inl (b.live, may_fail (m.allows (option_map image_of o) (told_blobs o h)) m.swaps m.answers (option_map image_of o) (told_blobs o h));
+          answered = inl (b.live, may_fail (m.allows (option_map image_of o) (tell_of o h) (told_blobs o h)) m.swaps m.answers (option_map image_of o) (told_blobs o h));
           record_back =
               subst (λ kind. ReadsBack kind (record_of (after (formats_of s) was bad_moment))) (sym (cluster_is s))
               (subst (λ r. ReadsBack cluster_kind r) (sym bad_record) (back_either up was (has_text (option_map image_of o) ((formats_of s).cluster.text (record_of up))) back_up steady.record_back));
@@ -302,14 +306,14 @@ module _ {old : Look} {s : Start} {clock : ℕ} {es : List Entry} {k : Kept} {d 
         tells = swapping_tells old new s.tells text b.repo.tells h;
         allowed =
             record {
-              answered = inl (b.live, m.allows (image_now new) (told_blobs (now new) h));
+              answered = inl (b.live, m.allows (image_now new) (tell_of (now new) h) (told_blobs (now new) h));
               record_back = subst (λ kind. ReadsBack kind (record_of (after (formats_of s) was ok_moment))) (sym (cluster_is s)) (subst (λ r. ReadsBack cluster_kind r) (sym ok_record) back_up);
               text = ok_text is;
             };
         left = swap_since reply (c.passed refl);
       }
 
-  pub swap_ok : (x : Unit {0}) → Called old new (λ _. Swapped text) (SwapMay text) (Ok x) → (mid es' : List Entry) → Pushed es mid es' ok_entry → (k' : Kept) → Renews k cluster root plan next k' → Made old new s clock es es' k' d seen ok_entry
+  pub swap_ok : (x : Unit {0}) → Called old new (λ _. Swapped text) (SwapMay text) (Ok x) → (mid es' : List Entry) → Pushed es mid es' ok_entry → (k' : Kept) → Renews k cluster root info plan next k' → Made old new s clock es es' k' d seen ok_entry
   swap_ok x c mid es' p k' new_one =
       let more = more_is es mid es' ok_entry p in
       let kept = kept_now old s clock es k d seen b.repo b.view b.live in
@@ -317,7 +321,7 @@ module _ {old : Look} {s : Start} {clock : ℕ} {es : List Entry} {k : Kept} {d 
       let w : World = answered (formats_of s) was who step reply (image_now new) in
       let plan_up : IsPlanOf up k'.plan = subst (λ q. IsPlanOf up q) (sym new_one.plan_new) (m.plan_is k.plan kept.1.plan) in
       made old new s clock es es' k k' d d seen ok_entry b more call
-      (added_repo old new s clock es es' k k' d d seen ok_entry b.laws b.repo b.view call.goes call.tells more call.allowed (swap_closed step reply m.swaps)
+      (added_repo old new s clock es es' k k' d d seen ok_entry b.laws b.repo b.view call.goes call.tells more call.allowed
       (λ none. (
         ap (λ (y : World). y.deposed) ok_world ∙ swapped_live (formats_of s) was who step m.swaps ∙ b.live,
         record {
@@ -326,6 +330,10 @@ module _ {old : Look} {s : Start} {clock : ℕ} {es : List Entry} {k : Kept} {d 
           plan = plan_aside w (blobs_in (image_now new) was.blobs) w.deposed (after (formats_of s) was ok_moment).caller k'.plan (subst (λ (y : World). IsPlanOf y k'.plan) (sym ok_world) plan_up);
           next = new_one.next_new ∙ m.next_is ∙ ap (λ (y : World). y.next_id) (sym ok_world);
         },
+        subst (HasInfos s (after (formats_of s) was ok_moment)) (sym new_one.infos_new)
+            (infos_aside s (record up { blobs = was.blobs }) (after (formats_of s) was ok_moment) (k.infos ++ option_to_list info)
+            (ap (λ (y : World). y.root) ok_world) (ap (λ (y : World). y.tickets) ok_world) (blobs_same was (image_now new) (told_blobs (now new) (swapping_new (now old) (now new) text c.done)))
+            (m.infos_are k.infos kept.2)),
       ))
       (λ place n. absurd (some_none place (sym n ∙ kept.0))))
 
@@ -347,6 +355,6 @@ module _ {old : Look} {s : Start} {clock : ℕ} {es : List Entry} {k : Kept} {d 
       let more = more_is es mid es' bad_entry p in
       let call = bad_call error is c in
       made old new s clock es es' k k d (Some place) seen bad_entry b more call
-      (added_repo old new s clock es es' k k d (Some place) seen bad_entry b.laws b.repo b.view call.goes call.tells more call.allowed (swap_closed step (Refused DepotFault) m.swaps)
+      (added_repo old new s clock es es' k k d (Some place) seen bad_entry b.laws b.repo b.view call.goes call.tells more call.allowed
       (λ none. absurd (some_none place none))
       (λ other n. ap (λ (y : World). y.deposed) (bad_world (now new))))

@@ -1,18 +1,17 @@
 -- A unit that is given.
-use Rattle.std.proofs.Common.{◌≡◌, ℕ, Bool, true, false, ◌&&◌, List, [], ◌∷◌, map, Option, Some, None, option_map, nat_cmp, refl, sym, ap, ◌∙◌, subst, inl, inr}
+use Rattle.std.proofs.Common.{◌≡◌, ℕ, Bool, true, false, ◌&&◌, List, [], ◌∷◌, map, Option, Some, None, option_map, refl, sym, ap, ◌∙◌, subst, inl, inr}
 use Rattle.std.specs.Prelude.{if◌then◌else◌, ◌==◌}
 use Rattle.std.proofs.lemmas.Bool.{eqb-true}
-use Rattle.std.specs.FinMap.{FinMap}
 use Rattle.std.specs.FinMap as fin
 use Rattle.esr_model.specs.Finalize.{finalized_root}
 use Rattle.esr_model.specs.Values.{Bytes, Has, IndexRef, RootData, SnapInfo, ShardResult, ReadsBack, Formats}
-use Rattle.esr_core.specs.World.{World, Op, ShardWork, Done, AllDone, Shard, Finalize, Drop, Ticket, RestoreShard, Restoring, info_of, shelved_of}
+use Rattle.esr_core.specs.World.{World, Op, ShardWork, Done, AllDone, Shard, Finalize, Drop, Ticket, RestoreShard, Restoring, Reader, info_of, shelved_of}
 use Rattle.esr_core.specs.Entry.{Given, GivenShard, GivenFinalize, GivenDrop, GivenRestore, TakeStep, Gave, NothingReady, Moment}
 use Rattle.esr_core.specs.Ready.{ReadyFinalize, AnyReady}
-use Rattle.esr_core.specs.Restores.{restore_shard}
+use Rattle.esr_core.specs.Restores.{restore_shard, reader_of as restore_reader}
 use Rattle.esr_core.specs.Steps.{shard_ticket, final_ticket}
 use Rattle.esr_core.specs.After.{shard_of, taken_shard, taken_restore_shard, taken_restore, taken_by}
-use Rattle.esr_core.specs.Allowed.{GivesRestore, Gives, Giving, GivingNothing}
+use Rattle.esr_core.specs.Allowed.{Gives, Giving, GivingNothing}
 use Rattle.esr_core.specs.Tracked.{Tracked}
 use Rattle.esr_core.specs.Turns.{plain_ticket}
 use Rattle.esr_root.specs.Root.{Root}
@@ -30,33 +29,37 @@ use Rattle.esr_progress.specs.Plan.{Plan, IsPlanOf, IsGivenIn}
 use Rattle.esr_progress.specs.Units.{given_by, given_of, GivesWork, GivesUnit}
 use Rattle.esr_desk.specs.Start.{Start, formats_of, world_of, or_no_ticket, ticket_of}
 use Rattle.esr_desk.specs.Taken.{fresh, NewRoot, TookWork}
+use Rattle.esr_desk.specs.Readers.{or_no_reader, reader_of, fresh_reader, ByWork, TookUnit}
+use Rattle.esr_desk.specs.Readers.{TookWork as TookReading}
 use Rattle.esr_repo.specs.Given.{base_for, based, IsBased, IsRootable, HasRoot}
-use Rattle.esr_repo.specs.Repo.{NoRestore}
 use Rattle.esr_repo.specs.Next.{Added}
 use Rattle.esr_repo.specs.May.{MayNote}
-use Rattle.esr_repo.specs.Grown.{put_there, added_ticket}
+use Rattle.esr_repo.specs.Grown.{put_there, reader_there, added_ticket, added_reader}
 
 -- ---- no unit is ready
 
 pub may_note_nothing : (s : Start) (log : List Moment) (next : ℕ) → (AnyReady (world_of s log) → ⊥) → next ≡ (world_of s log).next_id → MayNote s log 0 TakeStep NothingReady None next
-may_note_nothing s log next none next_is = record { plain = refl; closed = refl; allows = λ image same. GivingNothing image none same; plan_is = λ image old h. h; next_is = λ image. next_is }
+may_note_nothing s log next none next_is = record { plain = refl; allows = λ image tells same. GivingNothing image none same; plan_is = λ image old h. h; next_is = λ image. next_is }
 
 -- ---- the unit that is ready
 
 pub given_in : (w : World) (plan : Plan) (root : Root) (safe term : ℕ) → IsPlanOf w plan → root_of root ≡ w.root → safe ≡ w.safe → term ≡ w.term → IsGivenIn plan (root_of root) safe term w
 given_in w plan root safe term plan_is root_is safe_is term_is = record { plan = plan_is; root_is = sym root_is; safe_is = sym safe_is; term_is = sym term_is }
 
-given_based : (work : Work) (copy : Copied) → given_by work (record copy { base = base_for work copy.base }) ≡ given_by work copy
-given_based (works.Shard uuid shard index place) copy = refl
-given_based (works.Finalize info shards) copy = refl
-given_based works.Drop copy = refl
-given_based (works.RestoreShard uuid shard index place) copy = refl
+-- of what is given the base tells only of a shard
+given_based : (w : World) (o : ℕ) (work : Work) (copy : Copied) → GivesWork w o work copy → given_by work (record copy { base = base_for work copy.base }) ≡ given_by work copy
+given_based w o (works.Shard uuid shard index place) copy h = refl
+given_based w o (works.Finalize info shards) copy h = refl
+given_based w o works.Drop copy h = refl
+given_based w o (works.RestoreShard uuid shard index place) copy h = refl
+given_based w o work copy h = absurd h
 
 gives_based : (w : World) (o : ℕ) (work : Work) (copy : Copied) → GivesWork w o work copy → GivesWork w o work (record copy { base = base_for work copy.base })
 gives_based w o (works.Shard uuid shard index place) copy h = h
 gives_based w o (works.Finalize info shards) copy h = h
 gives_based w o works.Drop copy h = h
 gives_based w o (works.RestoreShard uuid shard index place) copy h = h
+gives_based w o work copy h = absurd h
 
 abbrev Next : World → Plan → ReadyUnit → Type 0
 Next w new u = GivesUnit w u × ((f : Formats) → IsPlanOf (taken_by f w u.op (given_of u) (fin.get w.ops u.op)) new)
@@ -64,7 +67,7 @@ Next w new u = GivesUnit w u × ((f : Formats) → IsPlanOf (taken_by f w u.op (
 next_based : (w : World) (new : Plan) (u : ReadyUnit) → Next w new u → Next w new (based u)
 next_based w new u h = (
   record { ticket = h.0.ticket; lowest = h.0.lowest; gives = gives_based w u.op u.work u.copy h.0.gives; copy = record { safe = h.0.copy.safe; root = h.0.copy.root } },
-  λ f. subst (λ (x : Given). IsPlanOf (taken_by f w u.op x (fin.get w.ops u.op)) new) (sym (given_based u.work u.copy)) (h.1 f),
+  λ f. subst (λ (x : Given). IsPlanOf (taken_by f w u.op x (fin.get w.ops u.op)) new) (sym (given_based w u.op u.work u.copy h.0.gives)) (h.1 f),
 )
 
 pub next_unit : (w : World) (new : Plan) (u v : ReadyUnit) → v ≡ based u → Next w new u → Next w new v
@@ -120,6 +123,7 @@ given_so s w u made gives has = go u.work refl gives.gives
           info_is = h.2;
           root_back = subst (λ kind. ReadsBack kind (finalized_root w.root (info_of h.0 (map result_of shards)) (map result_of shards))) (sym (root_kind_is s)) (subst (ReadsBack root_kind) same root.back);
         }
+    go work is h = absurd h
 
 next_restore : (w : World) (o index number : ℕ) (r : Option Restoring) → (taken_restore w o index number r).next_id ≡ w.next_id
 next_restore w o index number None = refl
@@ -140,6 +144,7 @@ next_taken f w o (GivenFinalize info results) (Some op) = refl
 next_taken f w o (GivenFinalize info results) None = refl
 next_taken f w o GivenDrop op = refl
 next_taken f w o (GivenRestore index number uuid) op = next_restore w o index number (fin.get w.restores o)
+next_taken f w o unit op = refl
 
 pub may_give : (s : Start) (log : List Moment) (u : ReadyUnit) (made : Option Root) (given : Given) (p : Plan) (next : ℕ) → GivesUnit (world_of s log) u → HasRoot u made → given ≡ given_of u
     → ((f : Formats) → IsPlanOf (taken_by f (world_of s log) u.op (given_of u) (fin.get (world_of s log).ops u.op)) p) → next ≡ (world_of s log).next_id → MayNote s log 0 TakeStep (Gave u.ticket u.op given) (Some p) next
@@ -147,20 +152,12 @@ may_give s log u made given p next gives has given_is plan next_is =
     subst (λ (x : Given). MayNote s log 0 TakeStep (Gave u.ticket u.op x) (Some p) next) (sym given_is)
     (record {
       plain = refl;
-      closed = refl;
-      allows = λ image same. Giving u.ticket u.op (given_of u) image gives.ticket gives.lowest (given_so s (world_of s log) u made gives has) same;
+      allows = λ image tells same. Giving u.ticket u.op (given_of u) image gives.ticket gives.lowest (given_so s (world_of s log) u made gives has) same;
       plan_is = λ image old h. plan (formats_of s);
       next_is = λ image. next_is ∙ sym (next_taken (formats_of s) (world_of s log) u.op (given_of u) (fin.get (world_of s log).ops u.op));
     })
 
 -- ---- its ticket
-
--- where no restore is open no shard of one is given
-no_restore_given : (w : World) (o index number uuid : ℕ) → NoRestore w → GivesRestore w o index number uuid → ⊥
-no_restore_given w o index number uuid none gives = never gives.r (sym (fin.get-empty nat_cmp o) ∙ ap (λ (m : FinMap nat_cmp Restoring). fin.get m o) (sym none.0) ∙ gives.ready.there)
-  where
-    never : (r : Restoring) → None ≡ Some r → ⊥
-    never r q = cc
 
 some_shard : (a b : ShardWork) → Some a ≡ Some b → a ≡ b
 some_shard a b q = cc
@@ -186,7 +183,26 @@ shard_found (z ∷ shards) index number s e = go ((z.ref.id == index) && (z.numb
         (ap (λ (x : ShardWork). x.ref.id) (sym same) ∙ eqb-true z.ref.id index h.0, ap (λ (x : ShardWork). x.number) (sym same) ∙ eqb-true z.number number h.1)
     go false is q rest = rest q
 
-module _ (s : Start) (old new : List Moment) (u : ReadyUnit) (made : Option Root) (none : NoRestore (world_of s old)) (gives : GivesUnit (world_of s old) u) (has : HasRoot u made) where
+some_restore : (a b : RestoreShard) → Some a ≡ Some b → a ≡ b
+some_restore a b q = cc
+
+no_restore : (b : RestoreShard) → None ≡ Some b → ⊥
+no_restore b q = cc
+
+-- so is that of a restore
+restore_found : (shards : List RestoreShard) (index number : ℕ) (s : RestoreShard) → restore_shard shards index number ≡ Some s → (s.ref.id ≡ index) × (s.number ≡ number)
+restore_found [] index number s e = absurd (no_restore s e)
+restore_found (z ∷ shards) index number s e = go ((z.ref.id == index) && (z.number == number)) refl e (restore_found shards index number s)
+  where
+    go : (b : Bool) → ((z.ref.id == index) && (z.number == number)) ≡ b → (if b then Some z else restore_shard shards index number) ≡ Some s → (restore_shard shards index number ≡ Some s → (s.ref.id ≡ index) × (s.number ≡ number))
+        → (s.ref.id ≡ index) × (s.number ≡ number)
+    go true is q rest =
+        let h = both_true (z.ref.id == index) (z.number == number) is in
+        let same : z ≡ s = some_restore z s q in
+        (ap (λ (x : RestoreShard). x.ref.id) (sym same) ∙ eqb-true z.ref.id index h.0, ap (λ (x : RestoreShard). x.number) (sym same) ∙ eqb-true z.number number h.1)
+    go false is q rest = rest q
+
+module _ (s : Start) (old new : List Moment) (u : ReadyUnit) (made : Option Root) (gives : GivesUnit (world_of s old) u) (has : HasRoot u made) where
   abbrev w : World
   w = world_of s old
 
@@ -195,6 +211,12 @@ module _ (s : Start) (old new : List Moment) (u : ReadyUnit) (made : Option Root
 
   abbrev ticket_by : Given → Option Op → Ticket
   ticket_by unit op = or_no_ticket (fin.get (taken_by f w u.op unit op).tickets u.ticket)
+
+  abbrev reader_by : Given → Option Op → Reader
+  reader_by unit op = or_no_reader (fin.get (taken_by f w u.op unit op).readers u.ticket)
+
+  put_reader : (q : Reader) → or_no_reader (fin.get (fin.insert w.readers w.next_ticket q) u.ticket) ≡ q
+  put_reader q = ap (λ (k : ℕ). or_no_reader (fin.get (fin.insert w.readers w.next_ticket q) k)) gives.ticket ∙ ap or_no_reader (reader_there w.readers w.next_ticket q)
 
   put : (t : Ticket) → or_no_ticket (fin.get (fin.insert w.tickets w.next_ticket t) u.ticket) ≡ t
   put t = ap (λ (k : ℕ). or_no_ticket (fin.get (fin.insert w.tickets w.next_ticket t) k)) gives.ticket ∙ ap or_no_ticket (put_there w.tickets w.next_ticket t)
@@ -266,8 +288,22 @@ module _ (s : Start) (old new : List Moment) (u : ReadyUnit) (made : Option Root
     out = true;
   }
 
-  took_by : (work : Work) (t : Ticket) → u.work ≡ work → GivesWork w u.op work u.copy → u.copy.base ≡ base_for work u.copy.base → t ≡ ticket_by (given_by work u.copy) (fin.get w.ops u.op) → TookWork work made u.op u.copy t
-  took_by (works.Shard uuid shard index place) t is h base t_is =
+  reader_is : (r : Restoring) (z : RestoreShard) (index number uuid : ℕ) (name place : Bytes) → z.ref.id ≡ index → z.number ≡ number → uuid ≡ r.uuid → name ≡ z.ref.name → place ≡ r.place
+      → restore_reader u.op r z ≡ fresh_reader u.op uuid index number name place
+  reader_is r z index number uuid name place index_is number_is uuid_is name_is place_is = λ i. record {
+    op = u.op;
+    uuid = sym uuid_is i;
+    index = index_is i;
+    number = number_is i;
+    name = sym name_is i;
+    place = sym place_is i;
+    read = [];
+    out = true;
+  }
+
+  took_by : (work : Work) (t : Ticket) (q : Reader) → u.work ≡ work → GivesWork w u.op work u.copy → u.copy.base ≡ base_for work u.copy.base → t ≡ ticket_by (given_by work u.copy) (fin.get w.ops u.op) → q ≡ reader_by (given_by work u.copy) (fin.get w.ops u.op)
+      → ByWork work (TookReading work u.op q) (TookWork work made u.op u.copy t)
+  took_by (works.Shard uuid shard index place) t q is h base t_is q_is =
       let found = shard_found h.gives.op.shards shard.index.number shard.number h.gives.s h.gives.found in (
         w.term,
         t_is
@@ -277,7 +313,7 @@ module _ (s : Start) (old new : List Moment) (u : ReadyUnit) (made : Option Root
             ∙ shard_is h.gives.op h.gives.s shard.index.number shard.number uuid.number (option_map number_of u.copy.base) index place found.0 found.1 h.uuid_is h.name_is h.place_is refl,
         h.few,
       )
-  took_by (works.Finalize info shards) t is h base t_is =
+  took_by (works.Finalize info shards) t q is h base t_is q_is =
       let root = has info shards is in (
         w.term,
         shelved_of f h.0,
@@ -287,9 +323,20 @@ module _ (s : Start) (old new : List Moment) (u : ReadyUnit) (made : Option Root
             ∙ final_is h.0 (info_of_code info) (map result_of shards) h.2 (ap (option_map number_of) (sym base)),
         subst (λ (x : Option Root). NewRoot x (finalized_root (root_of u.copy.root) (info_of_code info) (map result_of shards))) (sym root.made_is) root.is,
       )
-  took_by (works.RestoreShard uuid shard index place) t is h base t_is = no_restore_given w u.op shard.index.number shard.number uuid.number none h.gives
-  took_by works.Drop t is h base t_is = (w.term, t_is ∙ put (plain_ticket w u.op Drop) ∙ drop_is (ap (option_map number_of) (sym base)))
+  took_by works.Drop t q is h base t_is q_is = (w.term, t_is ∙ put (plain_ticket w u.op Drop) ∙ drop_is (ap (option_map number_of) (sym base)))
+  took_by (works.RestoreShard uuid shard index place) t q is h base t_is q_is =
+      let found = restore_found h.gives.r.shards shard.index.number shard.number h.gives.s h.gives.found in (
+        q_is
+            ∙ ap (λ (x : Option Restoring). or_no_reader (fin.get (taken_restore w u.op shard.index.number shard.number x).readers u.ticket)) h.gives.ready.there
+            ∙ ap (λ (x : Option RestoreShard). or_no_reader (fin.get (taken_restore_shard w u.op h.gives.r x).readers u.ticket)) h.gives.found
+            ∙ put_reader (restore_reader u.op h.gives.r h.gives.s)
+            ∙ reader_is h.gives.r h.gives.s shard.index.number shard.number uuid.number index place found.0 found.1 h.gives.uuid_is h.name_is h.place_is,
+        h.few,
+      )
+  took_by work t q is h base t_is q_is = absurd h
 
-  pub took : (given : Given) → IsBased u → given ≡ given_of u → Added s old new 0 TakeStep (Gave u.ticket u.op given) → TookWork u.work made u.op u.copy (ticket_of s new u.ticket)
+  pub took : (given : Given) → IsBased u → given ≡ given_of u → Added s old new 0 TakeStep (Gave u.ticket u.op given) → TookUnit s new (record { ready = u; new_root = made })
   took given base given_is a =
-      took_by u.work (ticket_of s new u.ticket) refl gives.gives base (added_ticket s old new 0 TakeStep (Gave u.ticket u.op given) a u.ticket ∙ ap (λ (x : Given). ticket_by x (fin.get w.ops u.op)) given_is)
+      took_by u.work (ticket_of s new u.ticket) (reader_of s new u.ticket) refl gives.gives base
+      (added_ticket s old new 0 TakeStep (Gave u.ticket u.op given) a u.ticket ∙ ap (λ (x : Given). ticket_by x (fin.get w.ops u.op)) given_is)
+      (added_reader s old new 0 TakeStep (Gave u.ticket u.op given) a u.ticket ∙ ap (λ (x : Given). reader_by x (fin.get w.ops u.op)) given_is)

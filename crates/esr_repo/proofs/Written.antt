@@ -6,7 +6,7 @@ use Rattle.esr_model.specs.Image.{Image}
 use Rattle.esr_model.specs.Names.{BlobName, Root, Latest, IndexMeta, ShardIndex}
 use Rattle.esr_model.specs.Values.{Bytes, Has, Formats}
 use Rattle.esr_core.specs.World.{World, Ticket, Work, Shard, Finalize, Deleting, Drop, Swap, swap, swap_of, metadata}
-use Rattle.esr_core.specs.Entry.{BeginStep, CommitStep, LatestStep, FetchStep, WasBegun, WasDone, WasThere, WasReplaced, WasFetched, WasAbsent, Refused, DepotFault, Moment}
+use Rattle.esr_core.specs.Entry.{Step, BeginStep, CommitStep, LatestStep, FetchStep, WasBegun, WasDone, WasThere, WasReplaced, WasFetched, WasAbsent, Refused, DepotFault, Moment}
 use Rattle.esr_core.specs.Steps.{noting, IsOut, SwapCommits, ShardCommits, MayCommit}
 use Rattle.esr_core.specs.Texts.{IsMetaOf}
 use Rattle.esr_core.specs.After.{change, committing, fetching, told_blob, is_latest, tried as tried_in}
@@ -39,10 +39,10 @@ putting s log k n can = record { t = ticket_of s log k; out = out_is s log k can
 -- ---- begin
 
 begin_latest : (s : Start) (log : List Moment) (k n : ℕ) → CanPut s (ticket_of s log k) n → MayBegin s log k Latest
-begin_latest s log k n can = record { out = can.out; begins = λ named image same. BeginningLatest k image (putting s log k n can) same; fails = λ named image same. BeginLatestFails k image (putting s log k n can) same }
+begin_latest s log k n can = record { out = can.out; begins = λ named image tells same. BeginningLatest k image (putting s log k n can) same; fails = λ named image tells same. BeginLatestFails k image (putting s log k n can) same }
 
 begin_by : (s : Start) (log : List Moment) (k : ℕ) (name : BlobName) → CanBegin s (ticket_of s log k) name → MayBegin s log k name
-begin_by s log k name (inl h) = record { out = h.1.out; begins = λ named image same. Beginning k name image (committable s log k name h.0 h.1 named) same; fails = λ named image same. BeginFails k name image (committable s log k name h.0 h.1 named) same }
+begin_by s log k name (inl h) = record { out = h.1.out; begins = λ named image tells same. Beginning k name image (committable s log k name h.0 h.1 named) same; fails = λ named image tells same. BeginFails k name image (committable s log k name h.0 h.1 named) same }
 begin_by s log k name (inr h) = subst (MayBegin s log k) (sym h.0) (begin_latest s log k h.1.0 h.1.1)
 
 pub may_begin : (s : Start) (old log : List Moment) (k : ℕ) (name : BlobName) → log ≡ old → CanBegin s (ticket_of s old k) name → MayBegin s log k name
@@ -70,7 +70,7 @@ begun_ticket s old mid new k name r e can did = begun s old new k name r (out_be
 -- ---- latest
 
 replace_by : (s : Start) (log : List Moment) (k n : ℕ) → CanPut s (ticket_of s log k) n → MayReplace s log k (latest_text n)
-replace_by s log k n can = record { out = can.out; puts = λ named image put. Replacing k image (putting s log k n can) named put; fails = λ named image put. ReplaceFails k image (putting s log k n can) named put }
+replace_by s log k n can = record { out = can.out; puts = λ named image tells put. Replacing k image (putting s log k n can) named put; fails = λ named image tells put. ReplaceFails k image (putting s log k n can) named put }
 
 -- what a ticket may put, and how the stage holds it
 abbrev PutsSo : Start → List Moment → ℕ → Option Bytes → Type 0
@@ -103,12 +103,12 @@ fetched_so s log k name can named =
         differ : ShardIndex can.index can.number can.base ≡ Latest → ⊥
         differ q = cc
 
-fetch_by : (s : Start) (log : List Moment) (k : ℕ) (name : BlobName) → CanFetch (ticket_of s log k) name → MayFetch s log k name
+fetch_by : (s : Start) (log : List Moment) (k : ℕ) (name : BlobName) → CanFetch (ticket_of s log k) name → MayFetch s log k (FetchStep name) name
 fetch_by s log k name can = record {
-  out = can.out;
-  fetches = λ named image found. Fetching k name image (fetched_so s log k name can named) (told_found image found);
-  misses = λ named image found. Missing k name image (fetched_so s log k name can named) (told_missing image found);
-  fails = λ named image same. FetchFails k name image (fetched_so s log k name can named) same;
+  is = refl;
+  fetches = λ named image tells found. Fetching k name image (fetched_so s log k name can named) (told_found image found);
+  misses = λ named image tells found. Missing k name image (fetched_so s log k name can named) (told_missing image found);
+  fails = λ named image tells same. FetchFails k name image (fetched_so s log k name can named) same;
 }
   where
     told_found : (image : Option Image) → Told image (λ blobs. (bytes : Bytes) × ((fin.get (world_of s log).blobs ((formats_of s).names.text name) ≡ Some bytes) × (blobs ≡ (world_of s log).blobs)))
@@ -121,10 +121,10 @@ fetch_by s log k name can = record {
     told_missing None h = tt
     told_missing (Some image) h = h
 
-pub may_fetch : (s : Start) (old log : List Moment) (k : ℕ) (name : BlobName) → log ≡ old → CanFetch (ticket_of s old k) name → MayFetch s log k name
+pub may_fetch : (s : Start) (old log : List Moment) (k : ℕ) (name : BlobName) → log ≡ old → CanFetch (ticket_of s old k) name → MayFetch s log k (FetchStep name) name
 may_fetch s old log k name e can = fetch_by s log k name (subst (λ (l : List Moment). CanFetch (ticket_of s l k) name) (sym e) can)
 
-fetched : {F : Type 0} (left : F → Option Bytes) (s : Start) (old new : List Moment) (k : ℕ) (name : BlobName) (r : Result (Option F) StepRefusal) → (ticket_of s old k).out ≡ true → FetchDid left s old new k name r
+fetched : {F : Type 0} (left : F → Option Bytes) (s : Start) (old new : List Moment) (k : ℕ) (name : BlobName) (r : Result (Option F) StepRefusal) → (ticket_of s old k).out ≡ true → FetchDid left s old new k (FetchStep name) name r
     → IfOk r (λ o. ticket_of s new k ≡ fetched_by left name o (ticket_of s old k))
 fetched left s old new k name (Ok None) out did = added_ticket s old new k (FetchStep name) WasAbsent did k
 fetched left s old new k name (Ok (Some f)) out did =
@@ -133,30 +133,30 @@ fetched left s old new k name (Ok (Some f)) out did =
     ∙ ap (λ (o : Option Bytes). fetching name o (ticket_of s old k)) did.1
 fetched left s old new k name (Err e) out did = tt
 
-fetch_from : {F : Type 0} (left : F → Option Bytes) (s : Start) (old mid new : List Moment) (k : ℕ) (name : BlobName) (r : Result (Option F) StepRefusal) → mid ≡ old → FetchDid left s mid new k name r → FetchDid left s old new k name r
-fetch_from left s old mid new k name r e did = subst (λ (l : List Moment). FetchDid left s l new k name r) e did
+pub fetch_from : {F : Type 0} (left : F → Option Bytes) (s : Start) (old mid new : List Moment) (k : ℕ) (step : Step) (name : BlobName) (r : Result (Option F) StepRefusal) → mid ≡ old → FetchDid left s mid new k step name r → FetchDid left s old new k step name r
+fetch_from left s old mid new k step name r e did = subst (λ (l : List Moment). FetchDid left s l new k step name r) e did
 
-pub fetched_ticket : {F : Type 0} (left : F → Option Bytes) (s : Start) (old mid new : List Moment) (k : ℕ) (name : BlobName) (r : Result (Option F) StepRefusal) → mid ≡ old → CanFetch (ticket_of s old k) name → FetchDid left s mid new k name r
+pub fetched_ticket : {F : Type 0} (left : F → Option Bytes) (s : Start) (old mid new : List Moment) (k : ℕ) (name : BlobName) (r : Result (Option F) StepRefusal) → mid ≡ old → CanFetch (ticket_of s old k) name → FetchDid left s mid new k (FetchStep name) name r
     → IfOk r (λ o. ticket_of s new k ≡ fetched_by left name o (ticket_of s old k))
-fetched_ticket left s old mid new k name r e can did = fetched left s old new k name r can.out (fetch_from left s old mid new k name r e did)
+fetched_ticket left s old mid new k name r e can did = fetched left s old new k name r can.out (fetch_from left s old mid new k (FetchStep name) name r e did)
 
-fetch_step : {F : Type 0} (left : F → Option Bytes) (s : Start) (old new : List Moment) (k : ℕ) (name : BlobName) (r : Result (Option F) StepRefusal) → FetchDid left s old new k name r → Did s old new k (FetchStep name) fetch_reply r
-fetch_step left s old new k name (Ok None) did = did
-fetch_step left s old new k name (Ok (Some f)) did = did.0
-fetch_step left s old new k name (Err e) did = did
+fetch_step : {F : Type 0} (left : F → Option Bytes) (s : Start) (old new : List Moment) (k : ℕ) (step : Step) (name : BlobName) (r : Result (Option F) StepRefusal) → FetchDid left s old new k step name r → Did s old new k step fetch_reply r
+fetch_step left s old new k step name (Ok None) did = did
+fetch_step left s old new k step name (Ok (Some f)) did = did.0
+fetch_step left s old new k step name (Err e) did = did
 
-pub fetch_did : {F : Type 0} (left : F → Option Bytes) (s : Start) (old mid new : List Moment) (k : ℕ) (name : BlobName) (r : Result (Option F) StepRefusal) → mid ≡ old → FetchDid left s mid new k name r → Did s old new k (FetchStep name) fetch_reply r
-fetch_did left s old mid new k name r e did = fetch_step left s old new k name r (fetch_from left s old mid new k name r e did)
+pub fetch_did : {F : Type 0} (left : F → Option Bytes) (s : Start) (old mid new : List Moment) (k : ℕ) (step : Step) (name : BlobName) (r : Result (Option F) StepRefusal) → mid ≡ old → FetchDid left s mid new k step name r → Did s old new k step fetch_reply r
+fetch_did left s old mid new k step name r e did = fetch_step left s old new k step name r (fetch_from left s old mid new k step name r e did)
 
-pub fetch_told : {F : Type 0} (left : F → Option Bytes) (s : Start) (old new : List Moment) (k : ℕ) (name : BlobName) (r : Result (Option F) StepRefusal) → FetchDid left s old new k name r → IfOk r (λ o. IfSome o (λ f. (bytes : Bytes) × Holds s (left f) bytes))
-fetch_told left s old new k name (Ok None) did = tt
-fetch_told left s old new k name (Ok (Some f)) did = did.2
-fetch_told left s old new k name (Err e) did = tt
+pub fetch_told : {F : Type 0} (left : F → Option Bytes) (s : Start) (old new : List Moment) (k : ℕ) (step : Step) (name : BlobName) (r : Result (Option F) StepRefusal) → FetchDid left s old new k step name r → IfOk r (λ o. IfSome o (λ f. (bytes : Bytes) × Holds s (left f) bytes))
+fetch_told left s old new k step name (Ok None) did = tt
+fetch_told left s old new k step name (Ok (Some f)) did = did.2
+fetch_told left s old new k step name (Err e) did = tt
 
-pub fetch_kept : {F : Type 0} (left : F → Option Bytes) (s : Start) (old mid new : List Moment) (k : ℕ) (name : BlobName) (r : Result (Option F) StepRefusal) → mid ≡ old → FetchDid left s mid new k name r → OnErr r (ticket_of s new k ≡ ticket_of s old k)
-fetch_kept {F = F} left s old mid new k name r e did = go r (fetch_from left s old mid new k name r e did)
+pub fetch_kept : {F : Type 0} (left : F → Option Bytes) (s : Start) (old mid new : List Moment) (k : ℕ) (name : BlobName) (r : Result (Option F) StepRefusal) → mid ≡ old → FetchDid left s mid new k (FetchStep name) name r → OnErr r (ticket_of s new k ≡ ticket_of s old k)
+fetch_kept {F = F} left s old mid new k name r e did = go r (fetch_from left s old mid new k (FetchStep name) name r e did)
   where
-    go : (q : Result (Option F) StepRefusal) → FetchDid left s old new k name q → OnErr q (ticket_of s new k ≡ ticket_of s old k)
+    go : (q : Result (Option F) StepRefusal) → FetchDid left s old new k (FetchStep name) name q → OnErr q (ticket_of s new k ≡ ticket_of s old k)
     go (Ok o) d = tt
     go (Err x) d = kept_by s old new k (FetchStep name) x (λ image. refl) d
 
@@ -207,10 +207,10 @@ refinding f w k t name bytes no_deleting out may meta = go may
 commit_by : (s : Start) (log : List Moment) (k : ℕ) (name : BlobName) (bytes : Bytes) → NoDeleting (world_of s log) → CanCommit s (ticket_of s log k) name bytes → StepMayCommit s log k name bytes
 commit_by s log k name bytes no_deleting can = record {
   out = can.out;
-  commits = λ named image adds. Committing k name image (committable s log k name bytes can named) adds;
-  finds = λ named meta image there. Finding k name image (refinding (formats_of s) (world_of s log) k (ticket_of s log k) name bytes no_deleting (out_is s log k can.out) can.may meta) there;
-  taken = λ named no_meta image there. Taken k name image (committable s log k name bytes can named) no_meta there;
-  fails = λ named image left. CommitFails k name image (committable s log k name bytes can named) left;
+  commits = λ named image tells adds. Committing k name image (committable s log k name bytes can named) adds;
+  finds = λ named meta image tells there. Finding k name image (refinding (formats_of s) (world_of s log) k (ticket_of s log k) name bytes no_deleting (out_is s log k can.out) can.may meta) there;
+  taken = λ named no_meta image tells there. Taken k name image (committable s log k name bytes can named) no_meta there;
+  fails = λ named image tells left. CommitFails k name image (committable s log k name bytes can named) left;
 }
 
 pub may_commit : (s : Start) (old log : List Moment) (k : ℕ) (name : BlobName) (contents : Option Bytes) → log ≡ old → NoDeleting (world_of s log) → CommitsSo s old k name contents → (bytes : Bytes) × Holds s contents bytes × StepMayCommit s log k name bytes

@@ -2,7 +2,7 @@
 use Rattle.std.specs.Prelude.{◌≡◌, ℕ, List, Option, Some, None, Result, Ok, Err, if◌then◌else◌}
 use Rattle.esr_model.specs.Names.{BlobName}
 use Rattle.esr_model.specs.Values.{Bytes}
-use Rattle.esr_core.specs.Entry.{CommitStep, FetchStep, WasFetched, WasAbsent, Moment}
+use Rattle.esr_core.specs.Entry.{Step, CommitStep, WasFetched, WasAbsent, Moment}
 use Rattle.esr_core.specs.After.{told_blob}
 use Rattle.esr_core.specs.Allowed.{IsMetadata}
 use Rattle.esr_depot.specs.declared.depot.Commit.{Commit}
@@ -22,7 +22,7 @@ CommitDid s old new who name contents (Ok c) = AddedBlob s old new who name cont
 CommitDid s old new who name contents (Err e) = AddedOr s old new who (CommitStep name) e
 
 -- what can be read of a blob is what is told of it
-abbrev pub FetchDid : {F : Type 0} → (F → Option Bytes) → Start → List Moment → List Moment → ℕ → BlobName → Result (Option F) StepRefusal → Type 0
-FetchDid left s old new who name (Ok None) = Added s old new who (FetchStep name) WasAbsent
-FetchDid left s old new who name (Ok (Some f)) = (a : Added s old new who (FetchStep name) WasFetched) × (told_blob (formats_of s) a.image name ≡ left f) × ((bytes : Bytes) × (left f ≡ (if s.tells then Some bytes else None)))
-FetchDid left s old new who name (Err e) = AddedOr s old new who (FetchStep name) e
+abbrev pub FetchDid : {F : Type 0} → (F → Option Bytes) → Start → List Moment → List Moment → ℕ → Step → BlobName → Result (Option F) StepRefusal → Type 0
+FetchDid left s old new who step name (Ok None) = Added s old new who step WasAbsent
+FetchDid left s old new who step name (Ok (Some f)) = (a : Added s old new who step WasFetched) × (told_blob (formats_of s) a.image name ≡ left f) × ((bytes : Bytes) × (left f ≡ (if s.tells then Some bytes else None)))
+FetchDid left s old new who step name (Err e) = AddedOr s old new who step e

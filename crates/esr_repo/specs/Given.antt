@@ -17,9 +17,7 @@ use Rattle.esr_progress.specs.declared.unit.ReadyUnit.{ReadyUnit}
 -- only the unit of a shard has a base
 abbrev pub base_for : Work → Option Id → Option Id
 base_for (works.Shard uuid shard index place) base = base
-base_for (works.Finalize info shards) base = None
-base_for works.Drop base = None
-base_for (works.RestoreShard uuid shard index place) base = None
+base_for work base = None
 
 abbrev pub based : ReadyUnit → ReadyUnit
 based u = record u { copy = record u.copy { base = base_for u.work u.copy.base } }

@@ -6,13 +6,15 @@ use Rattle.std.specs.Cmp.{nat_cmp_total, eq_by_cmp_equiv}
 use Rattle.std.specs.FinMap.{FinMap}
 use Rattle.std.specs.FinMap as fin
 use Rattle.esr_model.specs.Values.{Formats}
-use Rattle.esr_core.specs.World.{World, Ticket}
+use Rattle.esr_core.specs.World.{World, Ticket, Reader}
+use Rattle.esr_core.specs.Restores.{IsReading}
 use Rattle.esr_core.specs.Steps.{IsOut}
 use Rattle.esr_core.specs.Entry.{Step, Reply, Moment}
 use Rattle.esr_core.specs.After.{with_given, change, answered, after}
 use Rattle.esr_core.specs.Allowed.{Allowed}
 use Rattle.esr_core.specs.History.{world_from, IsLegal}
 use Rattle.esr_desk.specs.Start.{Start, formats_of, world_of, Legal, no_ticket, or_no_ticket, ticket_of}
+use Rattle.esr_desk.specs.Readers.{no_reader, or_no_reader, reader_of}
 use Rattle.esr_repo.specs.Next.{Added}
 
 pub world_from-append : (f : Formats) (w : World) (xs ys : List Moment) → world_from f w (xs ++ ys) ≡ world_from f (world_from f w xs) ys
@@ -62,3 +64,27 @@ pub changed_ticket : (s : Start) (log : List Moment) (k : ℕ) (g : Ticket → T
 changed_ticket s log k g out =
     let there = (out_is s log k out).there in
     ap (λ (o : Option Ticket). or_no_ticket (fin.get (with_given (world_of s log) k g o).tickets k)) there ∙ ap or_no_ticket (put_there (world_of s log).tickets k (g (ticket_of s log k)))
+
+-- ---- the tickets of restores
+
+-- one after an added entry
+pub added_reader : (s : Start) (old new : List Moment) (who : ℕ) (step : Step) (reply : Reply) (a : Added s old new who step reply) (k : ℕ)
+    → reader_of s new k ≡ or_no_reader (fin.get (answered (formats_of s) (world_of s old) who step reply a.image).readers k)
+added_reader s old new who step reply a k = ap (λ (w : World). or_no_reader (fin.get w.readers k)) (added_world s old new who step reply a)
+
+no_reader_out : no_reader.out ≡ true → ⊥
+no_reader_out e = cc
+
+-- one that is out was given
+pub reading_is : (s : Start) (log : List Moment) (k : ℕ) → (reader_of s log k).out ≡ true → IsReading (world_of s log) k (reader_of s log k)
+reading_is s log k out = go (fin.get (world_of s log).readers k) refl out
+  where
+    go : (o : Option Reader) → fin.get (world_of s log).readers k ≡ o → (or_no_reader o).out ≡ true → IsReading (world_of s log) k (reader_of s log k)
+    go None e h = absurd (no_reader_out h)
+    go (Some q) e h =
+        let is : q ≡ reader_of s log k = sym (ap or_no_reader e) in
+        record { there = e ∙ ap Some is; out = ap (λ (x : Reader). x.out) (sym is) ∙ h }
+
+-- what was put is there
+pub reader_there : (readers : FinMap nat_cmp Reader) (k : ℕ) (q : Reader) → fin.get (fin.insert readers k q) k ≡ Some q
+reader_there readers k q = fin.get-insert nat_cmp_total readers k q k ∙ ap (λ (b : Bool). cond b (Some q) (fin.get readers k)) ((eq_by_cmp_equiv nat_cmp_total).refl k)

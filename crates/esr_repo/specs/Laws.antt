@@ -10,10 +10,12 @@ use Rattle.esr_core.specs.History.{world_from}
 use Rattle.esr_core.specs.Left.{Leaves}
 use Rattle.esr_core.specs.Tracked.{Tracked}
 use Rattle.esr_core.specs.Ranked.{Ranked}
+use Rattle.esr_core.specs.ReadTracked.{ReadTracked}
 
 pub record Laws : Type 0 where
   pub tracked : (f : Formats) (part_size : ℕ) (w : World) (m : Moment) → Tracked w → Allowed f part_size w m → Tracked (after f w m)
   pub ranked : (f : Formats) (part_size : ℕ) (w : World) (m : Moment) → Tracked w → Ranked w → Allowed f part_size w m → Ranked (after f w m)
+  pub read_tracked : (f : Formats) (part_size : ℕ) (w : World) (m : Moment) → Tracked w → ReadTracked w → Allowed f part_size w m → ReadTracked (after f w m)
   -- what a crash might leave over a history it might leave over a longer one
   pub longer : (f : Formats) (part_size : ℕ) (w : World) (log rest : List Moment) (i : Image) → Leaves f part_size w log i → Leaves f part_size w (log ++ rest) i
   pub later : (f : Formats) (part_size : ℕ) (w : World) (before rest : List Moment) (i : Image) → Leaves f part_size (world_from f w before) rest i → Leaves f part_size w (before ++ rest) i

@@ -1,26 +1,33 @@
 -- What a step needs so that it may be added to the history. Each answer that may come needs its case of what is allowed, for
 -- every image that the call of the container may leave.
-use Rattle.std.specs.Prelude.{◌≡◌, ◌⊎◌, ℕ, Bool, true, false, List, Option, Some, None}
-use Rattle.std.specs.Option.{unwrap_or}
+use Rattle.std.specs.Prelude.{◌≡◌, ◌⊎◌, ℕ, Bool, true, false, List, ◌++◌, Option, Some, None}
+use Rattle.std.specs.Option.{unwrap_or, option_to_list}
 use Rattle.std.specs.FinMap as fin
 use Rattle.esr_model.specs.Names.{BlobName, Latest}
-use Rattle.esr_model.specs.Values.{Bytes, ReadsBack}
+use Rattle.esr_model.specs.Values.{Bytes, ShardResult, ReadsBack}
 use Rattle.esr_model.specs.Image.{Blobs, Image, Present}
-use Rattle.esr_core.specs.World.{World, record_of}
-use Rattle.esr_core.specs.Entry.{Restore, Step, AskStep, BeginStep, CommitStep, LatestStep, FetchStep, Reply, AcceptedRestore, WasBegun, WasDone, WasThere, WasReplaced, WasFetched, WasAbsent, HasEnded, Refused, DepotFault, NameTaken, Refusal, Moment}
+use Rattle.esr_core.specs.World.{World, Op, AllDone, info_of, record_of}
+use Rattle.esr_core.specs.Entry.{ReadBlob, Step, BeginStep, CommitStep, LatestStep, FetchStep, ReadStep, Reply, WasBegun, WasDone, WasThere, WasReplaced, WasFetched, WasAbsent, HasEnded, Refused, DepotFault, NameTaken, Refusal, Moment}
 use Rattle.esr_core.specs.After.{answered, done_step, swaps_record}
 use Rattle.esr_core.specs.Allowed.{Allows, Told, Adds, IsMetadata}
 use Rattle.esr_root.specs.Root.{Root}
 use Rattle.esr_record.specs.Record.{Record}
+use Rattle.esr_meta.specs.Info.{Info, IsInfo}
 use Rattle.esr_formats.specs.Roots.{root_of}
 use Rattle.esr_formats.specs.Clusters.{cluster_of}
+use Rattle.esr_formats.specs.Infos.{info_of_code, info_kind}
 use Rattle.esr_progress.specs.Plan.{Plan, IsPlanOf}
 use Rattle.esr_desk.specs.Start.{Start, formats_of, world_of, ticket_of}
 use Rattle.esr_repo.specs.Log.{calls}
+use Rattle.esr_repo.specs.Repo.{HasInfos}
+
+-- an image is told only where the container tells
+abbrev pub CanTell : Start → Option Image → Type 0
+CanTell s image = (i : Image) → image ≡ Some i → s.tells ≡ true
 
 -- the ticket may answer a step so, whatever image of which P holds the call leaves
 abbrev pub MayAnswer : Start → List Moment → ℕ → Step → Reply → (Blobs → Type 0) → Type 0
-MayAnswer s log who step reply P = (image : Option Image) → Told image P → Allows (formats_of s) s.part_size (world_of s log) who step reply image
+MayAnswer s log who step reply P = (image : Option Image) → CanTell s image → Told image P → Allows (formats_of s) s.part_size (world_of s log) who step reply image
 
 -- the blobs are those of the world
 abbrev pub Same : Start → List Moment → Blobs → Type 0
@@ -30,16 +37,9 @@ Same s log blobs = blobs ≡ (world_of s log).blobs
 abbrev pub next_world : Start → List Moment → ℕ → Step → Reply → Option Image → World
 next_world s log who step reply image = answered (formats_of s) (world_of s log) who step reply image
 
--- a step with this answer opens a restore
-abbrev pub opens_restore : Step → Reply → Bool
-opens_restore (AskStep (Restore name place)) (AcceptedRestore o uuid indices) = true
-opens_restore step reply = false
-
--- A step without a call of the container, which opens no restore. Where no plan is given, that which is kept serves the new
--- world too.
+-- A step without a call of the container. Where no plan is given, that which is kept serves the new world too.
 pub record MayNote (s : Start) (log : List Moment) (who : ℕ) (step : Step) (reply : Reply) (plan : Option Plan) (next : ℕ) : Type 0 where
   pub plain : calls step reply ≡ false
-  pub closed : opens_restore step reply ≡ false
   pub allows : MayAnswer s log who step reply (Same s log)
   pub plan_is : (image : Option Image) (old : Plan) → IsPlanOf (world_of s log) old → IsPlanOf (next_world s log who step reply image) (unwrap_or plan old)
   pub next_is : (image : Option Image) → next ≡ (next_world s log who step reply image).next_id
@@ -57,14 +57,26 @@ is_refused reply = false
 abbrev pub swapped_world : Start → List Moment → ℕ → Step → World
 swapped_world s log who step = done_step (formats_of s) (world_of s log) who step HasEnded None
 
--- A step that swaps the record. It may fail in the container where it may be answered. Where no root or no plan is given, that
--- which is kept serves the new world too.
-pub record MaySwap (s : Start) (log : List Moment) (who : ℕ) (step : Step) (reply : Reply) (cluster : Record) (root : Option Root) (plan : Option Plan) (next : ℕ) : Type 0 where
+-- the info of the snapshot that a ticket finalizes, which can be written
+pub record IsMadeInfo (s : Start) (log : List Moment) (k : ℕ) (info : Info) : Type 0 where
+  pub op : Op
+  pub there : fin.get (world_of s log).ops (ticket_of s log k).op ≡ Some op
+  pub results : List ShardResult
+  pub done : AllDone op.shards results
+  pub is : info_of_code info ≡ info_of op results
+  pub back : ReadsBack info_kind (info_of_code info)
+  pub valid : IsInfo info
+
+-- A step that swaps the record. It may fail in the container where it may be answered. Where no root, no info or no plan is
+-- given, those that are kept serve the new world too.
+pub record MaySwap (s : Start) (log : List Moment) (who : ℕ) (step : Step) (reply : Reply) (cluster : Record) (root : Option Root) (info : Option Info) (plan : Option Plan) (next : ℕ) : Type 0 where
   pub swaps : swaps_record step ≡ true
   pub answers : is_refused reply ≡ false
   pub allows : MayAnswer s log who step reply (Same s log)
   pub cluster_is : cluster_of cluster ≡ record_of (swapped_world s log who step)
   pub root_is : (old : Root) → root_of old ≡ (world_of s log).root → root_of (unwrap_or root old) ≡ (swapped_world s log who step).root
+  -- with this one more they are those of the snapshots that the new root lists
+  pub infos_are : (old : List Info) → HasInfos s (world_of s log) old → HasInfos s (record (swapped_world s log who step) { blobs = (world_of s log).blobs }) (old ++ option_to_list info)
   pub plan_is : (old : Plan) → IsPlanOf (world_of s log) old → IsPlanOf (swapped_world s log who step) (unwrap_or plan old)
   pub next_is : next ≡ (swapped_world s log who step).next_id
 
@@ -108,9 +120,15 @@ pub record MayReplace (s : Start) (log : List Moment) (who : ℕ) (bytes : Bytes
 abbrev pub IsFound : Start → List Moment → BlobName → Option Bytes → Blobs → Type 0
 IsFound s log name found blobs = (fin.get (world_of s log).blobs ((formats_of s).names.text name) ≡ found) × Same s log blobs
 
+-- the step fetches the blob: of a ticket, or of one that reads
+abbrev pub IsFetch : Step → BlobName → Type 0
+IsFetch (FetchStep it) name = it ≡ name
+IsFetch (ReadStep (ReadBlob it)) name = it ≡ name
+IsFetch step name = ⊥
+
 -- a blob is fetched
-pub record MayFetch (s : Start) (log : List Moment) (who : ℕ) (name : BlobName) : Type 0 where
-  pub out : (ticket_of s log who).out ≡ true
-  pub fetches : IsNamed s name → MayAnswer s log who (FetchStep name) WasFetched (λ blobs. (bytes : Bytes) × IsFound s log name (Some bytes) blobs)
-  pub misses : IsNamed s name → MayAnswer s log who (FetchStep name) WasAbsent (IsFound s log name None)
-  pub fails : IsNamed s name → MayAnswer s log who (FetchStep name) (Refused DepotFault) (Same s log)
+pub record MayFetch (s : Start) (log : List Moment) (who : ℕ) (step : Step) (name : BlobName) : Type 0 where
+  pub is : IsFetch step name
+  pub fetches : IsNamed s name → MayAnswer s log who step WasFetched (λ blobs. (bytes : Bytes) × IsFound s log name (Some bytes) blobs)
+  pub misses : IsNamed s name → MayAnswer s log who step WasAbsent (IsFound s log name None)
+  pub fails : IsNamed s name → MayAnswer s log who step (Refused DepotFault) (Same s log)

@@ -1,15 +1,18 @@
 -- A container beside the history of its steps, and what is kept of the world that they lead to.
 use Rattle.std.specs.Prelude.{◌≡◌, ℕ, ◌+◌, ◌-◌, ◌^◌, ◌≤◌, Bool, true, false, List, length, Option, Some, None}
 use Rattle.std.specs.FinMap as fin
-use Rattle.esr_model.specs.Values.{ReadsBack}
+use Rattle.esr_model.specs.Values.{Has, RootSnap, RootData, ReadsBack}
 use Rattle.esr_core.specs.World.{World, Deleting, Swap, Ticket, record_of}
 use Rattle.esr_core.specs.World as core
 use Rattle.esr_core.specs.Entry.{Entry, Moment}
 use Rattle.esr_core.specs.Tracked.{Tracked}
 use Rattle.esr_core.specs.Ranked.{Ranked}
+use Rattle.esr_core.specs.ReadTracked.{ReadTracked}
 use Rattle.esr_depot.specs.Image.{Image as Held}
 use Rattle.esr_depot.specs.Look.{Look, now}
+use Rattle.esr_meta.specs.Info.{Info}
 use Rattle.esr_formats.specs.Clusters.{cluster_kind}
+use Rattle.esr_progress.specs.Infos.{AreInfosOf}
 use Rattle.esr_desk.specs.Start.{Start, formats_of, world_of, Legal}
 pub use Rattle.esr_opening.specs.Opening.{Kept, IsKeptOf}
 use Rattle.esr_repo.specs.Log.{image_of, ticks, log_of}
@@ -23,9 +26,14 @@ pub record TellsSo (l : Look) (tells : Bool) : Type 0 where
 abbrev pub NoDeleting : World → Type 0
 NoDeleting w = (k : ℕ) (t : Ticket) (uuids : List ℕ) (plan : Option Swap) → fin.get w.tickets k ≡ Some t → t.work ≡ Deleting uuids plan → ⊥
 
--- no restore is open, and no ticket is of one
-abbrev pub NoRestore : World → Type 0
-NoRestore w = (w.restores ≡ fin.empty) × (w.readers ≡ fin.empty)
+-- each info is of a snapshot that is listed
+abbrev pub AreListed : RootData → List Info → Type 0
+AreListed root infos = (info : Info) → Has infos info → (snap : RootSnap) × Has root.snapshots snap × (info.uuid.number ≡ snap.uuid)
+
+-- the infos are those of the listed snapshots, and of no others
+pub record HasInfos (s : Start) (w : World) (infos : List Info) : Type 0 where
+  pub are : AreInfosOf (formats_of s) w s.tells infos
+  pub listed : AreListed w.root infos
 
 -- what holds of the world, whatever is kept
 pub record IsSteady (s : Start) (log : List Moment) (l : Look) : Type 0 where
@@ -36,7 +44,7 @@ pub record IsSteady (s : Start) (log : List Moment) (l : Look) : Type 0 where
   pub ranked : Ranked (world_of s log)
   pub no_deletes : (world_of s log).deletes ≡ fin.empty
   pub no_deleting : NoDeleting (world_of s log)
-  pub no_restore : NoRestore (world_of s log)
+  pub read_tracked : ReadTracked (world_of s log)
   pub few_ops : (world_of s log).next_op ≤ s.world.next_op + length log
   pub few_tickets : (world_of s log).next_ticket ≤ s.world.next_ticket + length log
 
@@ -53,5 +61,5 @@ pub record IsRepo (l : Look) (s : Start) (clock : ℕ) (es : List Entry) (k : Ke
   pub clock_is : l.clock ≡ ticks clock es
   pub tells : TellsSo l s.tells
   pub steady : IsSteady s (log_of l clock es) l
-  pub live : deposed ≡ None → ((world_of s (log_of l clock es)).deposed ≡ false) × IsKeptOf (world_of s (log_of l clock es)) k
+  pub live : deposed ≡ None → ((world_of s (log_of l clock es)).deposed ≡ false) × IsKeptOf (world_of s (log_of l clock es)) k × HasInfos s (world_of s (log_of l clock es)) k.infos
   pub fallen : (place : ℕ) → deposed ≡ Some place → (world_of s (log_of l clock es)).deposed ≡ true

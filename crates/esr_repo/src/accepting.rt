@@ -1,6 +1,6 @@
 //! What a repository keeps after a command was accepted, or why it is not.
-ghost use Rattle.std.specs.Prelude.{◌≡◌, ◌<◌, ◌^◌, List, length, true, IfOk, IfErr, IfSome};
-ghost use Rattle.esr_core.specs.Entry.{Asked, is_recorded, AskStep, Accepted, Moment};
+ghost use Rattle.std.specs.Prelude.{◌≡◌, ◌<◌, ◌^◌, List, length, IfOk, IfErr, IfSome};
+ghost use Rattle.esr_core.specs.Entry.{Asked, AskStep, Accepted, Moment};
 ghost use Rattle.esr_progress.specs.Asked.{asked_of, IsAskable};
 ghost use Rattle.esr_progress.specs.Accepting.{IsRefused, name_asked};
 ghost use Rattle.esr_desk.specs.Entries.{step_of};
@@ -13,7 +13,7 @@ use crate::swap::Renewed;
 use crate::{Repo, Told};
 use esr_depot::Depot;
 use esr_desk::{EntryRefusal, Step, StepRefusal};
-use esr_names::Id;
+use esr_names::{Id, IndexNames, SnapNames};
 use esr_progress::{AskedIndex, AskedIndices, Command, Refusal};
 use std::alloc::{AllocError, Global};
 
@@ -32,6 +32,28 @@ fn indices_copy(alloc: Global, indices: &AskedIndices) -> Result<AskedIndices, A
     Ok(copy)
 }
 
+/// A copy of the names of indices.
+fn index_names_copy(alloc: Global, names: &IndexNames) -> Result<IndexNames, AllocError>
+    ensures { IfOk result (λ copy. copy ≡ names.now) }
+{
+    let mut copy = IndexNames::with_capacity(alloc, names.len())?;
+    for name in names.as_slice() {
+        copy.push(name.try_clone(alloc)?)?;
+    }
+    Ok(copy)
+}
+
+/// A copy of the names of snapshots.
+fn snap_names_copy(alloc: Global, names: &SnapNames) -> Result<SnapNames, AllocError>
+    ensures { IfOk result (λ copy. copy ≡ names.now) }
+{
+    let mut copy = SnapNames::with_capacity(alloc, names.len())?;
+    for name in names.as_slice() {
+        copy.push(name.try_clone(alloc)?)?;
+    }
+    Ok(copy)
+}
+
 /// A copy of a command.
 pub(crate) fn command_copy(alloc: Global, command: &Command) -> Result<Command, AllocError>
     ensures { IfOk result (λ copy. copy ≡ command.now) }
@@ -46,13 +68,33 @@ pub(crate) fn command_copy(alloc: Global, command: &Command) -> Result<Command, 
             indices: indices_copy(alloc, indices)?,
             moment: *moment,
         }),
+        Command::Clone {
+            source,
+            name,
+            indices,
+            moment,
+        } => Ok(Command::Clone {
+            source: source.try_clone(alloc)?,
+            name: name.try_clone(alloc)?,
+            indices: index_names_copy(alloc, indices)?,
+            moment: *moment,
+        }),
+        Command::Delete { names } => {
+            let names = snap_names_copy(alloc, names)?;
+            Ok(Command::Delete { names })
+        }
+        Command::Restore { name, place } => Ok(Command::Restore {
+            name: name.try_clone(alloc)?,
+            place: place.try_clone(alloc)?,
+        }),
+        Command::Cleanup => Ok(Command::Cleanup),
     }
 }
 
 /// Why a command is not accepted, as an entry tells it; of want of memory none does.
 fn command_refusal(refusal: Refusal) -> Option<EntryRefusal>
     requires { (s : Start) × (log : List Moment) × (command : Asked) × IsRefused (world_of s log) (name_asked command) command refusal }
-    ensures { (s : Start) (log : List Moment) (command : Asked) → is_recorded command ≡ true → IsRefused (world_of s log) (name_asked command) command refusal
+    ensures { (s : Start) (log : List Moment) (command : Asked) → IsAskable command → IsRefused (world_of s log) (name_asked command) command refusal
         → IfSome result (λ e. MayRefuse s log 0 (AskStep command) (refusal_of e)) }
 {
     match refusal {
@@ -70,7 +112,7 @@ impl<D: Depot, K: Told> Repo<D, K> {
     /// A command is not accepted, which changes nothing.
     pub(crate) fn refuse_command(&mut self, step: Step, refusal: Refusal) -> StepRefusal
         requires live { IsLive K.start self.old }
-        requires why { (command : Asked) × (is_recorded command ≡ true) × (step_of step ≡ AskStep command) × IsRefused (world_of K.start self.old) (name_asked command) command refusal }
+        requires why { (command : Asked) × IsAskable command × (step_of step ≡ AskStep command) × IsRefused (world_of K.start self.old) (name_asked command) command refusal }
         ensures { AddedOr K.start self.old self.new 0 (step_of step) result }
     {
         match command_refusal(refusal) {
@@ -88,7 +130,7 @@ impl<D: Depot, K: Told> Repo<D, K> {
         requires live { IsLive K.start self.now }
         requires askable { IsAskable (asked_of command.now) }
         requires room { length self.now < 2 ^ 41 }
-        ensures ok { IfOk result (λ r. MaySwap K.start self.now 0 (AskStep (asked_of command.now)) (Accepted r.0) r.1.cluster r.1.root r.1.progress r.1.next.number) }
+        ensures ok { IfOk result (λ r. MaySwap K.start self.now 0 (AskStep (asked_of command.now)) (Accepted r.0) r.1.cluster r.1.root r.1.info r.1.progress r.1.next.number) }
         ensures err { IfErr result (λ e. IsRefused (world_of K.start self.now) (name_asked (asked_of command.now)) (asked_of command.now) e) }
     {
         self.rules();
@@ -104,6 +146,7 @@ impl<D: Depot, K: Told> Repo<D, K> {
         let renewed = Renewed {
             cluster,
             root: None,
+            info: None,
             progress: Some(progress),
             next,
         };

@@ -15,7 +15,7 @@ ghost use Rattle.esr_desk.specs.Entries.{why_of};
 ghost use Rattle.esr_desk.specs.Start.{Start, ticket_of, told_bytes};
 ghost use Rattle.esr_desk.specs.Outcome.{commit_reply, fetch_reply, take_reply};
 ghost use Rattle.esr_desk.specs.Conditions.{CanDraw, CanCommit, CanPut, CanBegin, Holds, CanFetch, CanRaise, CanSettle, CanEnd, CanFail, CanFinish, CanDrop};
-ghost use Rattle.esr_desk.specs.Taken.{Took, committed_by, begun_by, tried_by, fetched_by, LeftBy, HasRaised, IsSettled, HasEndedAs};
+ghost use Rattle.esr_desk.specs.Readers.{TookUnit};
 ghost use Rattle.esr_desk.specs.declared.refusal.StepRefusal.{StepRefusal};
 ghost use Rattle.esr_repo.specs.Next.{Did};
 
@@ -53,7 +53,7 @@ impl<D: Depot, K: Told> Repo<D, K> {
     pub fn take(&mut self, alloc: Global) -> Result<Option<Unit>, StepRefusal>
         requires room { length self.old < 2 ^ 41 }
         ensures step { Did K.start self.old self.new 0 TakeStep take_reply result }
-        ensures took { IfOk result (λ o. IfSome o (λ u. Took K.start self.new u)) }
+        ensures took { IfOk result (λ o. IfSome o (λ u. TookUnit K.start self.new u)) }
     {
         self.check(0, Step::Take)?;
         if let Some((progress, ready)) = self.ready(alloc)? {

@@ -11,7 +11,7 @@ impl<D: Depot, K: Told> Repo<D, K> {
     /// The repository of a container that was opened.
     pub fn from_opening(alloc: Global, opening: Opening<D>) -> Repo<D, K>
         requires begun { IsBegun K.start K.clock K.past (D.look opening.depot)
-            (record { cluster = opening.cluster; root = opening.root; plan = opening.progress; next = opening.next.number }) }
+            (record { cluster = opening.cluster; root = opening.root; infos = opening.infos; plan = opening.progress; next = opening.next.number }) }
         requires counted { K.faults ≤ D.faults opening.depot }
         requires calm { K.start.quiet ≡ true → 2 ^ 41 ≤ (D.look opening.depot).sure }
         ensures { result ≡ [] }
@@ -21,6 +21,7 @@ impl<D: Depot, K: Told> Repo<D, K> {
             opening.depot,
             opening.cluster,
             opening.root,
+            opening.infos.into_vec(),
             opening.next,
             opening.progress,
         )

@@ -1,7 +1,7 @@
 //! The steps that call the container for a blob.
 ghost use Rattle.std.specs.Prelude.{◌≡◌, true, false, ◌⊎◌, ◌<◌, ◌^◌, [], length, IsTrue, Option, Some, None, IfOk, IfErr, IfSome};
 ghost use Rattle.esr_model.specs.Names.{Latest};
-ghost use Rattle.esr_core.specs.Entry.{BeginStep, CommitStep, LatestStep, FetchStep, WasBegun, WasReplaced};
+ghost use Rattle.esr_core.specs.Entry.{BeginStep, LatestStep, WasBegun, WasReplaced};
 ghost use Rattle.esr_core.specs.Entry.{Refused as RefusedAs, DepotFault as FaultOf};
 ghost use Rattle.esr_desk.specs.Entries.{step_of};
 ghost use Rattle.esr_core.specs.Allowed.{IsMetadata};
@@ -9,7 +9,6 @@ ghost use Rattle.esr_names.specs.Layout.{IsName};
 ghost use Rattle.esr_model.specs.Values.{ReadsBack};
 ghost use Rattle.esr_formats.specs.Names.{name_of, name_kind};
 ghost use Rattle.esr_desk.specs.Conditions.{Holds};
-ghost use Rattle.esr_desk.specs.Outcome.{commit_reply, fetch_reply};
 ghost use Rattle.esr_desk.specs.declared.refusal.StepRefusal.TheVariants.{Memory, Refused};
 ghost use Rattle.esr_desk.specs.declared.refusal.EntryRefusal.TheVariants.{DepotFault, NameTaken};
 ghost use Rattle.esr_depot.specs.declared.depot.Commit.TheVariants.{Exists};
@@ -174,17 +173,18 @@ impl<D: Depot, K: Told> Repo<D, K> {
         }
     }
 
-    /// A blob is fetched.
+    /// A blob is fetched by this step.
     pub(crate) fn call_fetch(
         &mut self,
         alloc: Global,
         who: u64,
+        step: Step,
         name: BlobName,
     ) -> Result<Option<D::Fetch>, StepRefusal>
         requires live { IsLive K.start self.old }
         requires layout { IsName name }
-        requires may { MayFetch K.start self.old who (name_of name) }
-        ensures step { FetchDid D.Fetch.left K.start self.old self.new who (name_of name) result }
+        requires may { MayFetch K.start self.old who (step_of step) (name_of name) }
+        ensures step { FetchDid D.Fetch.left K.start self.old self.new who (step_of step) (name_of name) result }
         ensures count { IfOk result (λ o. IfSome o (λ f. D.Fetch.faults f ≡ 0)) }
         ensures sure { IfOk result (λ o. IfSome o (λ f. K.start.quiet ≡ true → length self.old < 2 ^ 41 → IsTrue (D.Fetch.is_sure f))) }
         ensures why { IfErr result (λ e. (e ≡ Memory) ⊎ (e ≡ Refused DepotFault)) }
@@ -196,21 +196,18 @@ impl<D: Depot, K: Told> Repo<D, K> {
         }
         match self.depot.fetch(alloc, text.as_str()) {
             Ok(Some(fetch)) => {
-                let step = Step::Fetch { name };
                 let answer = Answer::Fetched;
                 self.history.push_reserved(Entry { who, step, answer });
                 Ok(Some(fetch))
             }
             Ok(None) => {
-                let step = Step::Fetch { name };
                 let answer = Answer::Absent;
                 self.history.push_reserved(Entry { who, step, answer });
                 Ok(None)
             }
             Err(CallError::Memory) => Err(StepRefusal::Memory),
             Err(CallError::Failed) => {
-                self.history
-                    .push_reserved(faulted(who, Step::Fetch { name }));
+                self.history.push_reserved(faulted(who, step));
                 Err(StepRefusal::Refused(EntryRefusal::DepotFault))
             }
         }

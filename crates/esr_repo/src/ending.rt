@@ -1,5 +1,5 @@
 //! The steps by which a unit swaps the record, and ends.
-ghost use Rattle.std.specs.Prelude.{◌≡◌, ◌+◌, ◌<◌, ◌^◌, ℕ, List, [], map, Option, Some, None, true, false, IfOk, IfErr, IfSome, OnOk, OnErr};
+ghost use Rattle.std.specs.Prelude.{◌≡◌, ◌+◌, ◌<◌, ◌^◌, ℕ, List, [], map, Option, Some, None, true, false, IfOk, IfSome, OnOk, OnErr};
 ghost use Rattle.esr_model.specs.Names.{Latest};
 ghost use Rattle.esr_model.specs.Values.{Bytes};
 ghost use Rattle.esr_core.specs.Entry.{Moment, AskStep, TakeStep, DrawStep, BeginStep, CommitStep, LatestStep, FetchStep, RaiseStep, SettleStep, DoneStep, FailedStep, FinishStep, DroppedStep, LookStep, Accepted, DrawnFrom, WasBegun, WasReplaced, RaisedTo, WasSettled, HasEnded, Looked};
@@ -12,22 +12,17 @@ ghost use Rattle.esr_formats.specs.Clusters.{count_of};
 ghost use Rattle.esr_results.specs.Results.{result_of};
 ghost use Rattle.esr_progress.specs.Asked.{asked_of, IsAskable};
 ghost use Rattle.esr_desk.specs.Entries.{why_of};
-ghost use Rattle.esr_desk.specs.Start.{Start, world_of, ticket_of, told_bytes};
+ghost use Rattle.esr_desk.specs.Start.{Start, ticket_of, told_bytes};
 ghost use Rattle.esr_desk.specs.Outcome.{commit_reply, fetch_reply, take_reply};
 ghost use Rattle.esr_desk.specs.Conditions.{CanDraw, CanCommit, CanPut, CanBegin, Holds, CanFetch, CanRaise, CanSettle, CanEnd, CanFail, CanFinish, CanDrop};
 ghost use Rattle.esr_desk.specs.Taken.{Took, committed_by, begun_by, tried_by, fetched_by, LeftBy, HasRaised, IsSettled, HasEndedAs};
 ghost use Rattle.esr_desk.specs.declared.refusal.StepRefusal.{StepRefusal};
-ghost use Rattle.esr_repo.specs.Next.{IsLive, Did};
-ghost use Rattle.std.specs.FinMap as fin;
-ghost use Rattle.esr_core.specs.After.{done_of};
-ghost use Rattle.esr_progress.specs.Plan.{IsPlanOf};
-ghost use Rattle.esr_desk.specs.declared.refusal.StepRefusal.TheVariants.{Memory};
+ghost use Rattle.esr_repo.specs.Next.{Did};
 
 use crate::renewing::{count, entry_refusal};
 use crate::{Repo, Told};
 use esr_depot::Depot;
-use esr_desk::{Answer, Entry, EntryRefusal, Step, StepRefusal, Why};
-use esr_progress::Progress;
+use esr_desk::{Answer, EntryRefusal, Step, StepRefusal, Why};
 use esr_results::ShardResult;
 use esr_root::RootData;
 use std::alloc::Global;
@@ -95,35 +90,9 @@ impl<D: Depot, K: Told> Repo<D, K> {
         self.check(ticket, Step::Done { result: *outcome })?;
         self.rules();
         let progress = self.plan().shard_done(alloc, ticket, outcome)?;
-        self.note_done(ticket, *outcome, progress)
-    }
-
-    /// The entry of a shard that is done. What its ticket wrote is known where the container tells its image.
-    fn note_done(
-        &mut self,
-        ticket: u64,
-        outcome: ShardResult,
-        progress: Progress,
-    ) -> Result<(), StepRefusal>
-        requires live { IsLive K.start self.old }
-        requires may { CanEnd K.start (ticket_of K.start self.old ticket) (result_of outcome) }
-        requires plan { IsPlanOf (done_of (world_of K.start self.old) ticket (result_of outcome) (fin.get (world_of K.start self.old).tickets ticket)) progress }
-        ensures step { Did K.start self.old self.new ticket (DoneStep (result_of outcome)) (λ _. HasEnded) result }
-        ensures why { IfErr result (λ e. e ≡ Memory) }
-    {
-        Self::laws();
-        if self.history.reserve(1).is_err() {
-            return Err(StepRefusal::Memory);
-        }
-        let step = Step::Done { result: outcome };
-        let answer = Answer::Ended;
-        self.history.push_reserved(Entry {
-            who: ticket,
-            step,
-            answer,
-        });
-        self.progress = progress;
-        Ok(())
+        let next = self.next_id();
+        let step = Step::Done { result: *outcome };
+        self.note(ticket, step, Answer::Ended, Some(progress), next)
     }
 
     /// A unit failed; its ticket ends.

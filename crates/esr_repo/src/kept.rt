@@ -6,16 +6,19 @@ ghost use Rattle.esr_model.specs.Values.{ReadsBack};
 ghost use Rattle.esr_core.specs.World.{record_of};
 ghost use Rattle.esr_core.specs.Tracked.{Tracked};
 ghost use Rattle.esr_core.specs.Ranked.{Ranked};
+ghost use Rattle.esr_core.specs.ReadTracked.{ReadTracked};
 ghost use Rattle.esr_formats.specs.Roots.{root_of};
 ghost use Rattle.esr_formats.specs.Clusters.{count_of, cluster_of, cluster_kind};
 ghost use Rattle.esr_record.specs.Record.{AreNumbers};
 ghost use Rattle.esr_progress.specs.Plan.{IsPlanOf, seat_of, seat_of_code};
+ghost use Rattle.esr_desk.specs.Numbered.{Numbered};
 ghost use Rattle.esr_desk.specs.Start.{world_of, ticket_of};
-ghost use Rattle.esr_repo.specs.Repo.{NoDeleting, NoRestore};
+ghost use Rattle.esr_repo.specs.Repo.{NoDeleting, HasInfos};
 ghost use Rattle.esr_repo.specs.Next.{IsLive};
 
 use crate::{Repo, Told};
 use esr_depot::Depot;
+use esr_meta::SnapInfo;
 use esr_names::Id;
 use esr_progress::{Progress, Seat};
 use esr_record::ClusterRecord;
@@ -28,11 +31,18 @@ impl<D: Depot, K: Told> Repo<D, K> {
         ensures ranked { Ranked (world_of K.start self.now) }
         ensures no_deletes { (world_of K.start self.now).deletes ≡ fin.empty }
         ensures no_deleting { NoDeleting (world_of K.start self.now) }
-        ensures no_restore { NoRestore (world_of K.start self.now) }
+        ensures read_tracked { ReadTracked (world_of K.start self.now) }
         ensures few_ops { length self.now < 2 ^ 41 → (world_of K.start self.now).next_op < 2 ^ 62 }
         ensures few_tickets { length self.now < 2 ^ 41 → (world_of K.start self.now).next_ticket < 2 ^ 62 }
     {
         let _next = self.next;
+    }
+
+    /// Each ticket's number is below the next one.
+    pub fn numbers(&self)
+        ensures { Numbered 1 (world_of K.start self.now) }
+    {
+        self.rules();
     }
 
     /// The list of ops.
@@ -49,6 +59,14 @@ impl<D: Depot, K: Told> Repo<D, K> {
         ensures { root_of result.now ≡ (world_of K.start self.now).root }
     {
         &self.root
+    }
+
+    /// The infos of the listed snapshots.
+    pub(crate) fn infos(&self) -> &[SnapInfo]
+        requires live { IsLive K.start self.now }
+        ensures { HasInfos K.start (world_of K.start self.now) result.now }
+    {
+        &self.infos
     }
 
     /// The cluster record.
@@ -97,6 +115,14 @@ impl<D: Depot, K: Told> Repo<D, K> {
         ensures below { result.number < first_id (suc (world_of K.start self.now).term) }
     {
         self.next
+    }
+
+    /// The number of the next op.
+    pub(crate) fn next_op(&self) -> u64
+        requires live { IsLive K.start self.now }
+        ensures { result ≡ (world_of K.start self.now).next_op }
+    {
+        self.plan().next_op()
     }
 
     /// The next id after so many are drawn, or `None` where the term has too few.

@@ -9,6 +9,7 @@ mod ending;
 mod kept;
 mod renewing;
 mod repo;
+mod restoring;
 mod steps;
 mod swap;
 mod taking;

@@ -11,12 +11,14 @@ ghost use Rattle.esr_desk.specs.Refusals.{refusal_of};
 ghost use Rattle.esr_desk.specs.Start.{world_of, ticket_of};
 ghost use Rattle.esr_desk.specs.Conditions.{CanRaise, CanSettle, CanDrop};
 ghost use Rattle.esr_repo.specs.Next.{IsLive};
-ghost use Rattle.esr_repo.specs.May.{MaySwap};
+ghost use Rattle.esr_repo.specs.May.{MaySwap, IsMadeInfo};
 
 use crate::swap::Renewed;
 use crate::{Repo, Told};
 use esr_depot::Depot;
 use esr_desk::EntryRefusal;
+use esr_formats::write_info;
+use esr_meta::SnapInfo;
 use esr_record::{ClusterRecord, RecordRefusal};
 use esr_root::RootData;
 use std::alloc::{AllocError, Global};
@@ -59,12 +61,14 @@ impl<D: Depot, K: Told> Repo<D, K> {
         requires pending { generation ≡ (world_of K.start self.now).pending }
         requires room { generation < 2 ^ 63 }
         requires record { cluster_of cluster ≡ record_of (raised (world_of K.start self.now) ticket) }
-        ensures { IfOk result (λ r. MaySwap K.start self.now ticket RaiseStep (RaisedTo generation) r.cluster r.root r.progress r.next.number) }
+        ensures { IfOk result (λ r. MaySwap K.start self.now ticket RaiseStep (RaisedTo generation) r.cluster r.root r.info r.progress r.next.number) }
     {
+        self.rules();
         let progress = self.plan().raised(alloc, ticket, generation)?;
         Ok(Renewed {
             cluster,
             root: None,
+            info: None,
             progress: Some(progress),
             next: self.next_id(),
         })
@@ -90,6 +94,23 @@ impl<D: Depot, K: Told> Repo<D, K> {
         Ok(cluster)
     }
 
+    /// The info of the snapshot that a ticket finalizes. It can be written.
+    fn made_info(&self, alloc: Global, ticket: u64) -> Result<SnapInfo, AllocError>
+        requires live { IsLive K.start self.now }
+        requires may { (root : _) × CanSettle K.start (ticket_of K.start self.now ticket) root }
+        requires present { (ticket_of K.start self.now ticket).term ≡ (world_of K.start self.now).term }
+        ensures { IfOk result (λ info. IsMadeInfo K.start self.now ticket info) }
+    {
+        self.rules();
+        let seat = self.seat(ticket);
+        let Some(info) = self.plan().finalized_info(alloc, seat.op)? else {
+            unreachable!();
+        };
+        let _ = &info.name;
+        write_info(alloc, &info)?;
+        Ok(info)
+    }
+
     /// What is kept after a ticket settled on its root.
     pub(crate) fn settled(
         &self,
@@ -100,16 +121,18 @@ impl<D: Depot, K: Told> Repo<D, K> {
         requires live { IsLive K.start self.now }
         requires may { CanSettle K.start (ticket_of K.start self.now ticket) (root_of root.now) }
         requires present { (ticket_of K.start self.now ticket).term ≡ (world_of K.start self.now).term }
-        ensures { IfOk result (λ r. MaySwap K.start self.now ticket SettleStep WasSettled r.cluster r.root r.progress r.next.number) }
+        ensures { IfOk result (λ r. MaySwap K.start self.now ticket SettleStep WasSettled r.cluster r.root r.info r.progress r.next.number) }
     {
         self.rules();
         let mut cluster = self.settled_record(alloc, ticket)?;
         let root = root.try_clone(alloc)?;
+        let info = self.made_info(alloc, ticket)?;
         let progress = self.plan().finalized(alloc, ticket)?;
         cluster.ops = progress.record_ops(alloc)?;
         Ok(Renewed {
             cluster,
             root: Some(root),
+            info: Some(info),
             progress: Some(progress),
             next: self.next_id(),
         })
@@ -120,7 +143,7 @@ impl<D: Depot, K: Told> Repo<D, K> {
         requires live { IsLive K.start self.now }
         requires may { CanDrop (ticket_of K.start self.now ticket) }
         requires present { (ticket_of K.start self.now ticket).term ≡ (world_of K.start self.now).term }
-        ensures { IfOk result (λ r. MaySwap K.start self.now ticket DroppedStep HasEnded r.cluster r.root r.progress r.next.number) }
+        ensures { IfOk result (λ r. MaySwap K.start self.now ticket DroppedStep HasEnded r.cluster r.root r.info r.progress r.next.number) }
     {
         self.rules();
         let mut cluster = self.record().try_clone(alloc)?;
@@ -129,6 +152,7 @@ impl<D: Depot, K: Told> Repo<D, K> {
         Ok(Renewed {
             cluster,
             root: None,
+            info: None,
             progress: Some(progress),
             next: self.next_id(),
         })

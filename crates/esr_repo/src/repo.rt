@@ -14,6 +14,7 @@ ghost use Rattle.esr_repo.specs.Whole.{IsWhole};
 use crate::Told;
 use esr_depot::Depot;
 use esr_desk::{Entry, History};
+use esr_meta::SnapInfo;
 use esr_names::Id;
 use esr_progress::Progress;
 use esr_record::ClusterRecord;
@@ -25,9 +26,10 @@ use std::marker::{Model, PhantomData};
 pub struct Repo<D: Depot, K: Told> {
     pub(crate) depot: D,
     pub(crate) history: Vec<Entry>,
-    /// The cluster record, the safe root and the list of ops, and the next id.
+    /// The cluster record, the safe root with the infos of its snapshots, the list of ops, and the next id.
     pub(crate) cluster: ClusterRecord,
     pub(crate) root: RootData,
+    pub(crate) infos: Vec<SnapInfo>,
     pub(crate) progress: Progress,
     pub(crate) next: Id,
     /// The place in the history of the record swap that failed.
@@ -53,7 +55,7 @@ impl<D: Depot, K: Told> Model for Repo<D, K> {
     ghost view = { λ r. log_of (D.look r.depot) K.clock r.history.items };
 
     ghost invariant = { λ r. IsWhole (D.look r.depot) K.start K.clock K.past r.history.items
-        (record { cluster = r.cluster; root = r.root; plan = r.progress; next = r.next.number }) r.deposed
+        (record { cluster = r.cluster; root = r.root; infos = r.infos.items; plan = r.progress; next = r.next.number }) r.deposed
         × IsKeptOfFaults K.faults (D.faults r.depot) r.history.items r.deposed
         × IsCalm K.start.quiet (D.look r.depot).sure r.history.items };
 }
@@ -65,11 +67,12 @@ impl<D: Depot, K: Told> Repo<D, K> {
         depot: D,
         cluster: ClusterRecord,
         root: RootData,
+        infos: Vec<SnapInfo>,
         next: Id,
         progress: Progress,
     ) -> Repo<D, K>
         requires whole { IsWhole (D.look depot) K.start K.clock K.past []
-            (record { cluster = cluster; root = root; plan = progress; next = next.number }) None }
+            (record { cluster = cluster; root = root; infos = infos.items; plan = progress; next = next.number }) None }
         requires faults { IsKeptOfFaults K.faults (D.faults depot) [] None }
         requires calm { IsCalm K.start.quiet (D.look depot).sure [] }
         ensures { result ≡ [] }
@@ -79,6 +82,7 @@ impl<D: Depot, K: Told> Repo<D, K> {
             history: Vec::new(alloc),
             cluster,
             root,
+            infos,
             progress,
             next,
             deposed: None,
@@ -105,6 +109,7 @@ impl<D: Depot, K: Told> Repo<D, K> {
             history,
             cluster: _,
             root: _,
+            infos: _,
             progress: _,
             next: _,
             deposed: _,
@@ -126,6 +131,7 @@ impl<D: Depot, K: Told> Repo<D, K> {
     {
         esr_core::each_step_is_tracked();
         esr_core::each_step_is_ranked();
+        esr_core::each_step_tracks_restores();
         esr_core::the_record_stays();
         esr_core::leaves_go_on();
     }

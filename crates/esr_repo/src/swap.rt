@@ -1,6 +1,6 @@
 //! The steps that swap the cluster record.
-ghost use Rattle.std.specs.Prelude.{◌≡◌, ◌⊎◌, ◌<◌, false, IfErr, vec_len, vec_capacity};
-ghost use Rattle.std.specs.Option.{unwrap_or};
+ghost use Rattle.std.specs.Prelude.{◌≡◌, ◌⊎◌, ◌<◌, ◌++◌, false, IfErr, vec_len, vec_capacity};
+ghost use Rattle.std.specs.Option.{unwrap_or, option_to_list};
 ghost use Rattle.esr_model.specs.Values.{ReadsBack};
 ghost use Rattle.esr_depot.specs.Calls.{HasCause, Serves, Called, is_wanting, has_failed};
 ghost use Rattle.esr_depot.specs.Changes.{Swapped, SwapMay};
@@ -16,17 +16,20 @@ use crate::{Repo, Told};
 use esr_depot::{CallError, Depot};
 use esr_desk::{Answer, Entry, EntryRefusal, Step, StepRefusal};
 use esr_formats::write_cluster;
+use esr_meta::SnapInfo;
 use esr_names::Id;
 use esr_progress::Progress;
 use esr_record::ClusterRecord;
 use esr_root::RootData;
 use std::alloc::Global;
 
-/// What a repository keeps after a record swap: the new record, and the safe root and the list of ops where they are new.
+/// What a repository keeps after a record swap: the new record, the safe root and the list of ops where they are new, and the
+/// info of the snapshot that the new root lists besides, where there is one.
 #[derive(Drop)]
 pub(crate) struct Renewed {
     pub cluster: ClusterRecord,
     pub root: Option<RootData>,
+    pub info: Option<SnapInfo>,
     pub progress: Option<Progress>,
     pub next: Id,
 }
@@ -37,25 +40,40 @@ impl Renewed {
         self,
         cluster: &mut ClusterRecord,
         root: &mut RootData,
+        infos: &mut Vec<SnapInfo>,
         progress: &mut Progress,
         next: &mut Id,
     )
+        requires room { vec_len infos.old < vec_capacity infos.old }
         ensures cluster { cluster.new ≡ self.cluster }
         ensures root { root.new ≡ unwrap_or self.root root.old }
+        ensures infos { infos.new.items ≡ infos.old.items ++ option_to_list self.info }
         ensures progress { progress.new ≡ unwrap_or self.progress progress.old }
         ensures next { next.new ≡ self.next }
     {
         *cluster = self.cluster;
         renew(root, self.root);
+        push_info(infos, self.info);
         renew(progress, self.progress);
         *next = self.next;
     }
 }
 
-/// Makes room for one more entry, and puts the text of the record in place of the container's.
+/// Appends an info where one is given.
+fn push_info(infos: &mut Vec<SnapInfo>, info: Option<SnapInfo>)
+    requires { vec_len infos.old < vec_capacity infos.old }
+    ensures { infos.new.items ≡ infos.old.items ++ option_to_list info }
+{
+    if let Some(new) = info {
+        infos.push_reserved(new);
+    }
+}
+
+/// Makes room for one more entry and one more info, and puts the text of the record in place of the container's.
 fn put_record<D: Depot>(
     depot: &mut D,
     history: &mut Vec<Entry>,
+    infos: &mut Vec<SnapInfo>,
     alloc: Global,
     cluster: &ClusterRecord,
 ) -> Result<(), CallError>
@@ -66,9 +84,11 @@ fn put_record<D: Depot>(
     ensures reads { ReadsBack cluster_kind (cluster_of cluster.now) }
     ensures entries { history.new.items ≡ history.old.items }
     ensures room { is_wanting result ≡ false → vec_len history.new < vec_capacity history.new }
+    ensures infos { infos.new.items ≡ infos.old.items }
+    ensures info_room { is_wanting result ≡ false → vec_len infos.new < vec_capacity infos.new }
 {
     let text = write_cluster(alloc, cluster)?;
-    if history.reserve(1).is_err() {
+    if history.reserve(1).is_err() || infos.reserve(1).is_err() {
         return Err(CallError::Memory);
     }
     depot.swap_record(alloc, text.as_slice())
@@ -86,17 +106,24 @@ impl<D: Depot, K: Told> Repo<D, K> {
         renewed: Renewed,
     ) -> Result<(), StepRefusal>
         requires live { IsLive K.start self.old }
-        requires may { MaySwap K.start self.old who (step_of step) (answer_of answer) renewed.cluster renewed.root renewed.progress renewed.next.number }
+        requires may { MaySwap K.start self.old who (step_of step) (answer_of answer) renewed.cluster renewed.root renewed.info renewed.progress renewed.next.number }
         ensures step { Did K.start self.old self.new who (step_of step) (λ _. answer_of answer) result }
         ensures why { IfErr result (λ e. (e ≡ Memory) ⊎ (e ≡ Refused DepotFault)) }
     {
         Self::laws();
-        match put_record(&mut self.depot, &mut self.history, alloc, &renewed.cluster) {
+        match put_record(
+            &mut self.depot,
+            &mut self.history,
+            &mut self.infos,
+            alloc,
+            &renewed.cluster,
+        ) {
             Ok(()) => {
                 self.history.push_reserved(Entry { who, step, answer });
                 renewed.keep(
                     &mut self.cluster,
                     &mut self.root,
+                    &mut self.infos,
                     &mut self.progress,
                     &mut self.next,
                 );

@@ -9,7 +9,7 @@ ghost use Rattle.esr_progress.specs.Units.{NextUnit, GivesUnit, given_of};
 ghost use Rattle.esr_desk.specs.Entries.{unit_of};
 ghost use Rattle.esr_desk.specs.Outcome.{take_reply};
 ghost use Rattle.esr_desk.specs.Start.{world_of};
-ghost use Rattle.esr_desk.specs.Taken.{Took};
+ghost use Rattle.esr_desk.specs.Readers.{TookUnit};
 ghost use Rattle.esr_repo.specs.Given.{based, IsBased, IsRootable, HasRoot};
 ghost use Rattle.esr_repo.specs.Next.{IsLive, Did};
 
@@ -18,6 +18,7 @@ use esr_depot::Depot;
 use esr_desk::{Answer, Given, Step, StepRefusal, Unit};
 use esr_formats::write_root;
 use esr_meta::{SnapInfo, indices_copy};
+use esr_names::Ids;
 use esr_progress::{Progress, ReadyUnit, Work};
 use esr_results::{ShardResults, finalized};
 use esr_root::RootData;
@@ -66,6 +67,15 @@ fn given(alloc: Global, unit: &ReadyUnit) -> Result<Given, AllocError>
             shard: *shard,
             uuid: *uuid,
         }),
+        Work::CloneShard { source, shard, .. } => Ok(Given::CloneShard {
+            shard: *shard,
+            source: *source,
+            base: unit.copy.base,
+        }),
+        Work::Delete { uuids } => Ok(Given::Delete {
+            uuids: Ids::from_slice(alloc, uuids.as_slice())?,
+        }),
+        Work::Cleanup => Ok(Given::Cleanup),
     }
 }
 
@@ -113,7 +123,7 @@ impl<D: Depot, K: Told> Repo<D, K> {
         requires base { IsBased ready }
         requires plan { (f : Formats) → IsPlanOf (taken_by f (world_of K.start self.old) ready.op (given_of ready) (fin.get (world_of K.start self.old).ops ready.op)) progress }
         ensures step { Did K.start self.old self.new 0 TakeStep (λ unit. take_reply (Some unit)) result }
-        ensures took { IfOk result (λ unit. Took K.start self.new unit) }
+        ensures took { IfOk result (λ unit. TookUnit K.start self.new unit) }
     {
         self.rules();
         let given = given(alloc, &ready)?;

@@ -132,6 +132,6 @@ impl<D: Depot, K: Told> Repo<D, K> {
         ensures kept { OnErr result (ticket_of K.start self.new ticket ≡ ticket_of K.start self.old ticket) }
     {
         self.check(ticket, Step::Fetch { name })?;
-        self.call_fetch(alloc, ticket, name)
+        self.call_fetch(alloc, ticket, Step::Fetch { name }, name)
     }
 }

@@ -1,5 +1,5 @@
 -- The text of a report.
-use Rattle.std.specs.Prelude.{ℕ, ◌==◌, if◌then◌else◌, Bool, true, List, [], ◌∷◌, ◌++◌, length, codes, decimal}
+use Rattle.std.specs.Prelude.{ℕ, ◌==◌, if◌then◌else◌, Bool, true, List, [], ◌∷◌, ◌++◌, length, get_or, Option, Some, None, codes, decimal}
 use Rattle.std.specs.Ordering.{nat_cmp}
 use Rattle.std.specs.Cmp.Lexicographic.{slice_cmp}
 use Rattle.esr_names.specs.IdText.{id_text}
@@ -11,7 +11,7 @@ use Rattle.esr_formats.specs.Names.{name_kind}
 use Rattle.esr_script.specs.declared.item.Item.{Item}
 use Rattle.esr_script.specs.declared.item.Item.TheVariants as items
 use Rattle.esr_script.specs.declared.item.ScriptLine.{ScriptLine}
-use Rattle.esr_report.specs.Replies.{Reply, Made, Waited, Listed, Refused, Failed, Deposed}
+use Rattle.esr_report.specs.Replies.{Reply, Made, Deleted, Restored, Cleaned, Term, Waited, Listed, Checked, Verified, Refused, Failed, Aborted, Deposed}
 
 abbrev pub Text : Type 0
 Text = List ℕ
@@ -29,21 +29,28 @@ why_text OfTarget = codes "target"
 why_text (OfPrint name stated_len stated_digest found_len found_digest) = codes "damaged " ++ name_kind.text name
 why_text (OfDisagreement name other) = codes "damaged " ++ name_kind.text name
 
+-- the snapshot's name that stands at a place of a command, from 0 on
+abbrev pub name_at : Item → ℕ → Text
+name_at (items.Restore name target) place = name
+name_at (items.Clone source name indices) place = source
+name_at (items.Delete names) place = get_or names place []
+name_at item place = []
+
 -- a rule that refused a command, or a number that is spent
-abbrev pub refusal_text : Refusal → Text
-refusal_text (NameInUse uuid) = codes " refused name-in-use " ++ id_text uuid
-refusal_text (TooMany limit) = codes " refused too-many " ++ decimal limit
-refusal_text (CleanupRunning op) = codes " refused cleanup-running " ++ decimal op
-refusal_text (AbortedBy op) = codes " aborted " ++ decimal op
-refusal_text (DeposedAt place) = codes " deposed"
-refusal_text (StaleTerm own now) = codes " deposed"
-refusal_text (GenerationsSpent pending) = codes " failed spent"
-refusal_text (TermsSpent term) = codes " failed spent"
-refusal_text (IdsSpent next) = codes " failed spent"
-refusal_text (NameTaken name) = codes " failed name-taken " ++ name_kind.text name
-refusal_text DepotFault = codes " failed depot"
-refusal_text (NoSnapshot name) = codes " refused no-snapshot " ++ name
-refusal_text (BeingDeleted op) = codes " refused being-deleted " ++ decimal op
+abbrev pub refusal_text : Item → Refusal → Text
+refusal_text item (NameInUse uuid) = codes " refused name-in-use " ++ id_text uuid
+refusal_text item (TooMany limit) = codes " refused too-many " ++ decimal limit
+refusal_text item (CleanupRunning op) = codes " refused cleanup-running " ++ decimal op
+refusal_text item (AbortedBy op) = codes " aborted " ++ decimal op
+refusal_text item (DeposedAt place) = codes " deposed"
+refusal_text item (StaleTerm own now) = codes " deposed"
+refusal_text item (GenerationsSpent pending) = codes " failed spent"
+refusal_text item (TermsSpent term) = codes " failed spent"
+refusal_text item (IdsSpent next) = codes " failed spent"
+refusal_text item (NameTaken name) = codes " failed name-taken " ++ name_kind.text name
+refusal_text item DepotFault = codes " failed depot"
+refusal_text item (NoSnapshot place) = codes " refused no-snapshot " ++ name_at item place
+refusal_text item (BeingDeleted op) = codes " refused being-deleted " ++ decimal op
 
 -- 1 is success and 3 partial
 abbrev pub state_text : ℕ → Text
@@ -60,14 +67,26 @@ snap_texts (s ∷ ss) = snap_text s ++ snap_texts ss
 abbrev pub name_first : RootSnap → RootSnap → Bool
 name_first a b = by_order (slice_cmp nat_cmp a.name b.name) true
 
+-- the op of a failed delete
+abbrev pub op_text : Option ℕ → Text
+op_text None = []
+op_text (Some op) = codes " op " ++ decimal op
+
 -- what follows a command's beginning, with the newline and the lines of a listing
-abbrev pub reply_text : Reply → Text
-reply_text (Made uuid) = codes " ok " ++ id_text uuid ++ codes "\n"
-reply_text Waited = codes "\n"
-reply_text (Listed snapshots) = codes " " ++ decimal (length snapshots) ++ codes "\n" ++ snap_texts (sorted_by name_first snapshots)
-reply_text (Refused refusal) = refusal_text refusal ++ codes "\n"
-reply_text (Failed why) = codes " failed " ++ why_text why ++ codes "\n"
-reply_text Deposed = codes " deposed\n"
+abbrev pub reply_text : Item → Reply → Text
+reply_text item (Made uuid) = codes " ok " ++ id_text uuid ++ codes "\n"
+reply_text item (Deleted op) = codes " ok op " ++ decimal op ++ codes "\n"
+reply_text item (Restored files bytes) = codes " ok files " ++ decimal files ++ codes " bytes " ++ decimal bytes ++ codes "\n"
+reply_text item (Cleaned blobs bytes) = codes " ok blobs " ++ decimal blobs ++ codes " bytes " ++ decimal bytes ++ codes "\n"
+reply_text item (Term term) = codes " term " ++ decimal term ++ codes "\n"
+reply_text item Waited = codes "\n"
+reply_text item (Listed snapshots) = codes " " ++ decimal (length snapshots) ++ codes "\n" ++ snap_texts (sorted_by name_first snapshots)
+reply_text item (Checked snapshots blobs) = codes " ok snapshots " ++ decimal snapshots ++ codes " blobs " ++ decimal blobs ++ codes "\n"
+reply_text item Verified = codes " ok\n"
+reply_text item (Refused refusal) = refusal_text item refusal ++ codes "\n"
+reply_text item (Failed why op) = codes " failed " ++ why_text why ++ op_text op ++ codes "\n"
+reply_text item (Aborted by) = codes " aborted " ++ decimal by ++ codes "\n"
+reply_text item Deposed = codes " deposed\n"
 
 -- a command's beginning, its number aside
 abbrev pub item_text : Item → Text
@@ -83,7 +102,7 @@ item_text items.Check = codes " check"
 item_text items.Verify = codes " verify"
 
 unfoldable pub line_text : ScriptLine → Reply → Text
-line_text line reply = decimal line.number ++ item_text line.item ++ reply_text reply
+line_text line reply = decimal line.number ++ item_text line.item ++ reply_text line.item reply
 
 -- the lines of the commands that were answered
 abbrev pub lines_text : List ScriptLine → List Reply → Text

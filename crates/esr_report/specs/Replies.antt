@@ -1,9 +1,10 @@
 -- What each line of a script was answered, by the history alone.
-use Rattle.std.specs.Prelude.{ℕ, Bool, true, false, ◌==◌, ◌&&◌, ◌||◌, if◌then◌else◌, List, [], ◌∷◌, Option, Some, None, option_map}
-use Rattle.esr_model.specs.Values.{RootSnap}
+use Rattle.std.specs.Prelude.{ℕ, ◌-◌, ◌^◌, min, Bool, true, false, ◌==◌, ◌&&◌, ◌||◌, if◌then◌else◌, List, [], ◌∷◌, map, sum_by, Option, Some, None, option_map, option_and_then}
+use Rattle.esr_model.specs.Values.{IndexRef, RootSnap}
+use Rattle.esr_model.specs.Places.{places}
 use Rattle.esr_core.specs.After.{or_else, swaps_record}
 use Rattle.esr_core.specs.Entry as entry
-use Rattle.esr_core.specs.Entry.{Given, GivenShard, GivenFinalize, GivenDrop, GivenRestore, Why, OfDepot, Step, AskStep, SettleStep, FailedStep, LookStep, Refusal, DeposedAt, DepotFault, Accepted, Gave, WasSettled, HasEnded, Looked, Entry}
+use Rattle.esr_core.specs.Entry.{Given, GivenShard, GivenFinalize, GivenDrop, GivenRestore, GivenClone, GivenDelete, GivenCleanup, Why, OfDepot, RestoredShard, ReadFails, Step, AskStep, SettleStep, FailedStep, LookStep, ReadStep, Refusal, DeposedAt, DepotFault, Accepted, AcceptedRestore, Gave, WasSettled, HasEnded, Looked, Entry}
 use Rattle.esr_script.specs.declared.item.Item.{Item}
 use Rattle.esr_script.specs.declared.item.Item.TheVariants as items
 use Rattle.esr_script.specs.declared.item.ScriptLine.{ScriptLine}
@@ -11,11 +12,25 @@ use Rattle.esr_script.specs.declared.item.ScriptLine.{ScriptLine}
 pub data Reply : Type 0 where
   -- the snapshot of this uuid is in the root
   Made : (uuid : ℕ) → Reply
+  -- this op took snapshots out of the root
+  Deleted : (op : ℕ) → Reply
+  -- so many files are restored, of so many bytes
+  Restored : (files bytes : ℕ) → Reply
+  -- so many blobs are removed, of so many bytes
+  Cleaned : (blobs bytes : ℕ) → Reply
+  -- a failover began this term
+  Term : (term : ℕ) → Reply
   Waited : Reply
   Listed : (snapshots : List RootSnap) → Reply
+  -- a check has read all: so many snapshots and blobs
+  Checked : (snapshots blobs : ℕ) → Reply
+  Verified : Reply
   -- a rule refused the command
   Refused : (refusal : Refusal) → Reply
-  Failed : (why : Why) → Reply
+  -- with the op of an accepted delete, of no other command
+  Failed : (why : Why) (op : Option ℕ) → Reply
+  -- this delete aborted the command
+  Aborted : (by : ℕ) → Reply
   -- a record swap had failed
   Deposed : Reply
 
@@ -37,6 +52,9 @@ uuid_of_unit (GivenFinalize info results) = Some info.uuid
 uuid_of_unit (GivenShard index number base) = None
 uuid_of_unit GivenDrop = None
 uuid_of_unit (GivenRestore index number uuid) = None
+uuid_of_unit (GivenClone index number source base) = None
+uuid_of_unit (GivenDelete uuids) = None
+uuid_of_unit GivenCleanup = None
 
 abbrev pub uuid_by : entry.Reply → ℕ → Option ℕ
 uuid_by (Gave ticket op unit) k = if ticket == k then uuid_of_unit unit else None
@@ -55,7 +73,7 @@ is_op op (Some o) = o == op
 -- what a step of a ticket answers the command of its op: the root is settled, or the unit failed
 abbrev pub ends_by : List Entry → ℕ → Step → entry.Reply → Option Reply
 ends_by all who SettleStep WasSettled = option_map Made (uuid_of_ticket all who)
-ends_by all who (FailedStep why) HasEnded = Some (Failed why)
+ends_by all who (FailedStep why) HasEnded = Some (Failed why None)
 ends_by all who step reply = None
 
 abbrev pub ends_at : List Entry → ℕ → Entry → Option Reply
@@ -65,6 +83,98 @@ ends_at all op e = if is_op op (op_of_ticket all e.who) then ends_by all e.who e
 abbrev pub end_of_op : List Entry → ℕ → List Entry → Option Reply
 end_of_op all op [] = None
 end_of_op all op (e ∷ es) = or_else (ends_at all op e) (end_of_op all op es)
+
+-- ---- the end of a restore
+
+-- a shard that a restore reads: of this op, index and number, for the snapshot of this uuid
+pub record ReadShard : Type 0 where
+  pub op : ℕ
+  pub index : ℕ
+  pub number : ℕ
+  pub uuid : ℕ
+
+-- how it ended: so many files were restored, of so many bytes, or it failed
+pub data ShardEnd : Type 0 where
+  ShardRestored : (files bytes : ℕ) → ShardEnd
+  ShardFailed : (why : Why) → ShardEnd
+
+-- the first that is found in the list
+abbrev pub first_by : {A B : Type 0} → (A → Option B) → List A → Option B
+first_by f [] = None
+first_by f (x ∷ xs) = or_else (f x) (first_by f xs)
+
+abbrev pub same_shard : ReadShard → ReadShard → Bool
+same_shard a b = (a.op == b.op) && (a.index == b.index) && (a.number == b.number) && (a.uuid == b.uuid)
+
+-- a unit of this op is this shard
+abbrev pub is_shard : ℕ → Given → ReadShard → Bool
+is_shard op (GivenRestore index number uuid) s = same_shard (record { op = op; index = index; number = number; uuid = uuid }) s
+is_shard op unit s = false
+
+-- the ticket to which a take gave the shard
+abbrev pub shard_ticket_by : entry.Reply → ReadShard → Option ℕ
+shard_ticket_by (Gave ticket op unit) s = if is_shard op unit s then Some ticket else None
+shard_ticket_by reply s = None
+
+abbrev pub shard_ticket : List Entry → ReadShard → Option ℕ
+shard_ticket all s = first_by (λ (e : Entry). shard_ticket_by e.reply s) all
+
+-- how a step ends the shard of its ticket
+abbrev pub shard_end_by : Step → entry.Reply → Option ShardEnd
+shard_end_by (ReadStep (RestoredShard files bytes)) HasEnded = Some (ShardRestored files bytes)
+shard_end_by (ReadStep (ReadFails why)) HasEnded = Some (ShardFailed why)
+shard_end_by step reply = None
+
+abbrev pub shard_end_at : ℕ → Entry → Option ShardEnd
+shard_end_at k e = if e.who == k then shard_end_by e.step e.reply else None
+
+-- how the shard of a ticket ended
+abbrev pub ticket_end : List Entry → ℕ → Option ShardEnd
+ticket_end all k = first_by (shard_end_at k) all
+
+-- how a shard ended, if it has
+abbrev pub shard_end : List Entry → ReadShard → Option ShardEnd
+shard_end all s = option_and_then (ticket_end all) (shard_ticket all s)
+
+abbrev pub and_ends : Option ShardEnd → Option (List ShardEnd) → Option (List ShardEnd)
+and_ends (Some end) (Some ends) = Some (end ∷ ends)
+and_ends end ends = None
+
+-- how these shards ended, where each has
+abbrev pub ends_of : List Entry → List ReadShard → Option (List ShardEnd)
+ends_of all [] = Some []
+ends_of all (s ∷ shards) = and_ends (shard_end all s) (ends_of all shards)
+
+abbrev pub failure_of : ShardEnd → Option Why
+failure_of (ShardRestored files bytes) = None
+failure_of (ShardFailed why) = Some why
+
+abbrev pub files_of : ShardEnd → ℕ
+files_of (ShardRestored files bytes) = files
+files_of (ShardFailed why) = 0
+
+abbrev pub bytes_of : ShardEnd → ℕ
+bytes_of (ShardRestored files bytes) = bytes
+bytes_of (ShardFailed why) = 0
+
+abbrev pub reply_by : Option Why → List ShardEnd → Reply
+reply_by (Some why) ends = Failed why None
+reply_by None ends = Restored (min (sum_by files_of ends) (2 ^ 64 - 1)) (min (sum_by bytes_of ends) (2 ^ 64 - 1))
+
+-- what the ends of all its shards answer a restore: the first failure, else the sums, which stop at 2^64 - 1
+abbrev pub reply_of_ends : List ShardEnd → Reply
+reply_of_ends ends = reply_by (first_by failure_of ends) ends
+
+abbrev pub read_shard : ℕ → ℕ → IndexRef × ℕ → ReadShard
+read_shard op uuid place = record { op = op; index = place.0.id; number = place.1; uuid = uuid }
+
+-- the shards of a restore, in the order of the work
+abbrev pub restore_shards : ℕ → ℕ → List IndexRef → List ReadShard
+restore_shards op uuid indices = map (read_shard op uuid) (places indices)
+
+-- what an accepted restore is answered where each of its shards has ended
+abbrev pub restore_reply : List Entry → ℕ → ℕ → List IndexRef → Option Reply
+restore_reply all op uuid indices = option_map reply_of_ends (ends_of all (restore_shards op uuid indices))
 
 -- ---- a record swap that failed
 
@@ -83,10 +193,11 @@ deposed_by false = None
 
 -- ---- lines
 
--- an accepted command is answered by the end of its op, else by a record swap that failed; an accepted restore has no answer yet
+-- an accepted command is answered by the end of its op, a restore by the ends of its shards; else by a record swap that failed
 abbrev pub ask_reply : List Entry → entry.Reply → Option Reply
 ask_reply all (Accepted op) = or_else (end_of_op all op all) (deposed_by (has_fallen all))
-ask_reply all (entry.Refused DepotFault) = Some (Failed OfDepot)
+ask_reply all (AcceptedRestore op uuid indices) = or_else (restore_reply all op uuid indices) (deposed_by (has_fallen all))
+ask_reply all (entry.Refused DepotFault) = Some (Failed OfDepot None)
 ask_reply all (entry.Refused (DeposedAt place)) = Some Deposed
 ask_reply all (entry.Refused refusal) = Some (Refused refusal)
 ask_reply all reply = None

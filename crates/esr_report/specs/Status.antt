@@ -6,7 +6,7 @@ use Rattle.esr_core.specs.After.{or_else}
 use Rattle.esr_core.specs.Entry.{OfDamage, OfIdsSpent, OfGenerationsSpent, OfPrint, OfDisagreement, GenerationsSpent, TermsSpent, IdsSpent, Entry}
 use Rattle.esr_formats.specs.Names.{name_kind}
 use Rattle.esr_script.specs.declared.item.ScriptLine.{ScriptLine}
-use Rattle.esr_report.specs.Replies.{Reply, Made, Waited, Listed, Refused, Failed, Deposed, replies, end_reply}
+use Rattle.esr_report.specs.Replies.{Reply, Made, Deleted, Restored, Cleaned, Term, Waited, Listed, Checked, Verified, Refused, Failed, Aborted, Deposed, replies, end_reply}
 use Rattle.esr_report.specs.Lines.{Text, lines_text}
 
 abbrev pub is_deposed : Reply → Bool
@@ -14,9 +14,9 @@ is_deposed Deposed = true
 is_deposed reply = false
 
 abbrev pub damaged_name : Reply → Option BlobName
-damaged_name (Failed (OfDamage name)) = Some name
-damaged_name (Failed (OfPrint name stated_len stated_digest found_len found_digest)) = Some name
-damaged_name (Failed (OfDisagreement name other)) = Some name
+damaged_name (Failed (OfDamage name) op) = Some name
+damaged_name (Failed (OfPrint name stated_len stated_digest found_len found_digest) op) = Some name
+damaged_name (Failed (OfDisagreement name other) op) = Some name
 damaged_name reply = None
 
 -- the first blob that was damaged, in the order of lines
@@ -28,16 +28,23 @@ abbrev pub is_spent : Reply → Bool
 is_spent (Refused (GenerationsSpent pending)) = true
 is_spent (Refused (TermsSpent term)) = true
 is_spent (Refused (IdsSpent next)) = true
-is_spent (Failed (OfIdsSpent next)) = true
-is_spent (Failed (OfGenerationsSpent pending)) = true
+is_spent (Failed (OfIdsSpent next) op) = true
+is_spent (Failed (OfGenerationsSpent pending) op) = true
 is_spent reply = false
 
 abbrev pub is_ok : Reply → Bool
 is_ok (Made uuid) = true
+is_ok (Deleted op) = true
+is_ok (Restored files bytes) = true
+is_ok (Cleaned blobs bytes) = true
+is_ok (Term term) = true
 is_ok Waited = true
 is_ok (Listed snapshots) = true
+is_ok (Checked snapshots blobs) = true
+is_ok Verified = true
 is_ok (Refused refusal) = false
-is_ok (Failed why) = false
+is_ok (Failed why op) = false
+is_ok (Aborted by) = false
 is_ok Deposed = false
 
 abbrev pub are_ok : List Reply → Bool
@@ -45,7 +52,7 @@ are_ok [] = true
 are_ok (r ∷ rs) = if is_ok r then are_ok rs else false
 
 -- Why a run doesn't end with 0. A record swap failed; a blob is damaged; numbers are spent, or a desk's turns are, so that
--- not all lines were answered; a command was refused or failed.
+-- not all lines were answered; a command was refused or aborted, or it failed.
 pub data Ending : Type 0 where
   AllOk : Ending
   SomeRefused : Ending

@@ -21,7 +21,7 @@ pub enum Ending {
     BlobDamaged { name: BlobName },
     /// Numbers are spent, or a line has no answer.
     NumbersSpent,
-    /// A command was refused or failed.
+    /// A command was refused or aborted, or it failed.
     SomeRefused,
     /// Every line was answered as it asked.
     AllOk,
@@ -63,7 +63,7 @@ fn damaged_name(reply: &Reply) -> Option<BlobName>
     ensures { option_map name_of result ≡ damaged_name (reply_of reply.now) }
 {
     match reply {
-        Reply::Failed { why } => match why {
+        Reply::Failed { why, op: _ } => match why {
             Why::Damaged { name } => Some(*name),
             Why::Misprinted {
                 name,
@@ -99,7 +99,7 @@ fn is_spent(reply: &Reply) -> bool
             EntryRefusal::IdsSpent { next: _ } => true,
             _ => false,
         },
-        Reply::Failed { why } => match why {
+        Reply::Failed { why, op: _ } => match why {
             Why::IdsSpent { next: _ } => true,
             Why::GenerationsSpent { number: _ } => true,
             _ => false,
@@ -123,10 +123,11 @@ fn is_ok(reply: &Reply) -> bool
     ensures { result ≡ is_ok (reply_of reply.now) }
 {
     match reply {
-        Reply::Made { uuid: _ } => true,
-        Reply::Waited => true,
-        Reply::Listed { snapshots: _ } => true,
-        _ => false,
+        Reply::Refused { refusal: _ } => false,
+        Reply::Failed { why: _, op: _ } => false,
+        Reply::Aborted { by: _ } => false,
+        Reply::Deposed => false,
+        _ => true,
     }
 }
 

@@ -1,25 +1,39 @@
 //! The replies of a script's lines.
-ghost use Rattle.std.specs.Prelude.{◌≡◌, map, IfOk, option_map};
-ghost use Rattle.esr_report.specs.Replies.{fails_swap, has_fallen, is_of_line, from_line, falls_before, deposed_by, end_of_op, ask_reply, look_reply, answer_at, is_wait, wait_reply, replies};
+ghost use Rattle.std.specs.Prelude.{◌≡◌, [], Some, map, IfOk, option_map};
+ghost use Rattle.esr_report.specs.Replies.{fails_swap, has_fallen, is_of_line, from_line, falls_before, deposed_by, ask_reply, look_reply, answer_at, is_wait, wait_reply, replies};
 ghost use Rattle.esr_core.specs.After.{or_else, swaps_record};
+ghost use Rattle.esr_core.specs.Entry.{is_recorded, Refused};
+ghost use Rattle.esr_progress.specs.Asked.{asked_of};
+ghost use Rattle.esr_desk.specs.Refusals.{refusal_of};
 ghost use Rattle.esr_desk.specs.Entries.{step_of, answer_of};
-ghost use Rattle.esr_report.specs.Ends.{AreEnds};
+ghost use Rattle.esr_report.specs.Ends.{AreAllEnds};
 ghost use Rattle.esr_report.specs.Code.{reply_of};
 
-use crate::tickets::{OpEnd, end_of_op, ends_of};
+use crate::told::{ToldEnds, op_reply, restore_reply, told_ends};
 use crate::{Replies, Reply};
 use esr_desk::{Answer, Entry, EntryRefusal, History, Step, Why};
 use esr_progress::Command;
 use esr_script::{Item, Script};
 use std::alloc::{AllocError, Global};
 
+/// The cluster record has the op of the command.
+fn is_recorded(command: &Command) -> bool
+    ensures { result ≡ is_recorded (asked_of command.now) }
+{
+    match command {
+        Command::Create { .. } => true,
+        Command::Clone { .. } => true,
+        Command::Delete { .. } => true,
+        Command::Restore { .. } => false,
+        Command::Cleanup => true,
+    }
+}
+
 fn swaps_record(step: &Step) -> bool
     ensures { result ≡ swaps_record (step_of step.now) }
 {
     match step {
-        Step::Ask {
-            command: Command::Create { .. },
-        } => true,
+        Step::Ask { command } => is_recorded(command),
         Step::Raise => true,
         Step::Settle => true,
         Step::Dropped => true,
@@ -93,32 +107,48 @@ fn falls_before(entries: &[Entry]) -> bool
     false
 }
 
-/// What an accepted command is answered: by the end of its op, else by a record swap that failed.
-fn op_reply(entries: &[Entry], ends: &[OpEnd], op: u64) -> Option<Reply>
-    requires { AreEnds entries.now ends.now }
-    ensures { option_map reply_of result ≡ or_else (end_of_op entries.now op entries.now) (deposed_by (has_fallen entries.now)) }
+/// What the refusal of an ask answers.
+fn refused(refusal: EntryRefusal) -> Reply
+    ensures { Some (reply_of result) ≡ ask_reply [] (Refused (refusal_of refusal)) }
 {
-    match end_of_op(ends, op) {
+    match refusal {
+        EntryRefusal::DepotFault => Reply::Failed {
+            why: Why::Depot,
+            op: None,
+        },
+        EntryRefusal::Deposed { entry: _ } => Reply::Deposed,
+        _ => Reply::Refused { refusal },
+    }
+}
+
+/// What is answered where nothing else is: that a record swap failed.
+fn if_fallen(entries: &[Entry], reply: Option<Reply>) -> Option<Reply>
+    ensures { option_map reply_of result ≡ or_else (option_map reply_of reply) (deposed_by (has_fallen entries.now)) }
+{
+    match reply {
         Some(reply) => Some(reply),
         None => has_fallen(entries).then_some(Reply::Deposed),
     }
 }
 
 /// What the ask of a command is answered.
-fn ask_reply(entries: &[Entry], ends: &[OpEnd], answer: &Answer) -> Option<Reply>
-    requires { AreEnds entries.now ends.now }
-    ensures { option_map reply_of result ≡ ask_reply entries.now (answer_of answer.now) }
+fn ask_reply(
+    alloc: Global,
+    entries: &[Entry],
+    told: &ToldEnds,
+    answer: &Answer,
+) -> Result<Option<Reply>, AllocError>
+    requires { AreAllEnds entries.now told.now }
+    ensures { IfOk result (λ r. option_map reply_of r ≡ ask_reply entries.now (answer_of answer.now)) }
 {
     match answer {
-        Answer::Accepted { op } => op_reply(entries, ends, *op),
-        Answer::Refused {
-            refusal: EntryRefusal::DepotFault,
-        } => Some(Reply::Failed { why: Why::Depot }),
-        Answer::Refused {
-            refusal: EntryRefusal::Deposed { entry: _ },
-        } => Some(Reply::Deposed),
-        Answer::Refused { refusal } => Some(Reply::Refused { refusal: *refusal }),
-        _ => None,
+        Answer::Accepted { op } => Ok(if_fallen(entries, op_reply(told, *op))),
+        Answer::AcceptedRestore { op, uuid, indices } => {
+            let reply = restore_reply(alloc, told, *op, *uuid, indices.as_slice())?;
+            Ok(if_fallen(entries, reply))
+        }
+        Answer::Refused { refusal } => Ok(Some(refused(*refusal))),
+        _ => Ok(None),
     }
 }
 
@@ -141,14 +171,14 @@ fn look_reply(alloc: Global, answer: &Answer) -> Result<Option<Reply>, AllocErro
 fn answer_at(
     alloc: Global,
     entries: &[Entry],
-    ends: &[OpEnd],
+    told: &ToldEnds,
     entry: &Entry,
 ) -> Result<Option<Reply>, AllocError>
-    requires { AreEnds entries.now ends.now }
+    requires { AreAllEnds entries.now told.now }
     ensures { IfOk result (λ r. option_map reply_of r ≡ answer_at entries.now entry.now.step entry.now.reply) }
 {
     match &entry.step {
-        Step::Ask { command: _ } => Ok(ask_reply(entries, ends, &entry.answer)),
+        Step::Ask { command: _ } => ask_reply(alloc, entries, told, &entry.answer),
         Step::Look => look_reply(alloc, &entry.answer),
         _ => Ok(None),
     }
@@ -173,7 +203,7 @@ pub fn replies(alloc: Global, script: &Script, history: &History) -> Result<Repl
     ensures { IfOk result (λ rs. map reply_of rs ≡ replies script.now history.now) }
 {
     let entries = history.as_slice();
-    let ends = ends_of(alloc, entries)?;
+    let told = told_ends(alloc, entries)?;
     let mut rest = entries;
     let mut down = false;
     let mut replies = Replies::new(alloc);
@@ -186,7 +216,7 @@ pub fn replies(alloc: Global, script: &Script, history: &History) -> Result<Repl
         let [entry, more @ ..] = from_line(rest) else {
             return Ok(replies);
         };
-        let Some(reply) = answer_at(alloc, entries, &ends, entry)? else {
+        let Some(reply) = answer_at(alloc, entries, &told, entry)? else {
             return Ok(replies);
         };
         replies.push(reply)?;

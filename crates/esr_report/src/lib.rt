@@ -5,9 +5,11 @@ mod ended;
 mod history;
 mod lines;
 mod reply;
+mod restores;
 mod sorted;
 mod text;
 mod tickets;
+mod told;
 
 pub use ended::{Ending, end_of_run};
 pub use history::replies;

@@ -1,18 +1,18 @@
 //! The text of a report.
-ghost use Rattle.std.specs.Prelude.{◌≡◌, ◌++◌, map, codes, decimal, IfOk, OnOk};
+ghost use Rattle.std.specs.Prelude.{◌≡◌, ◌++◌, [], map, get_or, codes, decimal, IfOk, OnOk};
 ghost use Rattle.esr_names.specs.IdText.{id_text as text_of_id};
 ghost use Rattle.esr_formats.specs.Names.{name_kind, name_of};
 ghost use Rattle.esr_formats.specs.Roots.{root_snap_of};
 ghost use Rattle.esr_desk.specs.Refusals.{refusal_of};
 ghost use Rattle.esr_desk.specs.Entries.{why_of};
-ghost use Rattle.esr_report.specs.Lines.{why_text, refusal_text, state_text, snap_text, snap_texts, reply_text, item_text, line_text, lines_text};
+ghost use Rattle.esr_report.specs.Lines.{why_text, name_at, refusal_text, state_text, snap_text, snap_texts, reply_text, item_text, line_text, lines_text};
 ghost use Rattle.esr_report.specs.Status.{last_line};
 ghost use Rattle.esr_report.specs.Code.{reply_of, ending_of};
 
 use crate::{Ending, Reply};
 use esr_desk::{EntryRefusal, Why};
 use esr_formats::append_name;
-use esr_names::{BlobName, Id, id_text};
+use esr_names::{BlobName, Id, SnapName, id_text};
 use esr_root::RootSnap;
 use esr_script::Item;
 use esr_seq::Bytes;
@@ -70,6 +70,14 @@ pub fn push_why(out: &mut Bytes, why: &Why) -> Result<(), AllocError>
     }
 }
 
+/// Appends these words and a number.
+pub fn push_count(out: &mut Bytes, words: &[u8], number: u64) -> Result<(), AllocError>
+    ensures { OnOk result (out.new ≡ out.old ++ (words.now ++ decimal number)) }
+{
+    push(out, words)?;
+    push_number(out, number)
+}
+
 fn push_in_use(out: &mut Bytes, uuid: Id) -> Result<(), AllocError>
     ensures { OnOk result (out.new ≡ out.old ++ (codes " refused name-in-use " ++ text_of_id uuid.number)) }
 {
@@ -77,50 +85,52 @@ fn push_in_use(out: &mut Bytes, uuid: Id) -> Result<(), AllocError>
     push_id(out, uuid)
 }
 
-fn push_too_many(out: &mut Bytes, limit: u64) -> Result<(), AllocError>
-    ensures { OnOk result (out.new ≡ out.old ++ (codes " refused too-many " ++ decimal limit)) }
+/// Appends the name that stands at this place of a list, if one does.
+fn push_nth(out: &mut Bytes, names: &[SnapName], place: u64) -> Result<(), AllocError>
+    ensures { OnOk result (out.new ≡ out.old ++ get_or names.now place []) }
 {
-    push(out, b" refused too-many ")?;
-    push_number(out, limit)
+    match names.get(place as usize) {
+        Some(name) => push(out, name.as_str().as_bytes()),
+        None => Ok(()),
+    }
 }
 
-fn push_cleanup(out: &mut Bytes, op: u64) -> Result<(), AllocError>
-    ensures { OnOk result (out.new ≡ out.old ++ (codes " refused cleanup-running " ++ decimal op)) }
+/// Appends the snapshot's name that stands at this place of a command.
+fn push_name_at(out: &mut Bytes, item: &Item, place: u64) -> Result<(), AllocError>
+    ensures { OnOk result (out.new ≡ out.old ++ name_at item.now place) }
 {
-    push(out, b" refused cleanup-running ")?;
-    push_number(out, op)
+    match item {
+        Item::Restore { name, place: _ } => push(out, name.as_str().as_bytes()),
+        Item::Clone { source, .. } => push(out, source.as_str().as_bytes()),
+        Item::Delete { names } => push_nth(out, names.as_slice(), place),
+        _ => Ok(()),
+    }
 }
 
-fn push_aborted(out: &mut Bytes, by: u64) -> Result<(), AllocError>
-    ensures { OnOk result (out.new ≡ out.old ++ (codes " aborted " ++ decimal by)) }
+fn push_no_snapshot(out: &mut Bytes, item: &Item, place: u64) -> Result<(), AllocError>
+    ensures { OnOk result (out.new ≡ out.old ++ (codes " refused no-snapshot " ++ name_at item.now place)) }
 {
-    push(out, b" aborted ")?;
-    push_number(out, by)
+    push(out, b" refused no-snapshot ")?;
+    push_name_at(out, item, place)
 }
 
-fn push_being_deleted(out: &mut Bytes, op: u64) -> Result<(), AllocError>
-    ensures { OnOk result (out.new ≡ out.old ++ (codes " refused being-deleted " ++ decimal op)) }
-{
-    push(out, b" refused being-deleted ")?;
-    push_number(out, op)
-}
-
-pub fn push_refusal(out: &mut Bytes, refusal: &EntryRefusal) -> Result<(), AllocError>
-    ensures { OnOk result (out.new ≡ out.old ++ refusal_text (refusal_of refusal.now)) }
+pub fn push_refusal(out: &mut Bytes, item: &Item, refusal: &EntryRefusal) -> Result<(), AllocError>
+    ensures { OnOk result (out.new ≡ out.old ++ refusal_text item.now (refusal_of refusal.now)) }
 {
     match refusal {
-        EntryRefusal::CleanupRunning { op } => push_cleanup(out, *op),
+        EntryRefusal::CleanupRunning { op } => push_count(out, b" refused cleanup-running ", *op),
         EntryRefusal::NameInUse { uuid } => push_in_use(out, *uuid),
-        EntryRefusal::TooMany { limit } => push_too_many(out, *limit),
+        EntryRefusal::TooMany { limit } => push_count(out, b" refused too-many ", *limit),
         EntryRefusal::Deposed { entry: _ } => push(out, b" deposed"),
-        EntryRefusal::Aborted { by } => push_aborted(out, *by),
+        EntryRefusal::Aborted { by } => push_count(out, b" aborted ", *by),
         EntryRefusal::StaleTerm { own: _, now: _ } => push(out, b" deposed"),
         EntryRefusal::GenerationsSpent { number: _ } => push(out, b" failed spent"),
         EntryRefusal::TermsSpent { number: _ } => push(out, b" failed spent"),
         EntryRefusal::IdsSpent { next: _ } => push(out, b" failed spent"),
         EntryRefusal::NameTaken { name } => push_named(out, b" failed name-taken ", name),
         EntryRefusal::DepotFault => push(out, b" failed depot"),
-        EntryRefusal::BeingDeleted { op } => push_being_deleted(out, *op),
+        EntryRefusal::NoSnapshot { place } => push_no_snapshot(out, item, *place),
+        EntryRefusal::BeingDeleted { op } => push_count(out, b" refused being-deleted ", *op),
     }
 }
 

@@ -27,7 +27,7 @@ impl End {
     {
         match self {
             End::Made { uuid } => Reply::Made { uuid },
-            End::Failed { why } => Reply::Failed { why },
+            End::Failed { why } => Reply::Failed { why, op: None },
         }
     }
 }

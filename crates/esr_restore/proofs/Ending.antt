@@ -19,7 +19,7 @@ use Rattle.esr_desk.specs.declared.unit.UnitRefusal.TheVariants as units
 use Rattle.esr_desk.specs.Entries.{why_of}
 use Rattle.esr_desk.specs.Start.{Start}
 use Rattle.esr_desk.specs.Last.{IsLast, IsRefusal}
-use Rattle.esr_reading.specs.Readers.{reader_of}
+use Rattle.esr_desk.specs.Readers.{reader_of}
 use Rattle.esr_reading.specs.Outcome.{Waited, Stepped}
 use Rattle.esr_reading.specs.Shown.{Counts, HadFault, WasMissing, IsOf, DepotShown, TargetShown, ReadShown, IsDamaged, IsMisprinted, IsMiscut, IsShown}
 use Rattle.esr_restore.specs.declared.cause.Cause.{Cause}
@@ -48,6 +48,7 @@ refusal_same (steps.Refused (refusals.GenerationsSpent spent)) refusal is = cc
 refusal_same (steps.Refused (refusals.TermsSpent spent)) refusal is = cc
 refusal_same (steps.Refused (refusals.IdsSpent next)) refusal is = cc
 refusal_same (steps.Refused (refusals.NameTaken name)) refusal is = cc
+refusal_same (steps.Refused (refusals.NoSnapshot at)) refusal is = cc
 refusal_same (steps.Refused (refusals.BeingDeleted op)) refusal is = cc
 
 -- a trouble that leaves the ticket out is a step's refusal
@@ -112,6 +113,7 @@ module _ {S F H T : Type 0} (c : Counts F T) (s : Start) (log : List Moment) (wh
   refused_shown (steps.Refused (refusals.TermsSpent spent)) cause h is = absurd cc
   refused_shown (steps.Refused (refusals.IdsSpent next)) cause h is = absurd cc
   refused_shown (steps.Refused (refusals.NameTaken name)) cause h is = absurd cc
+  refused_shown (steps.Refused (refusals.NoSnapshot at)) cause h is = absurd cc
   refused_shown (steps.Refused (refusals.BeingDeleted op)) cause h is = absurd cc
 
   pub cause_shown : (sure : Bool) (target : T) (trouble : Trouble F) (cause : Cause S F H T) → (s.sure_targets ≡ true → sure ≡ true) → IsOf (reader_of s log who) (c.made_for target)

@@ -18,7 +18,7 @@ use Rattle.esr_formats.specs.Shards.{entry_of, shard_snap_of}
 use Rattle.esr_progress.specs.declared.unit.Work.{Work}
 use Rattle.esr_progress.specs.declared.unit.Work.TheVariants as works
 use Rattle.esr_desk.specs.Start.{Start, formats_of}
-use Rattle.esr_reading.specs.Readers.{reader_of, fresh_reader, TookWork}
+use Rattle.esr_desk.specs.Readers.{reader_of, fresh_reader, TookWork}
 use Rattle.esr_reading.specs.Outcome.{Stepped}
 use Rattle.esr_reading.specs.Shown.{IsOf}
 use Rattle.esr_restore.specs.Worked.{Worked}

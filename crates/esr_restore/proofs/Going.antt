@@ -11,7 +11,7 @@ use Rattle.esr_desk.specs.Start.{Start}
 use Rattle.esr_desk.specs.Last.{WasRefused, IsRefusal}
 use Rattle.esr_desk.specs.Grew.{GrewBy, AllOf, grew_by_none, grew_by_on}
 use Rattle.esr_desk.specs.Outcome.{Spends}
-use Rattle.esr_reading.specs.Readers.{reader_of, with_read}
+use Rattle.esr_desk.specs.Readers.{reader_of, with_read}
 use Rattle.esr_reading.specs.Outcome.{Stepped, Refusing, Outcome}
 use Rattle.esr_restore.specs.Worked.{Worked}
 use Rattle.esr_restore.specs.Went.{Went}

@@ -7,3 +7,4 @@ pub mod Standing
 pub mod Listing
 pub mod Ending
 pub mod Finishing
+pub mod Once

@@ -15,7 +15,7 @@ use Rattle.esr_shardidx.specs.Snapshots.{SnapValue}
 use Rattle.esr_formats.specs.Formats.{formats}
 use Rattle.esr_formats.specs.Shards.{shard_snap_of, shard_snap_kind}
 use Rattle.esr_desk.specs.Start.{Start, formats_of, told_bytes}
-use Rattle.esr_reading.specs.Readers.{with_read}
+use Rattle.esr_desk.specs.Readers.{with_read}
 use Rattle.esr_restore.specs.Worked.{Worked}
 use Rattle.esr_restore.specs.Snapped.{IsAt, ReadAs, HasSnap, IsListed}
 use Rattle.esr_restore.proofs.Going.{worked_at, with_read_worked}

@@ -22,7 +22,7 @@ use Rattle.esr_formats.specs.Formats.{formats}
 use Rattle.esr_formats.specs.Shards.{entry_of}
 use Rattle.esr_desk.specs.declared.entry.Why.{Why}
 use Rattle.esr_desk.specs.Start.{Start, formats_of}
-use Rattle.esr_reading.specs.Readers.{reader_of}
+use Rattle.esr_desk.specs.Readers.{reader_of}
 use Rattle.esr_reading.specs.Parts.{sized, IsFront, front_of, AreFronts, AreExact}
 use Rattle.esr_reading.specs.Shown.{HasReadFile, IsMisprinted, IsMiscut}
 use Rattle.esr_restore.specs.Snapped.{IsAt, IsListed}

@@ -7,3 +7,4 @@ pub mod Parts
 pub mod Files
 pub mod Restored
 pub mod Refused
+pub mod Unread

@@ -9,7 +9,7 @@ use Rattle.esr_core.specs.Entry.{ReadStep, RestoredShard, HasEnded, Moment}
 use Rattle.esr_source.specs.declared.address.Address.{Address}
 use Rattle.esr_desk.specs.Start.{Start, formats_of}
 use Rattle.esr_desk.specs.Last.{IsLast}
-use Rattle.esr_reading.specs.Readers.{reader_of}
+use Rattle.esr_desk.specs.Readers.{reader_of}
 use Rattle.esr_reading.specs.Shown.{IsOf}
 use Rattle.esr_restore.specs.Worked.{Worked}
 

@@ -17,7 +17,7 @@ use Rattle.esr_desk.specs.Start.{Start}
 use Rattle.esr_desk.specs.Outcome.{Spends}
 use Rattle.esr_desk.specs.Last.{IsLast}
 use Rattle.esr_desk.specs.Shown.{Faulty}
-use Rattle.esr_reading.specs.Readers.{reader_of}
+use Rattle.esr_desk.specs.Readers.{reader_of}
 use Rattle.esr_reading.specs.Shown.{IsDamaged, IsMisprinted, IsMiscut}
 use Rattle.esr_restore.specs.declared.trouble.Trouble.{Trouble}
 use Rattle.esr_restore.specs.declared.trouble.Trouble.TheVariants as troubles

@@ -2,9 +2,11 @@
 ghost use Rattle.std.specs.Prelude.{◌≡◌, ◌<◌, Some, None, map, length, Contains, IfErr, IfSome, OnOk};
 ghost use Rattle.esr_source.specs.Begun.{begun_file};
 ghost use Rattle.esr_shardidx.specs.Entries.{IsEntry};
-ghost use Rattle.esr_reading.specs.Readers.{reader_of};
+ghost use Rattle.esr_desk.specs.Readers.{reader_of};
+ghost use Rattle.esr_reading.specs.Once.{ReadsOnly};
 ghost use Rattle.esr_restore.specs.Files.{RestoredFile};
 ghost use Rattle.esr_restore.specs.Snapped.{IsAt, IsListed};
+ghost use Rattle.esr_restore.specs.Unread.{AreUnread, IsPartOf};
 ghost use Rattle.esr_restore.specs.Trouble.{Shown, IsOfStart, Judged};
 ghost use Rattle.esr_restore.specs.Went.{Went};
 
@@ -79,11 +81,13 @@ pub fn restore_file<Q: RestoreDesk>(
     requires none_begun { Q.Target.begun target.old ≡ None }
     requires free { IfSome (Q.Target.files target.old) (λ fs. Contains (map (λ f. f.0) fs) entry.now.physical → ⊥) }
     requires buffer { 0 < length buf.old }
+    requires new { AreUnread (Q.seen desk.old) ticket (IsPartOf at entry.now) }
     ensures buffer { length buf.new ≡ length buf.old }
     ensures restored { OnOk result (RestoredFile Q.start (reader_of Q.start (Q.seen desk.new) ticket) at entry.now (Q.Target.files target.old) (Q.Target.files target.new)) }
     ensures begun { OnOk result (Q.Target.begun target.new ≡ None) }
     ensures made_for { Q.Target.made_for target.new ≡ Q.Target.made_for target.old }
     ensures is_sure { Q.Target.is_sure target.new ≡ Q.Target.is_sure target.old }
+    ensures reads { OnOk result (ReadsOnly (Q.seen desk.old) (Q.seen desk.new) ticket (IsPartOf at entry.now)) }
     ensures trouble { IfErr result (Shown Q.Fetch.faults (Q.Target.faults target.new) (Q.Target.is_sure target.new) Q.start (Q.seen desk.new) ticket) }
     ensures went { Went Q.start (Q.seen desk.old) (Q.seen desk.new) ticket }
     ensures holds { Q.holds desk.new ticket }

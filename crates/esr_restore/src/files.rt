@@ -1,8 +1,9 @@
 //! The files of a shard, one after another.
 ghost use Rattle.std.specs.Prelude.{◌≡◌, ◌<◌, [], None, length, IfErr, IfSome, OnOk};
 ghost use Rattle.esr_restore.specs.Files.{sum_files, RestoredAll};
-ghost use Rattle.esr_reading.specs.Readers.{reader_of};
+ghost use Rattle.esr_desk.specs.Readers.{reader_of};
 ghost use Rattle.esr_restore.specs.Snapped.{IsAt, HasSnap};
+ghost use Rattle.esr_restore.specs.Unread.{AreUnread, IsPartOfAny};
 ghost use Rattle.esr_restore.specs.Trouble.{Shown};
 ghost use Rattle.esr_restore.specs.Went.{Went};
 
@@ -44,6 +45,7 @@ pub fn restore_files<Q: RestoreDesk>(
     requires none_begun { Q.Target.begun target.old ≡ None }
     requires empty { IfSome (Q.Target.files target.old) (λ fs. fs ≡ []) }
     requires buffer { 0 < length buf.old }
+    requires new { AreUnread (Q.seen desk.old) ticket (IsPartOfAny at snap.now.files) }
     ensures restored { OnOk result (RestoredAll Q.start (reader_of Q.start (Q.seen desk.new) ticket) at snap.now.files (Q.Target.files target.old) (Q.Target.files target.new)) }
     ensures made_for { Q.Target.made_for target.new ≡ Q.Target.made_for target.old }
     ensures is_sure { Q.Target.is_sure target.new ≡ Q.Target.is_sure target.old }

@@ -4,9 +4,11 @@ ghost use Rattle.esr_hash.specs.Fed.{fed_count, HasFed};
 ghost use Rattle.esr_names.specs.Layout.{IsName};
 ghost use Rattle.esr_formats.specs.Names.{name_of};
 ghost use Rattle.esr_shardidx.specs.Entries.{IsEntry};
-ghost use Rattle.esr_reading.specs.Readers.{reader_of};
+ghost use Rattle.esr_desk.specs.Readers.{reader_of};
+ghost use Rattle.esr_reading.specs.Once.{IsUnread, ReadsOnly};
 ghost use Rattle.esr_reading.specs.Conditions.{CanRead};
 ghost use Rattle.esr_restore.specs.Parts.{ReadPart, ReadParts};
+ghost use Rattle.esr_restore.specs.Unread.{AreUnread, IsPartOf};
 ghost use Rattle.esr_restore.specs.Snapped.{IsAt, IsListed};
 ghost use Rattle.esr_restore.specs.Trouble.{Shown};
 ghost use Rattle.esr_restore.specs.Went.{Went};
@@ -40,11 +42,13 @@ fn read_part<Q: RestoreDesk>(
     requires room { IsSomeAnd (Q.Target.begun target.old) (λ b. size ≤ b.room) }
     requires bound { fed_count hasher.old + size + 1 < 2 ^ 61 }
     requires buffer { 0 < length buf.old }
+    requires new { IsUnread (Q.seen desk.old) ticket (name_of name) }
     ensures buffer { length buf.new ≡ length buf.old }
     ensures read { IfOk result (ReadPart Q.start (reader_of Q.start (Q.seen desk.new) ticket) hasher.old hasher.new (Q.Target.begun target.old) (Q.Target.begun target.new) (name_of name) size) }
     ensures files { Q.Target.files target.new ≡ Q.Target.files target.old }
     ensures made_for { Q.Target.made_for target.new ≡ Q.Target.made_for target.old }
     ensures is_sure { Q.Target.is_sure target.new ≡ Q.Target.is_sure target.old }
+    ensures reads { IfOk result (λ w. ReadsOnly (Q.seen desk.old) (Q.seen desk.new) ticket (λ n. n ≡ name_of name)) }
     ensures trouble { IfErr result (Shown Q.Fetch.faults (Q.Target.faults target.new) (Q.Target.is_sure target.new) Q.start (Q.seen desk.new) ticket) }
     ensures went { Went Q.start (Q.seen desk.old) (Q.seen desk.new) ticket }
     ensures holds { Q.holds desk.new ticket }
@@ -80,11 +84,13 @@ pub fn read_parts<Q: RestoreDesk>(
     requires room { IsSomeAnd (Q.Target.begun target.old) (λ b. b.room ≡ entry.now.print.len) }
     requires fresh { HasFed hasher.old [] }
     requires buffer { 0 < length buf.old }
+    requires new { AreUnread (Q.seen desk.old) ticket (IsPartOf at entry.now) }
     ensures buffer { length buf.new ≡ length buf.old }
     ensures read { IfOk result (ReadParts Q.start (reader_of Q.start (Q.seen desk.new) ticket) hasher.new (Q.Target.begun target.old) (Q.Target.begun target.new) at entry.now) }
     ensures files { Q.Target.files target.new ≡ Q.Target.files target.old }
     ensures made_for { Q.Target.made_for target.new ≡ Q.Target.made_for target.old }
     ensures is_sure { Q.Target.is_sure target.new ≡ Q.Target.is_sure target.old }
+    ensures reads { IfOk result (λ e. ReadsOnly (Q.seen desk.old) (Q.seen desk.new) ticket (IsPartOf at entry.now)) }
     ensures trouble { IfErr result (Shown Q.Fetch.faults (Q.Target.faults target.new) (Q.Target.is_sure target.new) Q.start (Q.seen desk.new) ticket) }
     ensures went { Went Q.start (Q.seen desk.old) (Q.seen desk.new) ticket }
     ensures holds { Q.holds desk.new ticket }

@@ -4,7 +4,8 @@ ghost use Rattle.esr_model.specs.Names.{ShardSnap as SnapName};
 ghost use Rattle.esr_names.specs.Layout.{IsName};
 ghost use Rattle.esr_formats.specs.Names.{name_of};
 ghost use Rattle.esr_desk.specs.Start.{told_bytes};
-ghost use Rattle.esr_reading.specs.Readers.{reader_of, with_read};
+ghost use Rattle.esr_desk.specs.Readers.{reader_of, with_read};
+ghost use Rattle.esr_reading.specs.Once.{IsUnread, ReadsOnly};
 ghost use Rattle.esr_reading.specs.Conditions.{CanRead};
 ghost use Rattle.esr_restore.specs.Parts.{Came};
 ghost use Rattle.esr_restore.specs.Snapped.{IsAt, HasSnap};
@@ -33,7 +34,9 @@ pub fn fetch<Q: RestoreDesk>(
     requires mine { Q.holds desk.old ticket }
     requires layout { IsName name }
     requires may { CanRead Q.start (reader_of Q.start (Q.seen desk.old) ticket) (name_of name) }
+    requires new { IsUnread (Q.seen desk.old) ticket (name_of name) }
     ensures came { IfOk result (λ f. Came Q.start (reader_of Q.start (Q.seen desk.old) ticket) (reader_of Q.start (Q.seen desk.new) ticket) (name_of name) (Q.Fetch.left f) (Q.Fetch.is_sure f)) }
+    ensures reads { IfOk result (λ f. ReadsOnly (Q.seen desk.old) (Q.seen desk.new) ticket (λ n. n ≡ name_of name)) }
     ensures trouble { IfErr result (λ e. (n : ℕ) (sure : Bool) → Shown Q.Fetch.faults n sure Q.start (Q.seen desk.new) ticket e) }
     ensures went { Went Q.start (Q.seen desk.old) (Q.seen desk.new) ticket }
     ensures holds { Q.holds desk.new ticket }
@@ -57,7 +60,9 @@ fn fetch_bytes<Q: RestoreDesk>(
     requires mine { Q.holds desk.old ticket }
     requires at { IsAt (reader_of Q.start (Q.seen desk.old) ticket) at.index.number at.number uuid.number }
     requires few { at.number < 1024 }
+    requires new { IsUnread (Q.seen desk.old) ticket (SnapName at.index.number at.number uuid.number) }
     ensures fetched { IfOk result (λ b. reader_of Q.start (Q.seen desk.new) ticket ≡ with_read (SnapName at.index.number at.number uuid.number) (told_bytes Q.start b) (reader_of Q.start (Q.seen desk.old) ticket)) }
+    ensures reads { IfOk result (λ b. ReadsOnly (Q.seen desk.old) (Q.seen desk.new) ticket (λ n. n ≡ SnapName at.index.number at.number uuid.number)) }
     ensures trouble { IfErr result (λ e. (n : ℕ) (sure : Bool) → Shown Q.Fetch.faults n sure Q.start (Q.seen desk.new) ticket e) }
     ensures went { Went Q.start (Q.seen desk.old) (Q.seen desk.new) ticket }
     ensures holds { Q.holds desk.new ticket }
@@ -81,7 +86,9 @@ pub fn fetch_snap<Q: RestoreDesk>(
     requires mine { Q.holds desk.old ticket }
     requires at { IsAt (reader_of Q.start (Q.seen desk.old) ticket) at.index.number at.number uuid.number }
     requires few { at.number < 1024 }
+    requires new { IsUnread (Q.seen desk.old) ticket (SnapName at.index.number at.number uuid.number) }
     ensures snap { IfOk result (λ v. HasSnap Q.start (reader_of Q.start (Q.seen desk.new) ticket) v) }
+    ensures reads { IfOk result (λ v. ReadsOnly (Q.seen desk.old) (Q.seen desk.new) ticket (λ n. n ≡ SnapName at.index.number at.number uuid.number)) }
     ensures trouble { IfErr result (λ e. (n : ℕ) (sure : Bool) → Shown Q.Fetch.faults n sure Q.start (Q.seen desk.new) ticket e) }
     ensures went { Went Q.start (Q.seen desk.old) (Q.seen desk.new) ticket }
     ensures holds { Q.holds desk.new ticket }

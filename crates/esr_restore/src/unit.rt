@@ -2,7 +2,8 @@
 ghost use Rattle.std.specs.Prelude.{◌≡◌, ◌<◌, [], None, true, false, length, IfErr, IfOk, IfSome, IsSome, OnOk, OnErr};
 ghost use Rattle.esr_core.specs.Entry.{RestoredShard, HasEnded};
 ghost use Rattle.esr_desk.specs.Grew.{GrewBy};
-ghost use Rattle.esr_reading.specs.Readers.{reader_of, TookRestore};
+ghost use Rattle.esr_desk.specs.Readers.{reader_of, TookRestore};
+ghost use Rattle.esr_desk.specs.Once.{HasMadeNone};
 ghost use Rattle.esr_reading.specs.Outcome.{Outcome};
 ghost use Rattle.esr_reading.specs.Shown.{IsOf};
 ghost use Rattle.esr_restore.specs.Files.{sum_files, HasFiles, RestoredAll};
@@ -38,6 +39,7 @@ fn restore<Q: RestoreDesk>(
     requires few { at.number < 1024 }
     requires none_begun { Q.Target.begun target.old ≡ None }
     requires empty { IfSome (Q.Target.files target.old) (λ fs. fs ≡ []) }
+    requires new { HasMadeNone (Q.seen desk.old) ticket }
     ensures snap { IfOk result (λ v. HasSnap Q.start (reader_of Q.start (Q.seen desk.new) ticket) v) }
     ensures restored { IfOk result (λ v. RestoredAll Q.start (reader_of Q.start (Q.seen desk.new) ticket) at v.files (Q.Target.files target.old) (Q.Target.files target.new)) }
     ensures made_for { Q.Target.made_for target.new ≡ Q.Target.made_for target.old }
@@ -112,6 +114,7 @@ pub fn run_unit<Q: RestoreDesk, T: Targets<Target = Q::Target>>(
 ) -> Result<Q::Target, UnitRefusal>
     requires mine { Q.holds desk.old unit.now.ready.ticket }
     requires fresh { TookRestore Q.start (Q.seen desk.old) unit.now }
+    requires new { HasMadeNone (Q.seen desk.old) unit.now.ready.ticket }
     requires sure { Q.start.sure_targets ≡ T.is_quiet targets.now }
     ensures ok { IfOk result (λ t. HasRestored Q.start (Q.seen desk.old) (Q.seen desk.new) unit.now.ready.ticket (Q.Target.made_for t) (Q.Target.files t)) }
     ensures told { IfOk result (λ t. T.is_told targets.now ≡ true → IsSome (Q.Target.files t)) }

@@ -15,6 +15,3 @@ pub use read::{read_roots_keep_the_rules, root_read};
 pub use root::RootData;
 pub use snaps::{RootSnap, RootSnaps};
 pub use write::{root_text, roots_read_back};
-
-#[cfg(test)]
-mod tests;

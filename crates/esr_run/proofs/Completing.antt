@@ -21,7 +21,7 @@ use Rattle.esr_report.specs.Replies.{replies}
 use Rattle.esr_report.specs.Status.{ending, status_of}
 use Rattle.esr_desk.specs.Start.{Start, Legal, formats_of}
 use Rattle.esr_desk.specs.declared.fault.Fault.{Fault}
-use Rattle.esr_desk.specs.Shown.{Counts, AreShown}
+use Rattle.esr_run.specs.Counts.{Counts, unit_counts, AreShown}
 use Rattle.esr_desk.specs.Once.{AreOnce}
 use Rattle.esr_repo.specs.Log.{image_of, image_at, log_from, log_of, tick}
 use Rattle.esr_repo.specs.Counted.{is_fault, fault_entries}
@@ -370,7 +370,7 @@ module _ {S F H T : Type 0} (laws : QuietLaws S F H T) (count : Counts S F H T) 
     }
 
     none_failed : NoneFailed log
-    none_failed = laws.fails count s log faults smooth shown
+    none_failed = laws.fails (unit_counts count) s log faults smooth shown.units
 
     rules : AreByRule log
     rules = laws.rules s log smooth none_failed

@@ -12,7 +12,7 @@ use Rattle.esr_formats.specs.Clusters.{cluster_of}
 use Rattle.esr_formats.specs.Roots.{root_of}
 use Rattle.esr_desk.specs.Start.{Start}
 use Rattle.esr_desk.specs.Sources.{AreSources}
-use Rattle.esr_desk.specs.Once.{AreOnce}
+use Rattle.esr_desk.specs.Once.{AreOnce, NoneTwice}
 use Rattle.esr_repo.specs.Calm.{IsCalm}
 use Rattle.esr_quiet.specs.Asked.{asked_steps}
 use Rattle.esr_complete.specs.Lines.{steps_of}
@@ -24,7 +24,7 @@ use Rattle.esr_repo.specs.Past.{IsPast}
 use Rattle.esr_script.specs.Jobs.{job_of}
 use Rattle.esr_script.specs.declared.item.ScriptLine.{ScriptLine}
 use Rattle.esr_desk.specs.declared.fault.Fault.{Fault}
-use Rattle.esr_desk.specs.Shown.{Counts, AreShown}
+use Rattle.esr_run.specs.Counts.{Counts, AreShown}
 use Rattle.esr_repo.specs.Log.{log_of}
 use Rattle.esr_run.specs.Asked.{wanted_of, part_size_of}
 use Rattle.esr_run.specs.Ends.{RunEnd, BadWords, Unreadable, BadScript, BadLine, OpenFault, Damaged, NoTerm, Carried}
@@ -81,9 +81,9 @@ Begun files size quiet mid k = start_of files size quiet mid (begun_world (now m
 
 unfoldable pub opened_run : {S F H T : Type 0} (laws : Laws) (count : Counts S F H T) (files : Telling) (size moment : ℕ) (lines : List ScriptLine) (quiet : Bool) (before mid after : Look) (k : Kept) (history : List Entry) (faults : List (Fault S F H T)) → IsOpening before mid k → (2 ^ 62 ≤ before.sure → quiet ≡ true)
     → LegalRun (Begun files size quiet mid k) mid.clock after history → IsPast (Begun files size quiet mid k) mid.clock mid.since after history → AreShown count (Begun files size quiet mid k) (log_of after mid.clock history) faults
-    → AreOnce (Begun files size quiet mid k) (log_of after mid.clock history) → IsCalm quiet after.sure history → MadeFirst (Begun files size quiet mid k) (steps_of moment lines) [] (log_of after mid.clock history)
+    → AreOnce (Begun files size quiet mid k) (log_of after mid.clock history) → NoneTwice (log_of after mid.clock history) → IsCalm quiet after.sure history → MadeFirst (Begun files size quiet mid k) (steps_of moment lines) [] (log_of after mid.clock history)
     → IsOpenedRun count files size moment lines before after history faults
-opened_run {S} {F} {H} {T} laws count files size moment lines quiet before mid after k history faults o quiet_is legal past shown once calm made =
+opened_run {S} {F} {H} {T} laws count files size moment lines quiet before mid after k history faults o quiet_is legal past shown once single calm made =
     let is = start_is files size quiet before mid k o in
     let run = subst (λ (s : Start). LegalRun s mid.clock after history) is legal in
     let was = subst (λ (s : Start). IsPast s mid.clock mid.since after history) is past in
@@ -100,6 +100,7 @@ opened_run {S} {F} {H} {T} laws count files size moment lines quiet before mid a
       answered = answers_stay laws files size quiet before mid after k history o run was;
       shown = subst (λ (s : Start). AreShown {S = S} {F = F} {H = H} {T = T} count s (log_of after mid.clock history) faults) is shown;
       once = subst (λ (s : Start). AreOnce s (log_of after mid.clock history)) is once;
+      single = single;
       calm = calm;
       asked = (made.rest, ap (λ (l : List Step). l ++ made.rest) (ap asked_steps made.grew.is ∙ made.grew.asked refl) ∙ made.is);
     }

@@ -56,7 +56,7 @@ left_by_opening files before cluster root i (inr (j, is, with)) = inr (ap image_
 
 -- the image of the opened world is kept for the same shelf
 opened_kept : (laws : Laws) (f : Formats) (image : Image) (shelf : List Shelved) (w : World) → IsKept f image shelf → Opened f image w → ReadsBack f.cluster (record_of w) → IsKept f (core.image_of f w) shelf
-opened_kept laws f image shelf w kept opened back = laws.kept f w shelf (laws.opened f image shelf w kept opened) back
+opened_kept laws f image shelf w kept opened back = laws.kept f w shelf (laws.lawful f image shelf w kept opened) back
 
 swap_failed_kept : (laws : Laws) (files : Telling) (before after : Look) → SwapFailed before after → StaysKept (formats_by files) before after
 swap_failed_kept laws files before after s shelf h i left =

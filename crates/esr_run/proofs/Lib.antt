@@ -8,3 +8,4 @@ pub mod Ending
 pub mod Counting
 pub mod Completing
 pub mod Smoothly
+pub mod Waiting

@@ -20,8 +20,8 @@ use Rattle.esr_opening.specs.declared.refusal.OpenRefusal.{OpenRefusal}
 use Rattle.esr_opening.specs.declared.refusal.OpenRefusal.TheVariants as refusals
 use Rattle.esr_desk.specs.Start.{Start}
 use Rattle.esr_desk.specs.declared.fault.Fault.{Fault}
-use Rattle.esr_desk.specs.Shown.{Counts, AreShown}
-use Rattle.esr_desk.specs.Once.{AreOnce}
+use Rattle.esr_run.specs.Counts.{Counts, AreShown}
+use Rattle.esr_desk.specs.Once.{AreOnce, NoneTwice}
 use Rattle.esr_repo.specs.Log.{log_of}
 use Rattle.esr_repo.specs.Past.{IsPast}
 use Rattle.esr_repo.specs.Calm.{IsCalm}
@@ -69,18 +69,18 @@ carried_status status text lines history (inr told) = inr told.0
 pub opens_well : {S F H T : Type 0} (laws : Laws) (quiet_laws : QuietLaws S F H T) (count : Counts S F H T) (files : Telling) (size moment : ℕ) (lines : List ScriptLine) (quiet : Bool) (before mid after : Look) (k : Kept) (history : List Entry) (faults : List (Fault S F H T))
     (status : ℕ) (text : Bytes) (o : IsOpening before mid k) → (2 ^ 62 ≤ before.sure → quiet ≡ true)
     → LegalRun (Begun files size quiet mid k) mid.clock after history → IsPast (Begun files size quiet mid k) mid.clock mid.since after history → AreShown count (Begun files size quiet mid k) (log_of after mid.clock history) faults
-    → AreOnce (Begun files size quiet mid k) (log_of after mid.clock history) → IsCalm quiet after.sure history → MadeFirst (Begun files size quiet mid k) (steps_of moment lines) [] (log_of after mid.clock history)
+    → AreOnce (Begun files size quiet mid k) (log_of after mid.clock history) → NoneTwice (log_of after mid.clock history) → IsCalm quiet after.sure history → MadeFirst (Begun files size quiet mid k) (steps_of moment lines) [] (log_of after mid.clock history)
     → AreDeposedSo history → first_bad lines ≡ None → IsTold status text (Some (Carried lines history))
     → (status ≡ 8) ⊎ (AreDone (Begun files size quiet mid k) moment lines [] (log_of after mid.clock history) ⊎ HasStopped (log_of after mid.clock history))
     → OpensWell count files size moment lines before after history faults status
 unfolding opened_run
-opens_well {S} {F} {H} {T} laws quiet_laws count files size moment lines quiet before mid after k history faults status text o quiet_is legal past shown once calm made named good told (inl wanting) quiet_for = inl wanting
-opens_well {S} {F} {H} {T} laws quiet_laws count files size moment lines quiet before mid after k history faults status text o quiet_is legal past shown once calm made named good told (inr done) quiet_for =
+opens_well {S} {F} {H} {T} laws quiet_laws count files size moment lines quiet before mid after k history faults status text o quiet_is legal past shown once single calm made named good told (inl wanting) quiet_for = inl wanting
+opens_well {S} {F} {H} {T} laws quiet_laws count files size moment lines quiet before mid after k history faults status text o quiet_is legal past shown once single calm made named good told (inr done) quiet_for =
     ⊎_elim
     (λ (wanting : status ≡ 8). inl wanting)
     (λ (is : status ≡ status_of (ending lines history)).
     inr (inr (
-      opened_run laws count files size moment lines quiet before mid after k history faults o quiet_is legal past shown once calm made,
+      opened_run laws count files size moment lines quiet before mid after k history faults o quiet_is legal past shown once single calm made,
       completes quiet_laws count files size moment lines before after world mid.clock history faults (λ i e. o.opens i _ _ e) status o.order.no_deletes
           (subst (λ (s : Start). LegalRun s mid.clock after history) same legal).legal
           (subst (λ (s : Start). IsPast s mid.clock mid.since after history) same past).told

@@ -6,8 +6,9 @@ use Rattle.std.specs.Cmp.{nat_cmp_total, eq_by_cmp_equiv}
 use Rattle.esr_model.specs.Values.{ClusterRecord, RootData}
 use Rattle.esr_model.specs.Image.{Blobs, Image}
 use Rattle.esr_model.specs.Kept.{first_id}
-use Rattle.esr_core.specs.World.{World, Deletion, no_caller, record_of, kept_deletes, numbered_deletes}
+use Rattle.esr_core.specs.World.{World, Deletion, no_caller, record_of, opened, kept_deletes, numbered_deletes}
 use Rattle.esr_core.specs.World as core
+use Rattle.esr_core.specs.ReadTracked.{ReadTracked}
 use Rattle.esr_depot.specs.Image.{Image as Held, with_text}
 use Rattle.esr_depot.specs.Look.{Look, now}
 use Rattle.esr_root.specs.Root.{Root}
@@ -15,11 +16,13 @@ use Rattle.esr_record.specs.Record.{Record}
 use Rattle.esr_formats.specs.Roots.{root_of}
 use Rattle.esr_formats.specs.Formats.{formats}
 use Rattle.esr_formats.specs.Clusters.{cluster_of}
+use Rattle.esr_progress.specs.Infos.{AreInfosOf}
 use Rattle.esr_desk.specs.Start.{Start, formats_of}
-use Rattle.esr_opening.specs.Opening.{image_of, Kept, IsKeptOf, IsInOrder, known_blobs, world_in, opened_text, IsOpening}
+use Rattle.esr_opening.specs.Listed.{AreListed}
+use Rattle.esr_opening.specs.Opening.{image_of, Kept, IsKeptOf, IsInOrder, known_blobs, is_told, world_in, opened_text, IsOpening}
 use Rattle.esr_repo.specs.Repo.{TellsSo}
 use Rattle.esr_repo.specs.Begun.{IsBegun}
-use Rattle.esr_run.specs.Start.{Telling, formats_by, start_of}
+use Rattle.esr_run.specs.Start.{Telling, known_by, told_by, formats_by, start_of}
 
 abbrev Deletions : Type 0
 Deletions = FinMap nat_cmp Deletion
@@ -140,9 +143,14 @@ image_now files before after k o i is = go (now before) refl
 tells_so : (l : Look) → TellsSo l (is_some (now l))
 tells_so l = record { untold = λ e. ap is_some e; told = λ i e. ap is_some e }
 
-pub begins : (files : Telling) (size : ℕ) (quiet : Bool) (before after : Look) (k : Kept) → IsOpening before after k → ((i : Held) → after.since after.clock i → now after ≡ Some i)
+told_some : (x : Option Held) → is_told x ≡ is_some x
+told_some None = refl
+told_some (Some i) = refl
+
+pub begins : ((blobs : Blobs) (cluster : ClusterRecord) (root : RootData) → ReadTracked (opened blobs cluster root)) → (files : Telling) (size : ℕ) (quiet : Bool) (before after : Look) (k : Kept) → IsOpening before after k → AreListed (root_of k.root) k.infos
+    → ((i : Held) → after.since after.clock i → now after ≡ Some i)
     → IsBegun (start_of files size quiet after (begun_world (now after) (cluster_of k.cluster) (root_of k.root))) after.clock after.since after k
-begins files size quiet before after k o only =
+begins tracks files size quiet before after k o listed only =
     let w : World = world_in (now before) o.cluster o.root in
     let is : begun_world (now after) (cluster_of k.cluster) (root_of k.root) ≡ w = begun_is before after k o in
     record {
@@ -150,7 +158,10 @@ begins files size quiet before after k o only =
       order = subst IsInOrder (sym is) o.order;
       live = refl;
       no_tickets = refl;
-      no_restore = (refl, refl);
+      read_tracked = subst ReadTracked (sym is) (tracks (known_blobs (now before)) (cluster_of o.cluster) (root_of o.root));
+      infos = subst (λ (x : World). AreInfosOf (formats_by files) x (is_some (now after)) k.infos) (sym is)
+          (subst (λ (b : Bool). AreInfosOf (formats_by files) w b k.infos) (told_some (now before) ∙ sym (same_tells before after k o)) (o.infos (known_by files) (told_by files)));
+      listed = listed;
       roomy = record { ops = omega arith; tickets = omega arith };
       image = λ i now_is. image_now files before after k o i now_is ∙ ap (core.image_of (formats_by files)) (sym is);
       tells = tells_so after;

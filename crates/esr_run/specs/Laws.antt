@@ -1,21 +1,23 @@
 -- The laws of the core on which a run rests.
 use Rattle.std.specs.Prelude.{◌≡◌, ◌≢◌, ℕ, suc, ◌≤◌, List, [], ◌∷◌, ◌++◌, Some}
 use Rattle.std.specs.FinMap as fin
-use Rattle.esr_model.specs.Values.{Formats, ReadsBack}
-use Rattle.esr_model.specs.Image.{Image}
+use Rattle.esr_model.specs.Values.{Formats, ReadsBack, RootData, ClusterRecord}
+use Rattle.esr_model.specs.Image.{Image, Blobs}
 use Rattle.esr_model.specs.Kept.{Kept}
 use Rattle.esr_model.specs.Shelf.{Shelved, shelf_after}
-use Rattle.esr_core.specs.World.{World, Ticket, image_of, record_of, Opened}
+use Rattle.esr_core.specs.World.{World, Ticket, image_of, record_of, opened, Opened}
 use Rattle.esr_core.specs.Entry.{Given, Gave, Moment, SettleStep, WasSettled}
 use Rattle.esr_core.specs.After.{after}
 use Rattle.esr_core.specs.History.{world_from, IsLegal, AllKnown, AreTold, AreHonest, committed}
 use Rattle.esr_core.specs.Ids.{Law}
+use Rattle.esr_core.specs.ReadTracked.{ReadTracked}
 use Rattle.esr_core.specs.Left.{Leaves, safe_in}
 use Rattle.esr_desk.specs.Start.{Start, Legal, no_ticket, ticket_of}
 use Rattle.esr_desk.specs.declared.fault.Fault.{Fault}
-use Rattle.esr_desk.specs.Shown.{Counts, AreShown}
+use Rattle.esr_desk.specs.Shown.{Counts}
 use Rattle.esr_script.specs.declared.item.ScriptLine.{ScriptLine}
 use Rattle.esr_report.specs.Replies.{replies}
+use Rattle.esr_quiet.specs.Caused.{AreCaused}
 use Rattle.esr_quiet.specs.Numbers.{HasNoTickets}
 use Rattle.esr_quiet.specs.Asked.{asked_steps}
 use Rattle.esr_quiet.specs.Smooth.{IsSmooth, NoneFailed}
@@ -24,7 +26,8 @@ use Rattle.esr_complete.specs.Lines.{steps_of, AreKnown, entries_of}
 use Rattle.esr_complete.specs.Answers.{IsIdle, AreAnswered, EndsWell}
 
 pub record Laws : Type 0 where
-  pub opened : (f : Formats) (image : Image) (shelf : List Shelved) (w : World) → Kept f image shelf → Opened f image w → Law f w shelf
+  pub read_tracked : (blobs : Blobs) (cluster : ClusterRecord) (root : RootData) → ReadTracked (opened blobs cluster root)
+  pub lawful : (f : Formats) (image : Image) (shelf : List Shelved) (w : World) → Kept f image shelf → Opened f image w → Law f w shelf
   pub kept : (f : Formats) (w : World) (shelf : List Shelved) → Law f w shelf → ReadsBack f.cluster (record_of w) → Kept f (image_of f w) shelf
   pub one_shelf : (f : Formats) (image : Image) (a b : List Shelved) → Kept f image a → Kept f image b → a ≡ b
   pub left : (f : Formats) (part_size : ℕ) (image : Image) (shelf : List Shelved) (w : World) (log : List Moment) (i : Image) → AllKnown f → Kept f image shelf → Opened f image w → ReadsBack f.cluster (record_of w) → IsLegal f part_size w log
@@ -40,7 +43,7 @@ pub record StepsStay : Type 0 where
 
 -- the laws of histories in which nothing fails
 pub record QuietLaws (S F H T : Type 0) : Type 0 where
-  pub fails : (c : Counts S F H T) (s : Start) (log : List Moment) (faults : List (Fault S F H T)) → IsSmooth s log → AreShown c s log faults → NoneFailed log
+  pub fails : (c : Counts S F H T) (s : Start) (log : List Moment) (faults : List (Fault S F H T)) → IsSmooth s log → AreCaused c s log faults → NoneFailed log
   pub rules : (s : Start) (log : List Moment) → IsSmooth s log → NoneFailed log → AreByRule log
   pub answered : (s : Start) (log : List Moment) (lines : List ScriptLine) (moment : ℕ) → IsSmooth s log → NoneFailed log → AreByRule log → IsIdle s log → AreKnown lines → asked_steps log ≡ steps_of moment lines
       → AreAnswered lines (replies lines (entries_of log))

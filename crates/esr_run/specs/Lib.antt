@@ -2,6 +2,7 @@ pub mod Asked
 pub mod Script
 pub mod Ends
 pub mod Faults
+pub mod Counts
 pub mod Start
 pub mod Images
 pub mod Made
@@ -9,3 +10,4 @@ pub mod Complete
 pub mod Laws
 pub mod Causes
 pub mod Stops
+pub mod Stop

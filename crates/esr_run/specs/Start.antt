@@ -11,11 +11,12 @@ use Rattle.esr_desk.specs.Start.{Start, formats_of, world_of, Legal}
 use Rattle.esr_repo.specs.Log.{image_of, ticks, log_of}
 
 -- What sources tell: of the files of a place, an index name and a number, whether that place exists, and that no shard whose
--- place exists ever fails.
+-- place exists ever fails; and what targets tell: that none ever fails.
 pub record Telling : Type 0 where
   pub files : Bytes → Bytes → ℕ → Option (List (Bytes × Bytes))
   pub is_there : Bytes → Bytes → ℕ → Option Bool
   pub is_quiet : Bool
+  pub targets_quiet : Bool
 
 -- whether they tell them, and which they are
 abbrev pub known_by : Telling → Bytes → Bytes → ℕ → Bool
@@ -47,7 +48,7 @@ start_of telling size quiet l world =
       tells = is_some (now l);
       quiet = quiet;
       steady = steady_by telling;
-      sure_targets = false;
+      sure_targets = telling.targets_quiet;
       alone = true;
       world = world;
     }

@@ -10,6 +10,7 @@ use esr_depot::Depot;
 pub(crate) fn laws()
     ensures { Laws }
 {
+    esr_core::opened_worlds_track_restores();
     esr_core::opening_is_lawful();
     esr_core::lawful_image_is_kept();
     esr_core::shelf_is_determined();

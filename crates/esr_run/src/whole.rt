@@ -2,8 +2,10 @@
 ghost use Rattle.std.specs.Prelude.{◌≡◌, ◌⊎◌, ◌<◌, ◌≤◌, ◌^◌, ℕ, true, [], Some, None, OnOk, IsErr, vec_len, vec_capacity};
 ghost use Rattle.esr_desk.specs.Sources.{AreSources};
 ghost use Rattle.esr_repo.specs.Begun.{IsBegun};
-ghost use Rattle.esr_desk.specs.Once.{AreOnce};
-ghost use Rattle.esr_desk.specs.Shown.{AreShown};
+ghost use Rattle.esr_desk.specs.Once.{AreOnce, NoneTwice};
+ghost use Rattle.esr_core.specs.Tracked.{Tracked};
+ghost use Rattle.esr_core.specs.ReadTracked.{ReadTracked};
+ghost use Rattle.esr_run.specs.Counts.{AreShown};
 ghost use Rattle.esr_quiet.specs.Numbers.{HasNoTickets};
 ghost use Rattle.esr_complete.specs.Lines.{steps_of};
 ghost use Rattle.esr_repo.specs.Calm.{IsCalm};
@@ -69,6 +71,7 @@ fn carry_on<D: Depot, S: Sources, T: Targets, G: Gate, K: Told>(
     repo: Repo<D, K>,
     asked: &Asked,
     sources: &S,
+    targets: &T,
     gate: &G,
     moment: u64,
 ) -> (
@@ -78,13 +81,17 @@ fn carry_on<D: Depot, S: Sources, T: Targets, G: Gate, K: Told>(
 )
     requires fresh { repo ≡ [] }
     requires sources { AreSources K.start (S.files sources.now) (S.is_there sources.now) (S.is_quiet sources.now) }
+    requires sure { K.start.sure_targets ≡ T.is_quiet targets.now }
     requires size { asked.now.part_size ≡ K.start.part_size }
     requires sized { (1 ≤ asked.now.part_size) × (asked.now.part_size ≤ 2 ^ 30) }
     requires good { first_bad asked.now.script ≡ None }
     requires numbered { HasNoTickets K.start }
+    requires tracked { ReadTracked K.start.world }
+    requires ops { Tracked K.start.world }
     requires alone { K.start.alone ≡ true }
-    ensures shown { AreShown (record { stage = D.Stage.faults; fetch = D.Fetch.faults; shard = S.Shard.faults; target = T.Target.faults; made_for = λ h. (S.Shard.origin h).address }) K.start result.0 result.1 }
+    ensures shown { AreShown (record { stage = D.Stage.faults; fetch = D.Fetch.faults; shard = S.Shard.faults; target = T.Target.faults; made_for = λ h. (S.Shard.origin h).address; target_for = T.Target.made_for }) K.start result.0 result.1 }
     ensures once { AreOnce K.start result.0 }
+    ensures single { NoneTwice result.0 }
     ensures made { MadeFirst K.start (steps_of moment asked.now.script) [] result.0 }
     ensures done { OnOk result.2 (AreDone K.start moment asked.now.script [] result.0 ⊎ HasStopped result.0) }
 {
@@ -95,6 +102,7 @@ fn carry_on<D: Depot, S: Sources, T: Targets, G: Gate, K: Told>(
         &mut desk,
         lines,
         sources,
+        targets,
         gate,
         asked.part_size,
         moment,
@@ -109,25 +117,28 @@ fn run_told<D: Depot, S: Sources, T: Targets, G: Gate, K: Told>(
     opening: Opening<D>,
     asked: &Asked,
     sources: &S,
+    targets: &T,
     gate: &G,
     moment: u64,
 ) -> (Done<D>, Faults<D::Stage, D::Fetch, S::Shard, T::Target>)
     requires begun { IsBegun K.start K.clock K.past (D.look opening.depot)
-        (record { cluster = opening.cluster; root = opening.root; plan = opening.progress; next = opening.next.number }) }
+        (record { cluster = opening.cluster; root = opening.root; infos = opening.infos; plan = opening.progress; next = opening.next.number }) }
     requires counted { K.faults ≤ D.faults opening.depot }
     requires calm { K.start.quiet ≡ true → 2 ^ 41 ≤ (D.look opening.depot).sure }
     requires alone { K.start.alone ≡ true }
     requires sources { AreSources K.start (S.files sources.now) (S.is_there sources.now) (S.is_quiet sources.now) }
+    requires sure { K.start.sure_targets ≡ T.is_quiet targets.now }
     requires size { asked.now.part_size ≡ K.start.part_size }
     requires sized { (1 ≤ asked.now.part_size) × (asked.now.part_size ≤ 2 ^ 30) }
     requires good { first_bad asked.now.script ≡ None }
     ensures legal { LegalRun K.start K.clock (D.look result.0.depot) result.0.history }
     ensures past { IsPast K.start K.clock K.past (D.look result.0.depot) result.0.history }
-    ensures shown { AreShown (record { stage = D.Stage.faults; fetch = D.Fetch.faults; shard = S.Shard.faults; target = T.Target.faults; made_for = λ h. (S.Shard.origin h).address })
+    ensures shown { AreShown (record { stage = D.Stage.faults; fetch = D.Fetch.faults; shard = S.Shard.faults; target = T.Target.faults; made_for = λ h. (S.Shard.origin h).address; target_for = T.Target.made_for })
         K.start (log_of (D.look result.0.depot) K.clock result.0.history) result.1 }
     ensures counted { IsCounted K.faults (D.faults result.0.depot) result.0.history }
     ensures named { AreDeposedSo result.0.history }
     ensures once { AreOnce K.start (log_of (D.look result.0.depot) K.clock result.0.history) }
+    ensures single { NoneTwice (log_of (D.look result.0.depot) K.clock result.0.history) }
     ensures calm { IsCalm K.start.quiet (D.look result.0.depot).sure result.0.history }
     ensures made { MadeFirst K.start (steps_of moment asked.now.script) [] (log_of (D.look result.0.depot) K.clock result.0.history) }
     ensures done { (result.0.verdict.status ≡ 8) ⊎ (AreDone K.start moment asked.now.script [] (log_of (D.look result.0.depot) K.clock result.0.history) ⊎ HasStopped (log_of (D.look result.0.depot) K.clock result.0.history)) }
@@ -135,7 +146,7 @@ fn run_told<D: Depot, S: Sources, T: Targets, G: Gate, K: Told>(
 {
     let repo = Repo::<D, K>::from_opening(alloc, opening);
     let (repo, faults, carried) = carry_on::<D, S, T, G, K>(
-        alloc, repo, asked, sources, gate, moment,
+        alloc, repo, asked, sources, targets, gate, moment,
     );
     let (depot, history) = repo.into_parts();
     let verdict = verdict_after(alloc, carried, &asked.script, &history);
@@ -154,6 +165,7 @@ fn open_and_carry<D: Depot, S: Sources, T: Targets, G: Gate>(
     room: Vec<Fault<D::Stage, D::Fetch, S::Shard, T::Target>>,
     asked: &Asked,
     sources: &S,
+    targets: &T,
     gate: &G,
     moment: u64,
 ) -> (Done<D>, Faults<D::Stage, D::Fetch, S::Shard, T::Target>)
@@ -161,11 +173,11 @@ fn open_and_carry<D: Depot, S: Sources, T: Targets, G: Gate>(
     requires room { vec_len room < vec_capacity room }
     requires sized { (1 ≤ asked.now.part_size) × (asked.now.part_size ≤ 2 ^ 30) }
     requires good { first_bad asked.now.script ≡ None }
-    ensures run { IsUnopened (record { stage = D.Stage.faults; fetch = D.Fetch.faults; shard = S.Shard.faults; target = T.Target.faults; made_for = λ h. (S.Shard.origin h).address }) (record { files = S.files sources.now; is_there = S.is_there sources.now; is_quiet = S.is_quiet sources.now }) (D.look depot) (D.look result.0.depot) (D.faults depot) (D.faults result.0.depot) result.0.history result.1
-        ⊎ IsOpenedRun (record { stage = D.Stage.faults; fetch = D.Fetch.faults; shard = S.Shard.faults; target = T.Target.faults; made_for = λ h. (S.Shard.origin h).address }) (record { files = S.files sources.now; is_there = S.is_there sources.now; is_quiet = S.is_quiet sources.now }) asked.now.part_size moment asked.now.script (D.look depot) (D.look result.0.depot) result.0.history result.1 }
-    ensures complete { OpensWell (record { stage = D.Stage.faults; fetch = D.Fetch.faults; shard = S.Shard.faults; target = T.Target.faults; made_for = λ h. (S.Shard.origin h).address }) (record { files = S.files sources.now; is_there = S.is_there sources.now; is_quiet = S.is_quiet sources.now }) asked.now.part_size moment asked.now.script (D.look depot) (D.look result.0.depot) result.0.history result.1 result.0.verdict.status }
+    ensures run { IsUnopened (record { stage = D.Stage.faults; fetch = D.Fetch.faults; shard = S.Shard.faults; target = T.Target.faults; made_for = λ h. (S.Shard.origin h).address; target_for = T.Target.made_for }) (record { files = S.files sources.now; is_there = S.is_there sources.now; is_quiet = S.is_quiet sources.now; targets_quiet = T.is_quiet targets.now }) (D.look depot) (D.look result.0.depot) (D.faults depot) (D.faults result.0.depot) result.0.history result.1
+        ⊎ IsOpenedRun (record { stage = D.Stage.faults; fetch = D.Fetch.faults; shard = S.Shard.faults; target = T.Target.faults; made_for = λ h. (S.Shard.origin h).address; target_for = T.Target.made_for }) (record { files = S.files sources.now; is_there = S.is_there sources.now; is_quiet = S.is_quiet sources.now; targets_quiet = T.is_quiet targets.now }) asked.now.part_size moment asked.now.script (D.look depot) (D.look result.0.depot) result.0.history result.1 }
+    ensures complete { OpensWell (record { stage = D.Stage.faults; fetch = D.Fetch.faults; shard = S.Shard.faults; target = T.Target.faults; made_for = λ h. (S.Shard.origin h).address; target_for = T.Target.made_for }) (record { files = S.files sources.now; is_there = S.is_there sources.now; is_quiet = S.is_quiet sources.now; targets_quiet = T.is_quiet targets.now }) asked.now.part_size moment asked.now.script (D.look depot) (D.look result.0.depot) result.0.history result.1 result.0.verdict.status }
     ensures told { IsVerdict result.0.verdict.status result.0.verdict.text
-        (IsOpenCause (record { stage = D.Stage.faults; fetch = D.Fetch.faults; shard = S.Shard.faults; target = T.Target.faults; made_for = λ h. (S.Shard.origin h).address }) (record { files = S.files sources.now; is_there = S.is_there sources.now; is_quiet = S.is_quiet sources.now }) asked.now.part_size moment (D.look depot) (D.look result.0.depot) (D.faults depot) (D.faults result.0.depot) asked.now.script result.0.history result.1) }
+        (IsOpenCause (record { stage = D.Stage.faults; fetch = D.Fetch.faults; shard = S.Shard.faults; target = T.Target.faults; made_for = λ h. (S.Shard.origin h).address; target_for = T.Target.made_for }) (record { files = S.files sources.now; is_there = S.is_there sources.now; is_quiet = S.is_quiet sources.now; targets_quiet = T.is_quiet targets.now }) asked.now.part_size moment (D.look depot) (D.look result.0.depot) (D.faults depot) (D.faults result.0.depot) asked.now.script result.0.history result.1) }
     ensures counted { IsCounted (D.faults depot) (D.faults result.0.depot) result.0.history }
     ensures named { AreDeposedSo result.0.history }
 {
@@ -174,7 +186,7 @@ fn open_and_carry<D: Depot, S: Sources, T: Targets, G: Gate>(
     match open_container(alloc, depot) {
         Ok(opening) => {
             only_now(&opening.depot);
-            run_told::<D, S, T, G, Brand>(alloc, opening, asked, sources, gate, moment)
+            run_told::<D, S, T, G, Brand>(alloc, opening, asked, sources, targets, gate, moment)
         }
         Err((depot, refusal)) => {
             let (stop, fetch) = stop_of(refusal);
@@ -190,15 +202,16 @@ fn carry_out<D: Depot, S: Sources, T: Targets, G: Gate, I: Lines>(
     script: &mut I,
     depot: D,
     sources: &S,
+    targets: &T,
     gate: &G,
     moment: u64,
 ) -> (Done<D>, Faults<D::Stage, D::Fetch, S::Shard, T::Target>)
-    ensures run { IsRunOf (record { stage = D.Stage.faults; fetch = D.Fetch.faults; shard = S.Shard.faults; target = T.Target.faults; made_for = λ h. (S.Shard.origin h).address }) (record { words = words.now; script = I.left script.old; faults = I.faults script.old; moment = moment }) (record { files = S.files sources.now; is_there = S.is_there sources.now; is_quiet = S.is_quiet sources.now })
+    ensures run { IsRunOf (record { stage = D.Stage.faults; fetch = D.Fetch.faults; shard = S.Shard.faults; target = T.Target.faults; made_for = λ h. (S.Shard.origin h).address; target_for = T.Target.made_for }) (record { words = words.now; script = I.left script.old; faults = I.faults script.old; moment = moment }) (record { files = S.files sources.now; is_there = S.is_there sources.now; is_quiet = S.is_quiet sources.now; targets_quiet = T.is_quiet targets.now })
         (D.look depot) (D.look result.0.depot) (D.faults depot) (D.faults result.0.depot) result.0.history result.1 }
     ensures told { IsVerdict result.0.verdict.status result.0.verdict.text
-        (IsCauseOf (record { stage = D.Stage.faults; fetch = D.Fetch.faults; shard = S.Shard.faults; target = T.Target.faults; made_for = λ h. (S.Shard.origin h).address }) (record { words = words.now; script = I.left script.old; faults = I.faults script.old; moment = moment }) (record { files = S.files sources.now; is_there = S.is_there sources.now; is_quiet = S.is_quiet sources.now }) (I.faults script.new)
+        (IsCauseOf (record { stage = D.Stage.faults; fetch = D.Fetch.faults; shard = S.Shard.faults; target = T.Target.faults; made_for = λ h. (S.Shard.origin h).address; target_for = T.Target.made_for }) (record { words = words.now; script = I.left script.old; faults = I.faults script.old; moment = moment }) (record { files = S.files sources.now; is_there = S.is_there sources.now; is_quiet = S.is_quiet sources.now; targets_quiet = T.is_quiet targets.now }) (I.faults script.new)
         (D.look depot) (D.look result.0.depot) (D.faults depot) (D.faults result.0.depot) result.0.history result.1) }
-    ensures complete { (old new : ℕ) → IsComplete (record { stage = D.Stage.faults; fetch = D.Fetch.faults; shard = S.Shard.faults; target = T.Target.faults; made_for = λ h. (S.Shard.origin h).address }) (record { words = words.now; script = I.left script.old; faults = I.faults script.old; moment = moment }) (record { files = S.files sources.now; is_there = S.is_there sources.now; is_quiet = S.is_quiet sources.now }) (I.faults script.new) (D.look depot) (D.look result.0.depot) old new result.0.history result.1 result.0.verdict.status }
+    ensures complete { (old new : ℕ) → IsComplete (record { stage = D.Stage.faults; fetch = D.Fetch.faults; shard = S.Shard.faults; target = T.Target.faults; made_for = λ h. (S.Shard.origin h).address; target_for = T.Target.made_for }) (record { words = words.now; script = I.left script.old; faults = I.faults script.old; moment = moment }) (record { files = S.files sources.now; is_there = S.is_there sources.now; is_quiet = S.is_quiet sources.now; targets_quiet = T.is_quiet targets.now }) (I.faults script.new) (D.look depot) (D.look result.0.depot) old new result.0.history result.1 result.0.verdict.status }
     ensures reader { IsReadFor (wanted_of (job_of words.now)) (I.left script.old) (I.left script.new) (I.faults script.old) (I.faults script.new) }
     ensures counted { IsCounted (D.faults depot) (D.faults result.0.depot) result.0.history }
     ensures named { AreDeposedSo result.0.history }
@@ -209,7 +222,9 @@ fn carry_out<D: Depot, S: Sources, T: Targets, G: Gate, I: Lines>(
         Err(stop) => return (ended_at(alloc, depot, &stop), Seq::new(alloc)),
     };
     match room_for_one(alloc) {
-        Ok(room) => open_and_carry::<D, S, T, G>(alloc, depot, room, &asked, sources, gate, moment),
+        Ok(room) => open_and_carry::<D, S, T, G>(
+            alloc, depot, room, &asked, sources, targets, gate, moment,
+        ),
         Err(AllocError) => (ended_at(alloc, depot, &Stop::Memory), Seq::new(alloc)),
     }
 }
@@ -225,24 +240,24 @@ pub fn run<R: Wait, D: Depot, S: Sources, T: Targets, G: Gate, I: Lines, O: Out>
     script: &mut I,
     depot: D,
     sources: &S,
-    _targets: &T,
+    targets: &T,
     gate: &G,
     moment: u64,
     out: &mut O,
 ) -> Ended<D, S::Shard, T::Target>
-    ensures legal { IsRunOf (record { stage = D.Stage.faults; fetch = D.Fetch.faults; shard = S.Shard.faults; target = T.Target.faults; made_for = λ h. (S.Shard.origin h).address }) (record { words = words.now; script = I.left script.old; faults = I.faults script.old; moment = moment }) (record { files = S.files sources.now; is_there = S.is_there sources.now; is_quiet = S.is_quiet sources.now })
+    ensures legal { IsRunOf (record { stage = D.Stage.faults; fetch = D.Fetch.faults; shard = S.Shard.faults; target = T.Target.faults; made_for = λ h. (S.Shard.origin h).address; target_for = T.Target.made_for }) (record { words = words.now; script = I.left script.old; faults = I.faults script.old; moment = moment }) (record { files = S.files sources.now; is_there = S.is_there sources.now; is_quiet = S.is_quiet sources.now; targets_quiet = T.is_quiet targets.now })
         (D.look depot) (D.look result.depot) (D.faults depot) (D.faults result.depot) result.history result.faults }
     ensures end { IsEndOf result.status (O.contents out.old) (O.contents out.new) (O.faults out.old) (O.faults out.new)
-        (IsCauseOf (record { stage = D.Stage.faults; fetch = D.Fetch.faults; shard = S.Shard.faults; target = T.Target.faults; made_for = λ h. (S.Shard.origin h).address }) (record { words = words.now; script = I.left script.old; faults = I.faults script.old; moment = moment }) (record { files = S.files sources.now; is_there = S.is_there sources.now; is_quiet = S.is_quiet sources.now }) (I.faults script.new)
+        (IsCauseOf (record { stage = D.Stage.faults; fetch = D.Fetch.faults; shard = S.Shard.faults; target = T.Target.faults; made_for = λ h. (S.Shard.origin h).address; target_for = T.Target.made_for }) (record { words = words.now; script = I.left script.old; faults = I.faults script.old; moment = moment }) (record { files = S.files sources.now; is_there = S.is_there sources.now; is_quiet = S.is_quiet sources.now; targets_quiet = T.is_quiet targets.now }) (I.faults script.new)
         (D.look depot) (D.look result.depot) (D.faults depot) (D.faults result.depot) result.history result.faults) }
-    ensures complete { IsComplete (record { stage = D.Stage.faults; fetch = D.Fetch.faults; shard = S.Shard.faults; target = T.Target.faults; made_for = λ h. (S.Shard.origin h).address }) (record { words = words.now; script = I.left script.old; faults = I.faults script.old; moment = moment }) (record { files = S.files sources.now; is_there = S.is_there sources.now; is_quiet = S.is_quiet sources.now }) (I.faults script.new) (D.look depot) (D.look result.depot) (O.faults out.old) (O.faults out.new) result.history result.faults result.status }
+    ensures complete { IsComplete (record { stage = D.Stage.faults; fetch = D.Fetch.faults; shard = S.Shard.faults; target = T.Target.faults; made_for = λ h. (S.Shard.origin h).address; target_for = T.Target.made_for }) (record { words = words.now; script = I.left script.old; faults = I.faults script.old; moment = moment }) (record { files = S.files sources.now; is_there = S.is_there sources.now; is_quiet = S.is_quiet sources.now; targets_quiet = T.is_quiet targets.now }) (I.faults script.new) (D.look depot) (D.look result.depot) (O.faults out.old) (O.faults out.new) result.history result.faults result.status }
     ensures reader { IsReadFor (wanted_of (job_of words.now)) (I.left script.old) (I.left script.new) (I.faults script.old) (I.faults script.new) }
     ensures counted { IsCounted (D.faults depot) (D.faults result.depot) result.history }
     ensures named { AreDeposedSo result.history }
     ensures targets { result.targets ≡ [] }
 {
     let (done, faults) = carry_out::<D, S, T, G, I>(
-        alloc, words, script, depot, sources, gate, moment,
+        alloc, words, script, depot, sources, targets, gate, moment,
     );
     let status = print_verdict(out, &done.verdict);
     Ended {

@@ -10,8 +10,6 @@ mod parts;
 mod program;
 mod refusal;
 mod script;
-#[cfg(test)]
-mod tests;
 mod words;
 
 pub use item::{AskedIndex, AskedIndices, Item, Script, ScriptLine};

@@ -3,8 +3,6 @@
 
 mod bytes;
 mod seq;
-#[cfg(test)]
-mod tests;
 mod text;
 
 pub use bytes::Bytes;

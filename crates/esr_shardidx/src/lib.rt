@@ -10,8 +10,6 @@ mod parts;
 mod physical;
 mod reading;
 mod snap;
-#[cfg(test)]
-mod tests;
 mod writing;
 
 pub use entry::{FileEntries, FileEntry};

@@ -46,8 +46,11 @@ once_did s old new who step ok (Ok x) unnoted d h = added s old new who step (ok
 once_did s old new who step ok (Err e) unnoted d h = added_or s old new who step e unnoted d h
 
 -- nothing was committed yet
-pub none_once : (s : Start) → AreOnce s []
+none_once : (s : Start) → AreOnce s []
 none_once s front back m name is = absurd (no_end front m back is)
+
+pub begins_once : (s : Start) (log : List Moment) → log ≡ [] → AreOnce s log
+begins_once s log none = subst (λ (l : List Moment). AreOnce s l) (sym none) (none_once s)
 
 same_name : (a b : BlobName) → CommitStep a ≡ CommitStep b → a ≡ b
 same_name a b e = cc

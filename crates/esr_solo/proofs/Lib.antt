@@ -1,3 +1,5 @@
 pub mod Showing
 pub mod Committing
+pub mod Single
 pub mod Stepping
+pub mod Reading

@@ -1,7 +1,7 @@
 -- Failures stay shown as the history goes on.
-use Rattle.std.proofs.Common.{◌≡◌, ◌⊎◌, ℕ, List, [], ◌∷◌, ◌++◌, length, Some, Result, Ok, Err, refl, sym, ap, ◌∙◌, subst, inl, inr, ⊎_elim, append_assoc}
+use Rattle.std.proofs.Common.{◌≡◌, ◌⊎◌, ℕ, ◌≤◌, List, [], ◌∷◌, ◌++◌, length, Option, Some, None, Result, Ok, Err, refl, sym, ap, ◌∙◌, subst, inl, inr, ⊎_elim, append_assoc}
 use Rattle.esr_model.specs.Values.{Has}
-use Rattle.esr_core.specs.Entry.{Step, Reply, Refused, Refusal, FailedStep, HasEnded, Why, Moment}
+use Rattle.esr_core.specs.Entry.{Step, Reply, Refused, Refusal, FailedStep, ReadStep, ReadFails, HasEnded, Why, Moment}
 use Rattle.esr_desk.specs.declared.fault.Fault.{Fault}
 use Rattle.esr_desk.specs.declared.fault.By.{By}
 use Rattle.esr_desk.specs.declared.fault.By.TheVariants as by
@@ -9,7 +9,9 @@ use Rattle.esr_desk.specs.declared.refusal.StepRefusal.{StepRefusal}
 use Rattle.esr_desk.specs.declared.refusal.StepRefusal.TheVariants as steps
 use Rattle.esr_desk.specs.Refusals.{refusal_of}
 use Rattle.esr_desk.specs.Start.{Start}
-use Rattle.esr_desk.specs.Shown.{Counts, IsShown, IsListed, IsReport, IsShownAt, AreShown}
+use Rattle.esr_desk.specs.Shown.{Counts, IsShown, IsListed, IsReport, IsShownAt}
+use Rattle.esr_reading.specs.Shown as reading
+use Rattle.esr_reading.specs.AllShown.{IsReadReport, IsReadShownAt, AreAllShown}
 use Rattle.esr_repo.specs.Next.{Added, AddedOr, Did}
 use Rattle.esr_solo.specs.Kept.{listed_at}
 
@@ -66,6 +68,25 @@ longer log m place who why r =
       reply = r.reply;
     }
 
+-- so does one of a restore
+longer_read : (log : List Moment) (m : Moment) (place who : ℕ) (why : Why) → IsReadReport log place who why → IsReadReport (log ++ m ∷ []) place who why
+longer_read log m place who why r =
+    record {
+      front = r.front;
+      moment = r.moment;
+      back = r.back ++ m ∷ [];
+      is = ap (λ (l : List Moment). l ++ m ∷ []) r.is ∙ append_assoc r.front (r.moment ∷ r.back) (m ∷ []);
+      place_is = r.place_is;
+      ticket = r.ticket;
+      of = r.of;
+      step = r.step;
+      reply = r.reply;
+    }
+
+longer_either : (log : List Moment) (m : Moment) (place who : ℕ) (why : Why) → IsReport log place who why ⊎ IsReadReport log place who why → IsReport (log ++ m ∷ []) place who why ⊎ IsReadReport (log ++ m ∷ []) place who why
+longer_either log m place who why (inl r) = inl (longer log m place who why r)
+longer_either log m place who why (inr r) = inr (longer_read log m place who why r)
+
 -- a longer list of objects shows as much
 more_listed : {S F H T : Type 0} (faults more : List (Fault S F H T)) (place : ℕ) (b : By S F H T) → IsListed faults place b → IsListed (faults ++ more) place b
 more_listed faults more place (by.Object object) h = has_left faults more (record { entry = Some place; object = object }) h
@@ -83,22 +104,78 @@ entry_of place (by.Object object) fault (inr h) = absurd h
 entry_of place by.Entry fault h = absurd h
 entry_of place by.Nothing fault h = absurd h
 
+-- ---- which entries report a failure
+
+-- why, by its step
+abbrev pub why_told : Step → Option Why
+why_told (FailedStep why) = Some why
+why_told (ReadStep (ReadFails why)) = Some why
+why_told step = None
+
+-- a step by its answer, which reports no failure where it was made
+abbrev pub IsNoReportOf : Step → Reply → Type 0
+IsNoReportOf step reply = (why : Why) → why_told step ≡ Some why → reply ≡ HasEnded → ⊥
+
 abbrev pub IsNoReport : Moment → Type 0
-IsNoReport m = (why : Why) → m.entry.step ≡ FailedStep why → m.entry.reply ≡ HasEnded → ⊥
+IsNoReport m = IsNoReportOf m.entry.step m.entry.reply
+
+-- of a unit, or of a restore
+abbrev pub IsOfNoUnit : Moment → Type 0
+IsOfNoUnit m = (why : Why) → m.entry.step ≡ FailedStep why → m.entry.reply ≡ HasEnded → ⊥
+
+abbrev pub IsOfNoRestore : Moment → Type 0
+IsOfNoRestore m = (why : Why) → m.entry.step ≡ ReadStep (ReadFails why) → m.entry.reply ≡ HasEnded → ⊥
+
+no_unit : (m : Moment) → IsNoReport m → IsOfNoUnit m
+no_unit m none why step = none why (ap why_told step)
+
+no_restore : (m : Moment) → IsNoReport m → IsOfNoRestore m
+no_restore m none why step = none why (ap why_told step)
+
+-- ---- the causes of units and of restores
+
+abbrev pub AreUnitsShown : {S F H T : Type 0} → Counts S F H T → Start → List Moment → List (Fault S F H T) → Type 0
+AreUnitsShown c s log faults = (place who : ℕ) (why : Why) (report : IsReport log place who why) → IsShownAt c s report.front place who why faults
+
+abbrev pub AreRestoresShown : {S F H T : Type 0} → reading.Counts F T → Start → List Moment → List (Fault S F H T) → Type 0
+AreRestoresShown r s log faults = (place who : ℕ) (why : Why) (report : IsReadReport log place who why) → IsReadShownAt r s report.front place who why faults
+
+-- what was listed is listed still
+abbrev pub AreListedStill : {S F H T : Type 0} → List (Fault S F H T) → List (Fault S F H T) → Type 0
+AreListedStill {S} {F} {H} {T} faults more = (place : ℕ) (b : By S F H T) → IsListed faults place b → IsListed more place b
+
+-- one more entry, which reports no failure of a unit
+units_go_on : {S F H T : Type 0} (c : Counts S F H T) (s : Start) (log : List Moment) (m : Moment) (faults more : List (Fault S F H T)) → AreListedStill faults more → IsOfNoUnit m → AreUnitsShown c s log faults → AreUnitsShown c s (log ++ m ∷ []) more
+units_go_on c s log m faults more still none h place who why r =
+    ⊎_elim
+    (λ d. absurd (none why (ap (λ (x : Moment). x.entry.step) d.1 ∙ r.step) (ap (λ (x : Moment). x.entry.reply) d.1 ∙ r.reply)))
+    (λ d. let (b, shown, listed) = h place who why (record { front = r.front; moment = r.moment; back = d.0; is = d.1; place_is = r.place_is; of = r.of; step = r.step; reply = r.reply }) in (b, shown, still place b listed))
+    (last_or log m r.front r.moment r.back r.is)
+
+-- or none of a restore
+restores_go_on : {S F H T : Type 0} (c : reading.Counts F T) (s : Start) (log : List Moment) (m : Moment) (faults more : List (Fault S F H T)) → AreListedStill faults more → IsOfNoRestore m → AreRestoresShown c s log faults → AreRestoresShown c s (log ++ m ∷ []) more
+restores_go_on c s log m faults more still none h place who why r =
+    ⊎_elim
+    (λ d. absurd (none why (ap (λ (x : Moment). x.entry.step) d.1 ∙ r.step) (ap (λ (x : Moment). x.entry.reply) d.1 ∙ r.reply)))
+    (λ d. let (b, shown, listed) = h place who why (record { front = r.front; moment = r.moment; back = d.0; is = d.1; place_is = r.place_is; ticket = r.ticket; of = r.of; step = r.step; reply = r.reply }) in (b, shown, still place b listed))
+    (last_or log m r.front r.moment r.back r.is)
 
 -- an entry that reports no failure
-pub goes_on : {S F H T : Type 0} (c : Counts S F H T) (s : Start) (log : List Moment) (m : Moment) (faults : List (Fault S F H T)) → IsNoReport m → AreShown c s log faults → AreShown c s (log ++ m ∷ []) faults
-goes_on c s log m faults none h =
+pub goes_on : {S F H T : Type 0} {r : reading.Counts F T} (c : Counts S F H T) (s : Start) (log : List Moment) (m : Moment) (faults : List (Fault S F H T)) → IsNoReport m → AreAllShown c r s log faults → AreAllShown c r s (log ++ m ∷ []) faults
+goes_on {r = r} c s log m faults none h =
     record {
-      shown = λ place who why r. ⊎_elim
-          (λ d. absurd (none why (ap (λ (x : Moment). x.entry.step) d.1 ∙ r.step) (ap (λ (x : Moment). x.entry.reply) d.1 ∙ r.reply)))
-          (λ d. h.shown place who why (record { front = r.front; moment = r.moment; back = d.0; is = d.1; place_is = r.place_is; of = r.of; step = r.step; reply = r.reply }))
-          (last_or log m r.front r.moment r.back r.is);
-      listed = λ fault there. let (place, who, why, e, r) = h.listed fault there in (place, who, why, e, longer log m place who why r);
+      units = units_go_on c s log m faults faults (λ place b listed. listed) (no_unit m none) h.units;
+      restores = restores_go_on r s log m faults faults (λ place b listed. listed) (no_restore m none) h.restores;
+      listed = λ fault there. let (place, who, why, e, report) = h.listed fault there in (place, who, why, e, longer_either log m place who why report);
     }
+
+-- ---- a report whose cause is shown
 
 same_why : (a b : Why) → FailedStep a ≡ FailedStep b → a ≡ b
 same_why a b e = cc
+
+same_read_why : (a b : Why) → ReadStep (ReadFails a) ≡ ReadStep (ReadFails b) → a ≡ b
+same_read_why a b e = cc
 
 -- what shows the report that is made now
 now_shown : {S F H T : Type 0} (c : Counts S F H T) (s : Start) (log : List Moment) (faults : List (Fault S F H T)) (who0 : ℕ) (why0 : Why) (b : By S F H T) → IsShown c s log who0 why0 b
@@ -110,51 +187,95 @@ now_shown {S} {F} {H} {T} c s log faults who0 why0 b shown front place who why i
     (subst (λ (y : Why). IsShownAt {S = S} {F = F} {H = H} {T = T} c s log (length log) who0 y (faults ++ listed_at (length log) b)) same
     (b, shown, own_listed faults (length log) b))))
 
--- a report whose cause is shown
-pub reports : {S F H T : Type 0} (c : Counts S F H T) (s : Start) (log : List Moment) (m : Moment) (faults : List (Fault S F H T)) (why : Why) (b : By S F H T) → m.entry.step ≡ FailedStep why → m.entry.reply ≡ HasEnded
-    → IsShown c s log m.entry.who why b → AreShown c s log faults → AreShown c s (log ++ m ∷ []) (faults ++ listed_at (length log) b)
-reports {S} {F} {H} {T} c s log m faults why b step reply shown h =
+now_read_shown : {S F H T : Type 0} (c : reading.Counts F T) (s : Start) (log : List Moment) (faults : List (Fault S F H T)) (who0 : ℕ) (why0 : Why) (b : By S F H T) → reading.IsShown c s log who0 why0 b
+    → (front : List Moment) (place who : ℕ) (why : Why) → front ≡ log → length front ≡ place → who0 ≡ who → why0 ≡ why → IsReadShownAt c s front place who why (faults ++ listed_at (length log) b)
+now_read_shown {S} {F} {H} {T} c s log faults who0 why0 b shown front place who why is at of same =
+    subst (λ (l : List Moment). IsReadShownAt {S = S} {F = F} {H = H} {T = T} c s l place who why (faults ++ listed_at (length log) b)) (sym is)
+    (subst (λ (n : ℕ). IsReadShownAt {S = S} {F = F} {H = H} {T = T} c s log n who why (faults ++ listed_at (length log) b)) (sym (ap length is) ∙ at)
+    (subst (λ (k : ℕ). IsReadShownAt {S = S} {F = F} {H = H} {T = T} c s log (length log) k why (faults ++ listed_at (length log) b)) of
+    (subst (λ (y : Why). IsReadShownAt {S = S} {F = F} {H = H} {T = T} c s log (length log) who0 y (faults ++ listed_at (length log) b)) same
+    (b, shown, own_listed faults (length log) b))))
+
+-- the objects of before, and that of the report
+abbrev IsOfReport : {S F H T : Type 0} → List Moment → Fault S F H T → Type 0
+IsOfReport log fault = (place who : ℕ) × (why : Why) × (fault.entry ≡ Some place) × (IsReport log place who why ⊎ IsReadReport log place who why)
+
+listed_with : {S F H T : Type 0} (log : List Moment) (m : Moment) (faults : List (Fault S F H T)) (why : Why) (b : By S F H T) → ((fault : Fault S F H T) → Has faults fault → IsOfReport log fault)
+    → IsReport (log ++ m ∷ []) (length log) m.entry.who why ⊎ IsReadReport (log ++ m ∷ []) (length log) m.entry.who why
+    → (fault : Fault S F H T) → Has (faults ++ listed_at (length log) b) fault → IsOfReport (log ++ m ∷ []) fault
+listed_with log m faults why b h now fault there =
+    ⊎_elim
+    (λ (old : Has faults fault). let (place, who, why1, e, report) = h fault old in (place, who, why1, e, longer_either log m place who why1 report))
+    (λ (new : Has (listed_at (length log) b) fault). (length log, m.entry.who, why, entry_of (length log) b fault new, now))
+    (has_either faults (listed_at (length log) b) fault there)
+
+no_read_failed : (why other : Why) (m : Moment) → m.entry.step ≡ FailedStep why → m.entry.step ≡ ReadStep (ReadFails other) → ⊥
+no_read_failed why other m e d = never (sym e ∙ d)
+  where
+    never : FailedStep why ≡ ReadStep (ReadFails other) → ⊥
+    never x = cc
+
+-- of a unit
+pub reports : {S F H T : Type 0} {r : reading.Counts F T} (c : Counts S F H T) (s : Start) (log : List Moment) (m : Moment) (faults : List (Fault S F H T)) (why : Why) (b : By S F H T) → m.entry.step ≡ FailedStep why → m.entry.reply ≡ HasEnded
+    → IsShown c s log m.entry.who why b → AreAllShown c r s log faults → AreAllShown c r s (log ++ m ∷ []) (faults ++ listed_at (length log) b)
+reports {r = r} c s log m faults why b step reply shown h =
     record {
-      shown = λ place who why1 r. ⊎_elim
-          (λ d. now_shown c s log faults m.entry.who why b shown r.front place who why1 d.0 r.place_is (ap (λ (x : Moment). x.entry.who) d.1 ∙ r.of) (same_why why why1 (sym step ∙ ap (λ (x : Moment). x.entry.step) d.1 ∙ r.step)))
-          (λ d. let (b1, shown1, listed1) = h.shown place who why1 (record { front = r.front; moment = r.moment; back = d.0; is = d.1; place_is = r.place_is; of = r.of; step = r.step; reply = r.reply }) in
+      units = λ place who why1 report. ⊎_elim
+          (λ d. now_shown c s log faults m.entry.who why b shown report.front place who why1 d.0 report.place_is (ap (λ (x : Moment). x.entry.who) d.1 ∙ report.of) (same_why why why1 (sym step ∙ ap (λ (x : Moment). x.entry.step) d.1 ∙ report.step)))
+          (λ d. let (b1, shown1, listed1) = h.units place who why1 (record { front = report.front; moment = report.moment; back = d.0; is = d.1; place_is = report.place_is; of = report.of; step = report.step; reply = report.reply }) in
           (b1, shown1, more_listed faults (listed_at (length log) b) place b1 listed1))
-          (last_or log m r.front r.moment r.back r.is);
-      listed = λ fault there. ⊎_elim
-          (λ (old : Has faults fault). let (place, who, why1, e, r) = h.listed fault old in (place, who, why1, e, longer log m place who why1 r))
-          (λ (new : Has (listed_at (length log) b) fault). (length log, m.entry.who, why, entry_of (length log) b fault new, record { front = log; moment = m; back = []; is = refl; place_is = refl; of = refl; step = step; reply = reply }))
-          (has_either faults (listed_at (length log) b) fault there);
+          (last_or log m report.front report.moment report.back report.is);
+      restores = restores_go_on r s log m faults (faults ++ listed_at (length log) b) (more_listed faults (listed_at (length log) b)) (λ other is _. no_read_failed why other m step is) h.restores;
+      listed = listed_with log m faults why b h.listed (inl (record { front = log; moment = m; back = []; is = refl; place_is = refl; of = refl; step = step; reply = reply }));
+    }
+
+-- of a restore
+pub read_reports : {S F H T : Type 0} {u : Counts S F H T} (c : reading.Counts F T) (s : Start) (log : List Moment) (m : Moment) (faults : List (Fault S F H T)) (why : Why) (b : By S F H T) → 1 ≤ m.entry.who → m.entry.step ≡ ReadStep (ReadFails why) → m.entry.reply ≡ HasEnded
+    → reading.IsShown c s log m.entry.who why b → AreAllShown u c s log faults → AreAllShown u c s (log ++ m ∷ []) (faults ++ listed_at (length log) b)
+read_reports {u = u} c s log m faults why b ticket step reply shown h =
+    record {
+      units = units_go_on u s log m faults (faults ++ listed_at (length log) b) (more_listed faults (listed_at (length log) b)) (λ other is _. no_read_failed other why m is step) h.units;
+      restores = λ place who why1 report. ⊎_elim
+          (λ d. now_read_shown c s log faults m.entry.who why b shown report.front place who why1 d.0 report.place_is (ap (λ (x : Moment). x.entry.who) d.1 ∙ report.of) (same_read_why why why1 (sym step ∙ ap (λ (x : Moment). x.entry.step) d.1 ∙ report.step)))
+          (λ d. let (b1, shown1, listed1) = h.restores place who why1 (record { front = report.front; moment = report.moment; back = d.0; is = d.1; place_is = report.place_is; ticket = report.ticket; of = report.of; step = report.step; reply = report.reply }) in
+          (b1, shown1, more_listed faults (listed_at (length log) b) place b1 listed1))
+          (last_or log m report.front report.moment report.back report.is);
+      listed = listed_with log m faults why b h.listed (inr (record { front = log; moment = m; back = []; is = refl; place_is = refl; ticket = ticket; of = refl; step = step; reply = reply }));
     }
 
 -- nothing was reported yet
-pub none_shown : {S F H T : Type 0} (c : Counts S F H T) (s : Start) → AreShown c s [] []
-none_shown c s =
+none_shown : {S F H T : Type 0} (c : Counts S F H T) (r : reading.Counts F T) (s : Start) → AreAllShown c r s [] []
+none_shown c r s =
     record {
-      shown = λ place who why r. absurd (no_end r.front r.moment r.back r.is);
+      units = λ place who why report. absurd (no_end report.front report.moment report.back report.is);
+      restores = λ place who why report. absurd (no_end report.front report.moment report.back report.is);
       listed = λ fault there. absurd there;
     }
 
--- a step by its answer, which reports no failure where it was made
-abbrev pub IsNoReportOf : Step → Reply → Type 0
-IsNoReportOf step reply = (why : Why) → step ≡ FailedStep why → reply ≡ HasEnded → ⊥
+pub begins : {S F H T : Type 0} (c : Counts S F H T) (r : reading.Counts F T) (s : Start) (log : List Moment) (faults : List (Fault S F H T)) → log ≡ [] → faults ≡ [] → AreAllShown c r s log faults
+begins {S} {F} {H} {T} c r s log faults none empty =
+    subst (λ (l : List Moment). AreAllShown {S = S} {F = F} {H = H} {T = T} c r s l faults) (sym none)
+    (subst (λ (f : List (Fault S F H T)). AreAllShown {S = S} {F = F} {H = H} {T = T} c r s [] f) (sym empty) (none_shown c r s))
 
-added : {S F H T : Type 0} (c : Counts S F H T) (s : Start) (old new : List Moment) (who : ℕ) (step : Step) (reply : Reply) (faults : List (Fault S F H T)) → IsNoReportOf step reply → Added s old new who step reply → AreShown c s old faults → AreShown c s new faults
-added {S} {F} {H} {T} c s old new who step reply faults none a h =
-    subst (λ (l : List Moment). AreShown {S = S} {F = F} {H = H} {T = T} c s l faults) (sym a.is) (goes_on c s old (record { entry = record { who = who; step = step; reply = reply }; image = a.image }) faults none h)
+-- ---- a step of the repository
+
+added : {S F H T : Type 0} {r : reading.Counts F T} (c : Counts S F H T) (s : Start) (old new : List Moment) (who : ℕ) (step : Step) (reply : Reply) (faults : List (Fault S F H T)) → IsNoReportOf step reply → Added s old new who step reply → AreAllShown c r s old faults → AreAllShown c r s new faults
+added {S} {F} {H} {T} {r} c s old new who step reply faults none a h =
+    subst (λ (l : List Moment). AreAllShown {S = S} {F = F} {H = H} {T = T} c r s l faults) (sym a.is) (goes_on c s old (record { entry = record { who = who; step = step; reply = reply }; image = a.image }) faults none h)
 
 refused_no : (step : Step) (refusal : Refusal) → IsNoReportOf step (Refused refusal)
 refused_no step refusal why e d = cc
 
-pub added_or : {S F H T : Type 0} (c : Counts S F H T) (s : Start) (old new : List Moment) (who : ℕ) (step : Step) (e : StepRefusal) (faults : List (Fault S F H T)) → AddedOr s old new who step e → AreShown c s old faults → AreShown c s new faults
-added_or {S} {F} {H} {T} c s old new who step steps.Memory faults same h = subst (λ (l : List Moment). AreShown {S = S} {F = F} {H = H} {T = T} c s l faults) (sym same) h
+pub added_or : {S F H T : Type 0} {r : reading.Counts F T} (c : Counts S F H T) (s : Start) (old new : List Moment) (who : ℕ) (step : Step) (e : StepRefusal) (faults : List (Fault S F H T)) → AddedOr s old new who step e → AreAllShown c r s old faults → AreAllShown c r s new faults
+added_or {S} {F} {H} {T} {r} c s old new who step steps.Memory faults same h = subst (λ (l : List Moment). AreAllShown {S = S} {F = F} {H = H} {T = T} c r s l faults) (sym same) h
 added_or c s old new who step steps.TurnsSpent faults never h = absurd never
 added_or c s old new who step (steps.Refused refusal) faults a h = added c s old new who step (Refused (refusal_of refusal)) faults (refused_no step (refusal_of refusal)) a h
 
 -- a step of a repository that isn't the report of a failure
-pub did : {X S F H T : Type 0} (c : Counts S F H T) (s : Start) (old new : List Moment) (who : ℕ) (step : Step) (ok : X → Reply) (result : Result X StepRefusal) (faults : List (Fault S F H T)) → ((x : X) → IsNoReportOf step (ok x)) → Did s old new who step ok result → AreShown c s old faults → AreShown c s new faults
+pub did : {X S F H T : Type 0} {r : reading.Counts F T} (c : Counts S F H T) (s : Start) (old new : List Moment) (who : ℕ) (step : Step) (ok : X → Reply) (result : Result X StepRefusal) (faults : List (Fault S F H T)) → ((x : X) → IsNoReportOf step (ok x)) → Did s old new who step ok result → AreAllShown c r s old faults → AreAllShown c r s new faults
 did c s old new who step ok (Ok x) faults none d h = added c s old new who step (ok x) faults (none x) d h
 did c s old new who step ok (Err e) faults none d h = added_or c s old new who step e faults d h
 
 -- the same objects
-pub same_objects : {S F H T : Type 0} (c : Counts S F H T) (s : Start) (log : List Moment) (faults same : List (Fault S F H T)) → same ≡ faults → AreShown c s log faults → AreShown c s log same
-same_objects {S} {F} {H} {T} c s log faults same e h = subst (λ (l : List (Fault S F H T)). AreShown {S = S} {F = F} {H = H} {T = T} c s log l) (sym e) h
+pub same_objects : {S F H T : Type 0} {r : reading.Counts F T} (c : Counts S F H T) (s : Start) (log : List Moment) (faults same : List (Fault S F H T)) → same ≡ faults → AreAllShown c r s log faults → AreAllShown c r s log same
+same_objects {S} {F} {H} {T} {r} c s log faults same e h = subst (λ (l : List (Fault S F H T)). AreAllShown {S = S} {F = F} {H = H} {T = T} c r s log l) (sym e) h

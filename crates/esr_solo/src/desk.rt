@@ -11,7 +11,7 @@ use crate::Solo;
 use crate::faults::keep;
 use crate::solo::{TURNS, turns};
 use esr_depot::{Commit, Depot};
-use esr_desk::{By, Desk, Look, Named, StepRefusal, Unit, Why};
+use esr_desk::{By, Desk, Look, Named, StepRefusal, Unit, Why, each_ticket_is_new};
 use esr_names::{BlobName, Id};
 use esr_progress::Command;
 use esr_repo::Told;
@@ -47,6 +47,7 @@ impl<D: Depot, K: Told, H: Shard, T: Target> Desk for Solo<D, K, H, T> {
 
     fn take(&mut self, alloc: Global) -> Result<Option<Unit>, StepRefusal> {
         self.repo.is_legal();
+        each_ticket_is_new();
         if self.left == 0 {
             return Err(StepRefusal::TurnsSpent);
         }

@@ -3,6 +3,7 @@
 
 mod desk;
 mod faults;
+mod restoring;
 mod solo;
 
 pub use solo::Solo;

@@ -12,8 +12,6 @@ mod source;
 mod std_stream;
 mod stream;
 mod target;
-#[cfg(test)]
-mod tests;
 mod unread;
 
 pub use address::Address;

@@ -57,6 +57,7 @@ begun_same name (Err (steps.Refused (refusals.GenerationsSpent number))) t other
 begun_same name (Err (steps.Refused (refusals.TermsSpent number))) t other = refl
 begun_same name (Err (steps.Refused (refusals.IdsSpent next))) t other = refl
 begun_same name (Err (steps.Refused (refusals.NameTaken name2))) t other = refl
+begun_same name (Err (steps.Refused (refusals.NoSnapshot at))) t other = refl
 begun_same name (Err (steps.Refused (refusals.BeingDeleted op))) t other = refl
 
 -- a history that went on, without the ticket

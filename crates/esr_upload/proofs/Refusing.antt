@@ -58,6 +58,7 @@ refusal_same (steps.Refused (refusals.GenerationsSpent spent)) refusal is = cc
 refusal_same (steps.Refused (refusals.TermsSpent spent)) refusal is = cc
 refusal_same (steps.Refused (refusals.IdsSpent next)) refusal is = cc
 refusal_same (steps.Refused (refusals.NameTaken name)) refusal is = cc
+refusal_same (steps.Refused (refusals.NoSnapshot at)) refusal is = cc
 refusal_same (steps.Refused (refusals.BeingDeleted op)) refusal is = cc
 
 damaged_memory : {S F H T : Type 0} (at : ShardId) (base : Option Id) (refusal : StepRefusal) → damaged_by {S = S} {F = F} {H = H} {T = T} at base ≡ Err refusal → steps.Memory ≡ refusal
@@ -213,6 +214,7 @@ module _ {S F H T : Type 0} (c : Counts S F H T) (files : Option (List (Bytes ×
   refused_shows index number (steps.Refused (refusals.NameTaken name)) cause work was is =
       let taken : Cause S F H T = record { why = whys.NameTaken name; by = shows.Entry } in
       let same : taken ≡ cause = cc in subst Caused same (had_last log who was.0.0 (NameTaken (name_of name)) was.0.1, tt)
+  refused_shows index number (steps.Refused (refusals.NoSnapshot at)) cause work was is = cc
   refused_shows index number (steps.Refused (refusals.BeingDeleted op)) cause work was is = cc
 
   -- the fault of the base, under its name

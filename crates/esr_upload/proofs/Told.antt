@@ -14,12 +14,14 @@ use Rattle.esr_hash.specs.Prints.{print_of}
 use Rattle.esr_source.specs.Files.{bytes_at}
 use Rattle.esr_parts.specs.Reads.{Tells}
 use Rattle.esr_shardidx.specs.declared.entry.FileEntry.{FileEntry as CodeEntry}
+use Rattle.esr_core.specs.Entry.{Moment}
 use Rattle.esr_desk.specs.Start.{Start}
+use Rattle.esr_desk.specs.Told.{TellsAll}
 use Rattle.esr_upload.specs.Stored.{HasPrint, Stored}
 use Rattle.esr_source.specs.declared.files.ListedFile.{ListedFile}
 use Rattle.esr_reuse.specs.declared.reuse.ReadFile.{ReadFile}
 use Rattle.esr_upload.specs.Surveyed.{Surveyed}
-use Rattle.esr_upload.specs.Pieces.{PutParts}
+use Rattle.esr_upload.specs.Pieces.{PutParts, PartsTold}
 
 -- all that is told was read
 read_all : (told left : Option Bytes) (bytes : Bytes) (e : CodeEntry) → HasPrint told e → Consumes told left bytes → IsAtEnd left ⊎ (length bytes ≡ e.print.len) → Tells told bytes
@@ -45,6 +47,12 @@ module _ (s : Start) (told left_old left : Option Bytes) (hasher : Hasher) (at :
         print = own;
         is = put.is (ap (λ (p : Print). p.len) own);
       }
+
+-- the ticket tells each step on a file that had the print of its entry
+pub all_told : (s : Start) (log : List Moment) (who : ℕ) (hasher : Hasher) (e : CodeEntry) (second : Print) → PartsTold s log who hasher e.print.len → ((m : List ℕ) → HasFed hasher m → second ≡ print_of m) → e.print ≡ second → TellsAll s log who
+all_told s log who hasher e second parts hashed same =
+    let own : print_of parts.bytes ≡ e.print = sym (hashed parts.bytes parts.fed) ∙ sym same in
+    parts.tells (ap (λ (p : Print). p.len) own)
 
 -- a told file has the print of its entry when it is read again
 told_print : (told : Option Bytes) (bytes : Bytes) (e : CodeEntry) (second : Print) → HasPrint told e → Tells told bytes → second ≡ print_of bytes → IfSome told (λ b. e.print ≡ second)

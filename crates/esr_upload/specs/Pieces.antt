@@ -8,6 +8,7 @@ use Rattle.esr_model.specs.Names.{BlobName}
 use Rattle.esr_model.specs.Values.{Bytes}
 use Rattle.esr_model.specs.Uploads.{file_blobs}
 use Rattle.esr_core.specs.World.{Ticket}
+use Rattle.esr_core.specs.Entry.{Moment}
 use Rattle.esr_core.specs.After.{committing}
 use Rattle.esr_core.specs.Allowed.{IsMetadata}
 use Rattle.esr_hash.specs.declared.hasher.Hasher.{Hasher}
@@ -21,6 +22,7 @@ use Rattle.esr_desk.specs.declared.refusal.StepRefusal.TheVariants.{Memory}
 use Rattle.esr_desk.specs.Start.{Start, told_bytes}
 use Rattle.esr_desk.specs.Conditions.{CanCommit}
 use Rattle.esr_desk.specs.Taken.{after_writes}
+use Rattle.esr_desk.specs.Told.{TellsAll}
 use Rattle.esr_upload.specs.declared.trouble.Trouble.{Trouble}
 use Rattle.esr_upload.specs.declared.trouble.Trouble.TheVariants as troubles
 
@@ -63,3 +65,9 @@ pub record PutParts (s : Start) (left_old left_new : Option Bytes) (hasher : Has
   pub fed : HasFed hasher bytes
   pub ends : IsAtEnd left_new ⊎ (length bytes ≡ e.print.len)
   pub is : length bytes ≡ e.print.len → new ≡ after_writes s (file_blobs at.index.number at.number (entry_of e) bytes) old
+
+-- where the file had this length, the ticket tells each step that it made
+pub record PartsTold (s : Start) (log : List Moment) (who : ℕ) (hasher : Hasher) (len : ℕ) : Type 0 where
+  pub bytes : Bytes
+  pub fed : HasFed hasher bytes
+  pub tells : length bytes ≡ len → TellsAll s log who

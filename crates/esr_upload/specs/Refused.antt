@@ -20,16 +20,12 @@ use Rattle.esr_upload.specs.Worked.{Worked}
 -- the unit is of a shard
 abbrev pub IsOfShard : Work → Type 0
 IsOfShard (works.Shard uuid shard index place) = Unit {0}
-IsOfShard (works.Finalize info shards) = ⊥
-IsOfShard works.Drop = ⊥
-IsOfShard (works.RestoreShard uuid shard index place) = ⊥
+IsOfShard work = ⊥
 
 -- the files that are told of the unit's shard
 abbrev pub told_of : (Bytes → Bytes → ℕ → Option (List (Bytes × Bytes))) → Work → Option (List (Bytes × Bytes))
 told_of files (works.Shard uuid shard index place) = files place index shard.number
-told_of files (works.Finalize info shards) = None
-told_of files works.Drop = None
-told_of files (works.RestoreShard uuid shard index place) = None
+told_of files work = None
 
 -- the shard is done, and the ticket has ended
 pub record HasDone (s : Start) (old new : List Moment) (who : ℕ) : Type 0 where

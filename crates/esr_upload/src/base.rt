@@ -5,6 +5,8 @@ ghost use Rattle.esr_core.specs.After.{fetching};
 ghost use Rattle.esr_formats.specs.Ids.{number_of};
 ghost use Rattle.esr_formats.specs.Shards.{shard_index_of};
 ghost use Rattle.esr_desk.specs.Start.{ticket_of, told_bytes};
+ghost use Rattle.esr_desk.specs.Once.{HasMadeNone};
+ghost use Rattle.esr_desk.specs.Told.{TellsAll};
 ghost use Rattle.esr_upload.specs.Base.{HasBase};
 ghost use Rattle.esr_upload.specs.Stored.{IsAt};
 ghost use Rattle.esr_upload.specs.Trouble.{Shown};
@@ -33,7 +35,9 @@ fn fetch_bytes<Q: Desk>(
     requires at { IsAt (ticket_of Q.start (Q.seen desk.old) ticket) shard.index.number shard.number }
     requires base { (ticket_of Q.start (Q.seen desk.old) ticket).base ≡ Some base.number }
     requires few { shard.number < 1024 }
+    requires new { HasMadeNone (Q.seen desk.old) ticket }
     ensures fetched { IfOk result (λ b. ticket_of Q.start (Q.seen desk.new) ticket ≡ fetching (IndexName shard.index.number shard.number base.number) (told_bytes Q.start b) (ticket_of Q.start (Q.seen desk.old) ticket)) }
+    ensures tells { IfOk result (λ b. TellsAll Q.start (Q.seen desk.new) ticket) }
     ensures trouble { IfErr result (Shown Q.Stage.faults Q.Fetch.faults 0 (Some []) Q.start (Q.seen desk.new) ticket) }
     ensures went { Went Q.start (Q.seen desk.old) (Q.seen desk.new) ticket }
     ensures holds { Q.holds desk.new ticket }
@@ -61,7 +65,9 @@ fn fetch_index<Q: Desk>(
     requires at { IsAt (ticket_of Q.start (Q.seen desk.old) ticket) shard.index.number shard.number }
     requires base { (ticket_of Q.start (Q.seen desk.old) ticket).base ≡ Some base.number }
     requires few { shard.number < 1024 }
+    requires new { HasMadeNone (Q.seen desk.old) ticket }
     ensures based { IfOk result (λ v. HasBase Q.start (ticket_of Q.start (Q.seen desk.old) ticket) (ticket_of Q.start (Q.seen desk.new) ticket) shard.index.number shard.number (shard_index_of v)) }
+    ensures tells { IfOk result (λ v. TellsAll Q.start (Q.seen desk.new) ticket) }
     ensures trouble { IfErr result (Shown Q.Stage.faults Q.Fetch.faults 0 (Some []) Q.start (Q.seen desk.new) ticket) }
     ensures went { Went Q.start (Q.seen desk.old) (Q.seen desk.new) ticket }
     ensures holds { Q.holds desk.new ticket }
@@ -86,7 +92,9 @@ pub fn read_base<Q: Desk>(
     requires at { IsAt (ticket_of Q.start (Q.seen desk.old) ticket) shard.index.number shard.number }
     requires base { (ticket_of Q.start (Q.seen desk.old) ticket).base ≡ option_map number_of base }
     requires few { shard.number < 1024 }
+    requires new { HasMadeNone (Q.seen desk.old) ticket }
     ensures based { IfOk result (λ v. HasBase Q.start (ticket_of Q.start (Q.seen desk.old) ticket) (ticket_of Q.start (Q.seen desk.new) ticket) shard.index.number shard.number (shard_index_of v)) }
+    ensures tells { IfOk result (λ v. TellsAll Q.start (Q.seen desk.new) ticket) }
     ensures trouble { IfErr result (Shown Q.Stage.faults Q.Fetch.faults 0 (Some []) Q.start (Q.seen desk.new) ticket) }
     ensures went { Went Q.start (Q.seen desk.old) (Q.seen desk.new) ticket }
     ensures holds { Q.holds desk.new ticket }

@@ -4,7 +4,8 @@ ghost use Rattle.esr_formats.specs.Names.{name_of};
 ghost use Rattle.esr_hash.specs.Fed.{fed_count, HasFed};
 ghost use Rattle.esr_source.specs.Files.{bytes_at};
 ghost use Rattle.esr_desk.specs.Start.{ticket_of};
-ghost use Rattle.esr_upload.specs.Pieces.{IsOfStart, CanStore, PutPart, PutParts};
+ghost use Rattle.esr_desk.specs.Told.{TellsAll};
+ghost use Rattle.esr_upload.specs.Pieces.{IsOfStart, CanStore, PutPart, PutParts, PartsTold};
 ghost use Rattle.esr_upload.specs.Stored.{MayStore, HasPrint, Stored};
 ghost use Rattle.esr_upload.specs.Trouble.{Shown};
 ghost use Rattle.esr_upload.specs.Worked.{Went};
@@ -56,12 +57,14 @@ fn put_part<Q: Desk, S: Shard, G: Gate>(
     requires may { CanStore Q.start (ticket_of Q.start (Q.seen desk.old) ticket) name }
     requires bound { fed_count hasher.old + size < 2 ^ 61 }
     requires buffer { 0 < length buf.old }
+    requires tells { TellsAll Q.start (Q.seen desk.old) ticket }
     ensures listed { S.listed shard.new ≡ S.listed shard.old }
     ensures origin { S.origin shard.new ≡ S.origin shard.old }
     ensures steady { (S.origin shard.old).is_sure ≡ true → S.faults shard.new ≡ S.faults shard.old }
     ensures buffer { length buf.new ≡ length buf.old }
     ensures put { IfOk result (PutPart Q.start (S.left shard.old) (S.left shard.new) hasher.old hasher.new (ticket_of Q.start (Q.seen desk.old) ticket) (ticket_of Q.start (Q.seen desk.new) ticket) (name_of name) size) }
     ensures faults { S.faults shard.old ≤ S.faults shard.new }
+    ensures tells { IfOk result (λ full. full ≡ true → TellsAll Q.start (Q.seen desk.new) ticket) }
     ensures trouble { IfErr result (Shown Q.Stage.faults Q.Fetch.faults (S.faults shard.new) (S.origin shard.old).files Q.start (Q.seen desk.new) ticket) }
     ensures went { Went Q.start (Q.seen desk.old) (Q.seen desk.new) ticket }
     ensures holds { Q.holds desk.new ticket }
@@ -98,12 +101,14 @@ fn put_parts<Q: Desk, S: Shard, G: Gate>(
     requires short { entry.now.print.len < 2 ^ 60 }
     requires fresh { HasFed hasher.old [] }
     requires buffer { 0 < length buf.old }
+    requires tells { TellsAll Q.start (Q.seen desk.old) ticket }
     ensures listed { S.listed shard.new ≡ S.listed shard.old }
     ensures origin { S.origin shard.new ≡ S.origin shard.old }
     ensures steady { (S.origin shard.old).is_sure ≡ true → S.faults shard.new ≡ S.faults shard.old }
     ensures buffer { length buf.new ≡ length buf.old }
     ensures put { OnOk result (PutParts Q.start (S.left shard.old) (S.left shard.new) hasher.new at entry.now (ticket_of Q.start (Q.seen desk.old) ticket) (ticket_of Q.start (Q.seen desk.new) ticket)) }
     ensures faults { S.faults shard.old ≤ S.faults shard.new }
+    ensures tells { OnOk result (PartsTold Q.start (Q.seen desk.new) ticket hasher.new entry.now.print.len) }
     ensures trouble { IfErr result (Shown Q.Stage.faults Q.Fetch.faults (S.faults shard.new) (S.origin shard.old).files Q.start (Q.seen desk.new) ticket) }
     ensures went { Went Q.start (Q.seen desk.old) (Q.seen desk.new) ticket }
     ensures holds { Q.holds desk.new ticket }
@@ -139,12 +144,14 @@ pub fn store_file<Q: Desk, S: Shard, G: Gate>(
     requires place { IfSome (S.origin shard.old).files (λ fs. file < length fs) }
     requires print { HasPrint (bytes_at (S.origin shard.old).files file) entry.now }
     requires buffer { 0 < length buf.old }
+    requires tells { TellsAll Q.start (Q.seen desk.old) ticket }
     ensures listed { S.listed shard.new ≡ S.listed shard.old }
     ensures origin { S.origin shard.new ≡ S.origin shard.old }
     ensures steady { (S.origin shard.old).is_sure ≡ true → S.faults shard.new ≡ S.faults shard.old }
     ensures buffer { length buf.new ≡ length buf.old }
     ensures stored { OnOk result (Stored Q.start (bytes_at (S.origin shard.old).files file) at.index.number at.number entry.now (ticket_of Q.start (Q.seen desk.old) ticket) (ticket_of Q.start (Q.seen desk.new) ticket)) }
     ensures faults { S.faults shard.old ≤ S.faults shard.new }
+    ensures tells { OnOk result (TellsAll Q.start (Q.seen desk.new) ticket) }
     ensures trouble { IfErr result (Shown Q.Stage.faults Q.Fetch.faults (S.faults shard.new) (S.origin shard.old).files Q.start (Q.seen desk.new) ticket) }
     ensures went { Went Q.start (Q.seen desk.old) (Q.seen desk.new) ticket }
     ensures holds { Q.holds desk.new ticket }

@@ -3,6 +3,7 @@ ghost use Rattle.std.specs.Prelude.{◌≡◌, ◌+◌, ◌-◌, ◌<◌, ◌≤
 ghost use Rattle.esr_core.specs.Steps.{Drew};
 ghost use Rattle.esr_source.specs.Files.{bytes_at};
 ghost use Rattle.esr_desk.specs.Start.{ticket_of};
+ghost use Rattle.esr_desk.specs.Told.{TellsAll};
 ghost use Rattle.esr_upload.specs.Entries.{is_new, new_count, len_planned, entry_at, ReadOnce, Reads, StoredOne, StoredAll};
 ghost use Rattle.esr_upload.specs.Stored.{IsAt, AreBelow};
 ghost use Rattle.esr_upload.specs.Trouble.{Shown};
@@ -93,6 +94,7 @@ fn store_one<Q: Desk, S: Shard, G: Gate>(
     requires place { IfSome (S.origin shard.old).files (λ fs. file < length fs) }
     requires read { ReadOnce (bytes_at (S.origin shard.old).files file) plan.now.print }
     requires buffer { 0 < length buf.old }
+    requires tells { TellsAll Q.start (Q.seen desk.old) ticket }
     ensures listed { S.listed shard.new ≡ S.listed shard.old }
     ensures origin { S.origin shard.new ≡ S.origin shard.old }
     ensures steady { (S.origin shard.old).is_sure ≡ true → S.faults shard.new ≡ S.faults shard.old }
@@ -101,6 +103,7 @@ fn store_one<Q: Desk, S: Shard, G: Gate>(
     ensures below { IfOk result (λ e. AreBelow (ticket_of Q.start (Q.seen desk.new) ticket) (name.number + is_new plan.now.reused)) }
     ensures stored { IfOk result (λ e. StoredOne Q.start (bytes_at (S.origin shard.old).files file) at.index.number at.number plan.now e (ticket_of Q.start (Q.seen desk.old) ticket) (ticket_of Q.start (Q.seen desk.new) ticket)) }
     ensures faults { S.faults shard.old ≤ S.faults shard.new }
+    ensures tells { IfOk result (λ e. TellsAll Q.start (Q.seen desk.new) ticket) }
     ensures trouble { IfErr result (Shown Q.Stage.faults Q.Fetch.faults (S.faults shard.new) (S.origin shard.old).files Q.start (Q.seen desk.new) ticket) }
     ensures went { Went Q.start (Q.seen desk.old) (Q.seen desk.new) ticket }
     ensures holds { Q.holds desk.new ticket }
@@ -138,12 +141,14 @@ pub fn store_files<Q: Desk, S: Shard, G: Gate>(
     requires size { (1 ≤ part_size) × (part_size ≤ 2 ^ 30) }
     requires reads { Reads (S.origin shard.old).files (S.listed shard.old) plans.now }
     requires buffer { 0 < length buf.old }
+    requires tells { TellsAll Q.start (Q.seen desk.old) ticket }
     ensures listed { S.listed shard.new ≡ S.listed shard.old }
     ensures origin { S.origin shard.new ≡ S.origin shard.old }
     ensures steady { (S.origin shard.old).is_sure ≡ true → S.faults shard.new ≡ S.faults shard.old }
     ensures buffer { length buf.new ≡ length buf.old }
     ensures below { IfOk result (λ es. AreBelow (ticket_of Q.start (Q.seen desk.new) ticket) (first.number + new_count plans.now)) }
     ensures stored { IfOk result (λ es. StoredAll Q.start (S.origin shard.old).files at.index.number at.number part_size first.number plans.now es (ticket_of Q.start (Q.seen desk.old) ticket) (ticket_of Q.start (Q.seen desk.new) ticket)) }
+    ensures tells { IfOk result (λ es. TellsAll Q.start (Q.seen desk.new) ticket) }
     ensures trouble { IfErr result (Shown Q.Stage.faults Q.Fetch.faults (S.faults shard.new) (S.origin shard.old).files Q.start (Q.seen desk.new) ticket) }
     ensures went { Went Q.start (Q.seen desk.old) (Q.seen desk.new) ticket }
     ensures holds { Q.holds desk.new ticket }

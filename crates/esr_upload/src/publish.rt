@@ -8,6 +8,7 @@ ghost use Rattle.esr_shardidx.specs.Indices.{with_snap_of};
 ghost use Rattle.esr_formats.specs.Shards.{shard_snap_of, shard_snap_kind, shard_index_of, shard_index_kind};
 ghost use Rattle.esr_results.specs.Results.{result_of};
 ghost use Rattle.esr_desk.specs.Start.{ticket_of};
+ghost use Rattle.esr_desk.specs.Told.{TellsAll};
 ghost use Rattle.esr_desk.specs.Conditions.{CanEnd};
 ghost use Rattle.esr_desk.specs.Grew.{GrewBy};
 ghost use Rattle.esr_desk.specs.Taken.{after_writes};
@@ -39,8 +40,10 @@ fn put_snap<Q: Desk>(
     requires few { at.number < 1024 }
     requires uuid { (ticket_of Q.start (Q.seen desk.old) ticket).uuid ≡ snap.now.uuid.number }
     requires unnoted { Has (ticket_of Q.start (Q.seen desk.old) ticket).noted (SnapName at.index.number at.number snap.now.uuid.number) → ⊥ }
+    requires tells { TellsAll Q.start (Q.seen desk.old) ticket }
     ensures ok { OnOk result (ticket_of Q.start (Q.seen desk.new) ticket ≡ after_writes Q.start (snap_blob at snap.now ∷ []) (ticket_of Q.start (Q.seen desk.old) ticket)) }
     ensures back { OnOk result (ReadsBack shard_snap_kind (shard_snap_of snap.now)) }
+    ensures tells { OnOk result (TellsAll Q.start (Q.seen desk.new) ticket) }
     ensures trouble { IfErr result (Shown Q.Stage.faults Q.Fetch.faults 0 (Some []) Q.start (Q.seen desk.new) ticket) }
     ensures went { Went Q.start (Q.seen desk.old) (Q.seen desk.new) ticket }
     ensures holds { Q.holds desk.new ticket }
@@ -65,8 +68,10 @@ fn put_index<Q: Desk>(
     requires few { at.number < 1024 }
     requires drew { Drew (ticket_of Q.start (Q.seen desk.old) ticket) generation.number }
     requires unnoted { Has (ticket_of Q.start (Q.seen desk.old) ticket).noted (IndexName at.index.number at.number generation.number) → ⊥ }
+    requires tells { TellsAll Q.start (Q.seen desk.old) ticket }
     ensures ok { OnOk result (ticket_of Q.start (Q.seen desk.new) ticket ≡ after_writes Q.start (index_blob at generation index.now ∷ []) (ticket_of Q.start (Q.seen desk.old) ticket)) }
     ensures back { OnOk result (ReadsBack shard_index_kind (shard_index_of index.now)) }
+    ensures tells { OnOk result (TellsAll Q.start (Q.seen desk.new) ticket) }
     ensures trouble { IfErr result (Shown Q.Stage.faults Q.Fetch.faults 0 (Some []) Q.start (Q.seen desk.new) ticket) }
     ensures went { Went Q.start (Q.seen desk.old) (Q.seen desk.new) ticket }
     ensures holds { Q.holds desk.new ticket }
@@ -94,6 +99,7 @@ fn publish<Q: Desk>(
     requires files { AreBelow (ticket_of Q.start (Q.seen desk.old) ticket) outcome.now.generation.number }
     requires ready { ReadsBack shard_snap_kind (shard_snap_of snap.now) → ReadsBack shard_index_kind (shard_index_of index.now)
         → CanEnd Q.start (after_writes Q.start (last_blobs outcome.now.shard outcome.now.generation snap.now index.now) (ticket_of Q.start (Q.seen desk.old) ticket)) (result_of outcome.now) }
+    requires tells { TellsAll Q.start (Q.seen desk.old) ticket }
     ensures ok { OnOk result (HasDone Q.start (Q.seen desk.old) (Q.seen desk.new) ticket) }
     ensures trouble { IfErr result (Shown Q.Stage.faults Q.Fetch.faults 0 (Some []) Q.start (Q.seen desk.new) ticket) }
     ensures went { IfErr result (λ e. Went Q.start (Q.seen desk.old) (Q.seen desk.new) ticket) }
@@ -132,6 +138,7 @@ pub fn finish<Q: Desk>(
     requires ahead { are_snap_files [] entries ≡ false → BadBase Q.start (Q.seen desk.old) ticket }
     requires ready { ReadsBack shard_snap_kind (shard_snap_of (record { files = entries; uuid = uuid })) → ReadsBack shard_index_kind (shard_index_of (with_snap_of base.now (record { files = entries; uuid = uuid })))
         → CanEnd Q.start (after_writes Q.start (last_blobs outcome.now.shard outcome.now.generation (record { files = entries; uuid = uuid }) (with_snap_of base.now (record { files = entries; uuid = uuid }))) (ticket_of Q.start (Q.seen desk.old) ticket)) (result_of outcome.now) }
+    requires tells { TellsAll Q.start (Q.seen desk.old) ticket }
     ensures ok { OnOk result (HasDone Q.start (Q.seen desk.old) (Q.seen desk.new) ticket) }
     ensures trouble { IfErr result (Shown Q.Stage.faults Q.Fetch.faults 0 (Some []) Q.start (Q.seen desk.new) ticket) }
     ensures went { IfErr result (λ e. Went Q.start (Q.seen desk.old) (Q.seen desk.new) ticket) }

@@ -4,6 +4,8 @@ ghost use Rattle.esr_formats.specs.Ids.{number_of};
 ghost use Rattle.esr_formats.specs.Shards.{shard_index_of};
 ghost use Rattle.esr_shardidx.specs.Indices.{has_uuid};
 ghost use Rattle.esr_desk.specs.Start.{ticket_of};
+ghost use Rattle.esr_desk.specs.Once.{HasMadeNone};
+ghost use Rattle.esr_desk.specs.Told.{TellsAll};
 ghost use Rattle.esr_desk.specs.Taken.{Took};
 ghost use Rattle.esr_desk.specs.Sources.{AreSources};
 ghost use Rattle.esr_desk.specs.Grew.{GrewBy};
@@ -45,7 +47,9 @@ fn base_of<Q: Desk>(
     requires uuid { (ticket_of Q.start (Q.seen desk.old) ticket).uuid ≡ uuid.number }
     requires base { (ticket_of Q.start (Q.seen desk.old) ticket).base ≡ option_map number_of base }
     requires few { at.number < 1024 }
+    requires new { HasMadeNone (Q.seen desk.old) ticket }
     ensures based { IfOk result (HasIndex Q.start at.index.number at.number uuid (ticket_of Q.start (Q.seen desk.old) ticket) (ticket_of Q.start (Q.seen desk.new) ticket)) }
+    ensures tells { IfOk result (λ v. TellsAll Q.start (Q.seen desk.new) ticket) }
     ensures trouble { IfErr result (λ e. (n : ℕ) (files : Option (List (List ℕ × List ℕ))) → Shown Q.Stage.faults Q.Fetch.faults n files Q.start (Q.seen desk.new) ticket e) }
     ensures went { Went Q.start (Q.seen desk.old) (Q.seen desk.new) ticket }
     ensures holds { Q.holds desk.new ticket }
@@ -104,6 +108,7 @@ fn store<Q: Desk, S: Shard, G: Gate>(
     requires size { part_size ≡ Q.start.part_size }
     requires sized { (1 ≤ part_size) × (part_size ≤ 2 ^ 30) }
     requires buffer { 0 < length buf.old }
+    requires tells { TellsAll Q.start (Q.seen desk.old) ticket }
     ensures ok { OnOk result (HasDone Q.start (Q.seen desk.old) (Q.seen desk.new) ticket) }
     ensures trouble { IfErr result (Shown Q.Stage.faults Q.Fetch.faults (S.faults shard.new) (S.origin shard.old).files Q.start (Q.seen desk.new) ticket) }
     ensures untold { IfErr result (IsChangeUntold Q.start (ticket_of Q.start (Q.seen desk.new) ticket)) }
@@ -144,6 +149,7 @@ fn work<Q: Desk, S: Shard, G: Gate>(
     requires few { at.number < 1024 }
     requires size { part_size ≡ Q.start.part_size }
     requires sized { (1 ≤ part_size) × (part_size ≤ 2 ^ 30) }
+    requires new { HasMadeNone (Q.seen desk.old) ticket }
     ensures ok { OnOk result (HasDone Q.start (Q.seen desk.old) (Q.seen desk.new) ticket) }
     ensures trouble { IfErr result (Shown Q.Stage.faults Q.Fetch.faults (S.faults shard.new) (S.origin shard.old).files Q.start (Q.seen desk.new) ticket) }
     ensures untold { IfErr result (IsChangeUntold Q.start (ticket_of Q.start (Q.seen desk.new) ticket)) }
@@ -186,6 +192,7 @@ pub fn run_unit<Q: Desk<Shard = S::Shard>, S: Sources, G: Gate>(
 ) -> Result<(), UnitRefusal>
     requires mine { Q.holds desk.old unit.now.ready.ticket }
     requires fresh { Took Q.start (Q.seen desk.old) unit.now }
+    requires new { HasMadeNone (Q.seen desk.old) unit.now.ready.ticket }
     requires work { IsOfShard unit.now.ready.work }
     requires sources { AreSources Q.start (S.files sources.now) (S.is_there sources.now) (S.is_quiet sources.now) }
     requires size { part_size ≡ Q.start.part_size }

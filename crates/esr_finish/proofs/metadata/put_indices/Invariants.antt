@@ -2,6 +2,7 @@ use Rattle.std.proofs.Common.{map, take}
 use Rattle.esr_model.specs.Values.{IndexRef}
 use Rattle.esr_formats.specs.Refs.{ref_of_code}
 use Rattle.esr_desk.specs.Start.{formats_of}
+use Rattle.esr_desk.specs.Told.{TellsAll}
 use Rattle.esr_finish.specs.Blobs.{index_blob}
 use Rattle.esr_finish.specs.Ticket.{Puts}
 use Rattle.esr_finish.specs.Went.{Went}
@@ -14,6 +15,7 @@ invariant-loop-index g l =
     let now = g.Q.Desk.seen l.desk in
     record {
       puts : Puts s old now l.ticket (map (λ (r : IndexRef). index_blob (formats_of s) l.info-inside.uuid.number r) (map ref_of_code (take l.index-index l.index-items)));
+      tells : TellsAll s now l.ticket;
       went : Went s old now l.ticket;
       holds : g.Q.Desk.holds l.desk l.ticket;
     }

@@ -12,6 +12,7 @@ use Rattle.esr_finish.specs.Ticket.{Puts}
 use Rattle.esr_finish.proofs.Runs.{went_not}
 use Rattle.esr_finish.proofs.Blobs.{info_blob_is}
 use Rattle.esr_finish.proofs.Writing.{may_commit}
+use Rattle.esr_finish.specs.Ticket.{IsUnnoted}
 use Rattle.esr_finish.proofs.metadata.put_info.Goals as goal
 
 pub returns-in_err-text-clause-went : goal.returns-in_err-text-clause-went
@@ -34,3 +35,8 @@ returns-clause-ok g c =
     let s = g.Q.Desk.start in
     let is = info_blob_is s c.args.info.now c.info.inside.uuid c.as_slice.result.now (ap (λ (i : Info). i.uuid) c.info.view_is) (c.as_slice.ensures ∙ c.in_ok-text.ensures.text) in
     on_ok_weaker c.put.result (λ puts. subst (λ (b : BlobName × Bytes). Puts s (g.Q.Desk.seen c.args.desk.now) (g.Q.Desk.seen c.put.new.desk) c.args.ticket (b ∷ [])) is puts) c.put.ensures.ok
+
+pub put-requires-clause-new : goal.put-requires-clause-new
+put-requires-clause-new g c κs within =
+    let t = ticket_of g.Q.Desk.start (g.Q.Desk.seen c.args.desk.now) c.args.ticket in
+    subst (λ (i : Info). IsUnnoted t (Snap i.uuid.number)) (sym c.info.view_is) c.requires.new

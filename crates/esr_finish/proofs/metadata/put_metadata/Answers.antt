@@ -1,4 +1,8 @@
 use Rattle.esr_finish.proofs.Runs.{went_on}
+use Rattle.esr_model.specs.Names.{Snap}
+use Rattle.esr_formats.specs.Infos.{info_of_code}
+use Rattle.esr_desk.specs.Start.{ticket_of}
+use Rattle.esr_finish.proofs.Naming.{none_unnoted, global_new, indices_new}
 use Rattle.esr_finish.proofs.metadata.put_metadata.Goals as goal
 
 pub returns-in_err-put_global-clause-went : goal.returns-in_err-put_global-clause-went
@@ -15,3 +19,14 @@ returns-clause-went g c =
     let global = g.Q.Desk.seen c.put_global.new.desk in
     let new = g.Q.Desk.seen c.put_indices.new.desk in
     went_on s old global new who (went_on s old info global who c.put_info.ensures.went c.put_global.ensures.went) c.put_indices.ensures.went
+
+pub put_info-requires-clause-new : goal.put_info-requires-clause-new
+put_info-requires-clause-new g c κs within = none_unnoted (ticket_of g.Q.Desk.start (g.Q.Desk.seen c.args.desk.now) c.args.ticket) (Snap c.args.info.now.uuid.number) c.requires.new
+
+pub put_global-requires-clause-new : goal.put_global-requires-clause-new
+put_global-requires-clause-new g c κs within = global_new g.Q.Desk.start (g.Q.Desk.seen c.args.desk.now) (g.Q.Desk.seen c.put_info.new.desk) c.args.ticket (info_of_code c.args.info.now) c.requires.new c.in_ok-put_info.ensures.ok
+
+pub put_indices-requires-clause-new : goal.put_indices-requires-clause-new
+put_indices-requires-clause-new g c κs within =
+    let seen = g.Q.Desk.seen in
+    indices_new g.Q.Desk.start (seen c.args.desk.now) (seen c.put_info.new.desk) (seen c.put_global.new.desk) c.args.ticket (info_of_code c.args.info.now) c.requires.new c.in_ok-put_info.ensures.ok c.in_ok-put_global.ensures.ok

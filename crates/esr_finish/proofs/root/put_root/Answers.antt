@@ -10,6 +10,10 @@ use Rattle.esr_finish.specs.Ticket.{Wrote}
 use Rattle.esr_finish.proofs.Blobs.{root_text_is}
 use Rattle.esr_finish.proofs.Runs.{raise_went}
 use Rattle.esr_finish.proofs.Writing.{root_commits}
+use Rattle.std.proofs.Common.{sym}
+use Rattle.esr_core.specs.Entry.{RaisedTo}
+use Rattle.esr_desk.specs.Told.{raise_new, raise_tells}
+use Rattle.esr_finish.specs.Ticket.{IsUnnoted}
 use Rattle.esr_finish.proofs.root.put_root.Goals as goal
 
 pub put-requires-clause-layout : goal.put-requires-clause-layout
@@ -39,3 +43,15 @@ returns-clause-ok g c =
 pub returns-in_err-generation-clause-went : goal.returns-in_err-generation-clause-went
 returns-in_err-generation-clause-went g c =
     raise_went g.Q.Desk.start (g.Q.Desk.seen c.args.desk.now) (g.Q.Desk.seen c.raise.new.self) c.args.ticket c.raise.result c.raise.ensures.step c.raise.ensures.own c.raise.ensures.kept
+
+pub raise-requires-clause-new : goal.raise-requires-clause-new
+raise-requires-clause-new g c = raise_new g.Q.Desk.start (g.Q.Desk.seen c.args.desk.now) c.args.ticket c.requires.tells c.requires.may.once
+
+pub put-requires-clause-new : goal.put-requires-clause-new
+put-requires-clause-new g c κs within =
+    let n = c.in_ok-generation.generation in
+    subst (λ (t : Ticket). IsUnnoted t (Root n)) (sym c.in_ok-generation.ensures.own) (c.requires.may.unnoted n)
+
+pub put-requires-clause-tells : goal.put-requires-clause-tells
+put-requires-clause-tells g c κs within =
+    raise_tells g.Q.Desk.start (g.Q.Desk.seen c.args.desk.now) (g.Q.Desk.seen c.raise.new.self) c.args.ticket c.in_ok-generation.generation (RaisedTo c.in_ok-generation.generation) c.requires.tells c.in_ok-generation.ensures.step c.in_ok-generation.ensures.own

@@ -3,6 +3,8 @@ use Rattle.esr_formats.specs.Roots.{root_of}
 use Rattle.esr_desk.specs.Start.{ticket_of}
 use Rattle.esr_finish.proofs.Runs.{went_on}
 use Rattle.esr_finish.proofs.Swaps.{root_next}
+use Rattle.std.proofs.Common.{ap, ◌∙◌}
+use Rattle.esr_core.specs.World.{Ticket}
 use Rattle.esr_finish.proofs.root.write_swap.Goals as goal
 
 pub put_root-requires-clause-may : goal.put_root-requires-clause-may
@@ -26,3 +28,10 @@ returns-clause-went g c =
     let root = g.Q.Desk.seen c.put_root.new.desk in
     let new = g.Q.Desk.seen c.put_latest.new.desk in
     went_on s old root new who (went_on s old metadata root who c.put_metadata.ensures.went c.put_root.ensures.went) c.put_latest.ensures.went
+
+pub put_metadata-requires-clause-new : goal.put_metadata-requires-clause-new
+put_metadata-requires-clause-new g c κs within = c.requires.may.unnoted
+
+pub put_latest-requires-clause-untried : goal.put_latest-requires-clause-untried
+put_latest-requires-clause-untried g c κs within =
+    ap (λ (t : Ticket). t.tried_latest) (c.in_ok-generation.ensures.ok.is) ∙ ap (λ (t : Ticket). t.tried_latest) c.in_ok-put_metadata.ensures.ok.is ∙ c.requires.may.untried

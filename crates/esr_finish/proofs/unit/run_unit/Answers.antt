@@ -10,6 +10,9 @@ use Rattle.esr_desk.specs.Grew.{grew_by_on}
 use Rattle.esr_finish.proofs.Runs.{left_cases}
 use Rattle.esr_finish.proofs.Swaps.{took_writes, settle_next}
 use Rattle.esr_finish.proofs.Ends.{stopped_err, settle_grew, finish_grew, settle_refused, finish_refused, fail_ends, by_stage, by_step, step_shown, was_refused, put_refused}
+use Rattle.std.proofs.Common.{ap}
+use Rattle.esr_core.specs.World.{Ticket}
+use Rattle.esr_desk.specs.Told.{none_tells, settle_new}
 use Rattle.esr_finish.proofs.unit.run_unit.Goals as goal
 use Rattle.esr_finish.proofs.unit.run_unit.Goals.{In-Some}
 
@@ -122,3 +125,13 @@ returns-in-None-clause-refused g c =
     let told : c.failed_by.result ≡ failed_by put.refusal = rw put.field-0-is at c.failed_by.ensures in
     rw put.field-0-is (put_refused s g.Q.Stage.Counted.faults (g.Q.Desk.seen c.args.desk.now) (g.Q.Desk.seen c.write_swap.new.desk) c.args.unit.now.ready.ticket (info_of_code c.in-Finalize.info) (root_of c.in-Some.root) put.field-0 put.refusal
     (may_write g (goal.at.returns-in-None-clause-refused g c).In-Some) c.write_swap.ensures.went put.field-0-is (sym told ∙ c.in-None.is) put.ensures.refused)
+
+pub write_swap-requires-clause-tells : goal.write_swap-requires-clause-tells
+write_swap-requires-clause-tells g c κs within = none_tells g.Q.Desk.start (g.Q.Desk.seen c.args.desk.now) c.args.unit.now.ready.ticket c.requires.new
+
+pub settle-requires-clause-new : goal.settle-requires-clause-new
+settle-requires-clause-new g c =
+    let s = g.Q.Desk.start in
+    let mid = g.Q.Desk.seen c.write_swap.new.desk in
+    let who = c.args.unit.now.ready.ticket in
+    settle_new s mid who c.in-Ok.ensures.tells (ap (λ (t : Ticket). t.settled) c.in-Ok.ensures.ok.is ∙ (may_write g (goal.at.settle-requires-clause-new g c).In-Some).swaps.unsettled)

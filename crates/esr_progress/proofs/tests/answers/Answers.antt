@@ -99,19 +99,35 @@ named_more p new next accepted (commands.Create name asked moment) askable named
     let there : Named no_root (fin.insert p.ops p.next_op (asked_op w name indices moment)) (next + suc (new_names w indices)) = named_asked w named name indices moment askable.0 may.unused in
     subst (λ ops. Named no_root ops (next + accepted.drawn)) (sym is.plan.ops)
     (subst (λ (drawn : ℕ). Named no_root (fin.insert p.ops p.next_op (asked_op w name indices moment)) (next + drawn)) (sym is.drawn) there)
+named_more p new next accepted (commands.Clone _ _ _ _) askable named may is = absurd askable
+named_more p new next accepted (commands.Delete _) askable named may is = absurd askable
+named_more p new next accepted (commands.Restore _ _) askable named may is = absurd askable
+named_more p new next accepted commands.Cleanup askable named may is = absurd askable
 
-seats_more : (p new : Plan) (next : ℕ) (accepted : Accepted) (command : Command) → IsAccepted (world_with p next) (asked_of command) new accepted → (k : ℕ) → fin.get new.seats k ≡ None
-seats_more p new next accepted (commands.Create name indices moment) is k = is.plan.seats k ∙ ap (option_map seat_of) (fin.get-empty nat_cmp k)
+seats_more : (p new : Plan) (next : ℕ) (accepted : Accepted) (command : Command) → IsAskable (asked_of command) → IsAccepted (world_with p next) (asked_of command) new accepted → (k : ℕ) → fin.get new.seats k ≡ None
+seats_more p new next accepted (commands.Create name indices moment) askable is k = is.plan.seats k ∙ ap (option_map seat_of) (fin.get-empty nat_cmp k)
+seats_more p new next accepted (commands.Clone _ _ _ _) askable is k = absurd askable
+seats_more p new next accepted (commands.Delete _) askable is k = absurd askable
+seats_more p new next accepted (commands.Restore _ _) askable is k = absurd askable
+seats_more p new next accepted commands.Cleanup askable is k = absurd askable
 
-restores_more : (p new : Plan) (next : ℕ) (accepted : Accepted) (command : Command) → IsAccepted (world_with p next) (asked_of command) new accepted → NoRestore new
-restores_more p new next accepted (commands.Create name indices moment) is = record {
+restores_more : (p new : Plan) (next : ℕ) (accepted : Accepted) (command : Command) → IsAskable (asked_of command) → IsAccepted (world_with p next) (asked_of command) new accepted → NoRestore new
+restores_more p new next accepted (commands.Create name indices moment) askable is = record {
   restores = λ o. is.plan.restores o ∙ ap (option_map restore_plan) (fin.get-empty nat_cmp o);
   count = is.plan.restore_count ∙ fin.len-empty nat_cmp Restoring;
   readers = λ k. is.plan.readers k ∙ ap (option_map reader_seat) (fin.get-empty nat_cmp k);
 }
+restores_more p new next accepted (commands.Clone _ _ _ _) askable is = absurd askable
+restores_more p new next accepted (commands.Delete _) askable is = absurd askable
+restores_more p new next accepted (commands.Restore _ _) askable is = absurd askable
+restores_more p new next accepted commands.Cleanup askable is = absurd askable
 
-op_more : (p new : Plan) (next : ℕ) (accepted : Accepted) (command : Command) → IsAccepted (world_with p next) (asked_of command) new accepted → new.next_op ≡ suc p.next_op
-op_more p new next accepted (commands.Create name indices moment) is = is.plan.next_op
+op_more : (p new : Plan) (next : ℕ) (accepted : Accepted) (command : Command) → IsAskable (asked_of command) → IsAccepted (world_with p next) (asked_of command) new accepted → new.next_op ≡ suc p.next_op
+op_more p new next accepted (commands.Create name indices moment) askable is = is.plan.next_op
+op_more p new next accepted (commands.Clone _ _ _ _) askable is = absurd askable
+op_more p new next accepted (commands.Delete _) askable is = absurd askable
+op_more p new next accepted (commands.Restore _ _) askable is = absurd askable
+op_more p new next accepted commands.Cleanup askable is = absurd askable
 
 pub loop-number-init : goal.loop-number-init
 loop-number-init c =
@@ -150,12 +166,12 @@ loop-number-preserved c =
     let command = c.in_ok-command.command in
     let h = c.in-Ok.ensures (world_with list next) (subst (λ (r : RootData). IsAskedIn list r 1 next (world_with list next)) (sym (ap root_of c.new-root.ensures)) (asked_in list next c.loop-number.invariant.seats (record { restores = c.loop-number.invariant.restores; count = c.loop-number.invariant.restore_count; readers = c.loop-number.invariant.readers }))) in
     let fits : next + c.in-Ok.accepted.drawn < first_id 2 = h.1.fits in
-    let op : c.in-Ok.new.next_op ≡ suc list.next_op = op_more list c.in-Ok.new next c.in-Ok.accepted command h.1 in
+    let op : c.in-Ok.new.next_op ≡ suc list.next_op = op_more list c.in-Ok.new next c.in-Ok.accepted command c.in_ok-command.ensures h.1 in
     let was : list.next_op ≡ c.loop-number.number-counter + 1 = c.loop-number.invariant.op in
-    let unrestored = restores_more list c.in-Ok.new next c.in-Ok.accepted command h.1 in
+    let unrestored = restores_more list c.in-Ok.new next c.in-Ok.accepted command c.in_ok-command.ensures h.1 in
     record {
       named = subst (λ (drawn : ℕ). Named no_root c.in-Ok.new.ops (next + drawn)) (sym c.from.ensures) (named_more list c.in-Ok.new next c.in-Ok.accepted command c.in_ok-command.ensures c.loop-number.invariant.named h.0 h.1);
-      seats = seats_more list c.in-Ok.new next c.in-Ok.accepted command h.1;
+      seats = seats_more list c.in-Ok.new next c.in-Ok.accepted command c.in_ok-command.ensures h.1;
       op = omega (arith, op, was);
       in_term = omega (arith, fits, c.from.ensures);
       restores = unrestored.restores;

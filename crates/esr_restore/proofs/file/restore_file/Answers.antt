@@ -1,5 +1,5 @@
 use Rattle.std.proofs.Common.{◌∙◌}
-use Rattle.esr_reading.specs.Readers.{reader_of}
+use Rattle.esr_desk.specs.Readers.{reader_of}
 use Rattle.esr_restore.proofs.Going.{went_none, went_at}
 use Rattle.esr_restore.proofs.Reading.{listed_more}
 use Rattle.esr_restore.proofs.Standing.{judged_so, judged_well, restored_file}

@@ -1,9 +1,12 @@
-use Rattle.std.proofs.Common.{◌∙◌, ◌≤◌, List, length, refl, subst}
+use Rattle.std.proofs.Common.{◌∙◌, ◌≤◌, List, length, take, refl, subst}
 use Rattle.esr_shardidx.specs.declared.entry.FileEntry.{FileEntry as CodeEntry}
-use Rattle.esr_reading.specs.Readers.{reader_of}
+use Rattle.esr_desk.specs.Readers.{reader_of}
 use Rattle.esr_restore.proofs.Going.{went_none, went_on}
 use Rattle.esr_restore.proofs.Reading.{snap_more}
 use Rattle.esr_restore.proofs.Listing.{entry_at, listed_at, files_none, next_free, files_next, files_all, at_same}
+use Rattle.esr_reading.specs.Once.{reads_none}
+use Rattle.esr_restore.specs.Unread.{IsPartOfAny}
+use Rattle.esr_restore.proofs.Once.{file_unread, file_more}
 use Rattle.esr_restore.proofs.files.restore_files.Goals as goal
 
 pub loop-entry-init : goal.loop-entry-init
@@ -14,6 +17,7 @@ loop-entry-init g c = record {
   made_for = refl;
   is_sure = refl;
   went = went_none g.Q.Desk.start (g.Q.Desk.seen c.args.desk.now) c.args.ticket;
+  reads = reads_none (g.Q.Desk.seen c.args.desk.now) c.args.ticket (IsPartOfAny c.args.at (take 0 c.args.snap.now.files));
   first = files_none g.Q.Desk.start (reader_of g.Q.Desk.start (g.Q.Desk.seen c.args.desk.now) c.args.ticket) c.args.at c.args.snap.now.files (g.Q.Target.Target.files c.args.target.now) c.requires.empty;
 }
 
@@ -57,6 +61,7 @@ loop-entry-preserved g c =
       made_for = done.made_for ∙ inv.made_for;
       is_sure = done.is_sure ∙ inv.is_sure;
       went = went_on s (g.Q.Desk.seen c.args.desk.now) mid new who inv.went done.went;
+      reads = file_more (g.Q.Desk.seen c.args.desk.now) mid new who c.args.at c.args.snap.now.files c.loop-entry.entry-index c.entry-item.result here.0 here.1 inv.reads done.reads;
       first = files_next s (reader_of s mid who) (reader_of s new who) c.args.at c.args.snap.now.files c.loop-entry.entry-index c.entry-item.result (g.Q.Target.Target.files c.args.target.now) (g.Q.Target.Target.files c.loop-entry.target)
           (g.Q.Target.Target.files c.restore_file.new.target) done.went.worked here.0 here.1 inv.first done.restored;
     }
@@ -67,3 +72,8 @@ returns-clause-restored g c =
     let all : length c.files-entry-items.result.now ≤ c.loop-entry.entry-index = c.loop-entry-test.false in
     let le = subst (λ (l : List CodeEntry). length l ≤ c.loop-entry.entry-index) c.files-entry-items.ensures.files all in
     files_all s (reader_of s (g.Q.Desk.seen c.loop-entry.desk) c.args.ticket) c.args.at c.args.snap.now.files c.loop-entry.entry-index (g.Q.Target.Target.files c.args.target.now) (g.Q.Target.Target.files c.loop-entry.target) le c.loop-entry.invariant.first
+
+pub restore_file-requires-clause-new : goal.restore_file-requires-clause-new
+restore_file-requires-clause-new g c κs within =
+    let here = at_same c.files-entry-items.result.now c.args.snap.now.files c.loop-entry.entry-index c.entry-item.result c.files-entry-items.ensures.files c.loop-entry-test.true c.entry-item.is in
+    file_unread (g.Q.Desk.seen c.args.desk.now) (g.Q.Desk.seen c.loop-entry.desk) c.args.ticket c.args.at c.args.snap.now c.loop-entry.entry-index c.entry-item.result c.files-entry-items.ensures.whole here.0 here.1 c.requires.new c.loop-entry.invariant.reads

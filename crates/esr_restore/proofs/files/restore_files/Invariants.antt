@@ -1,5 +1,7 @@
-use Rattle.std.proofs.Common.{◌≡◌, length, None}
-use Rattle.esr_reading.specs.Readers.{reader_of}
+use Rattle.std.proofs.Common.{◌≡◌, length, take, None}
+use Rattle.esr_desk.specs.Readers.{reader_of}
+use Rattle.esr_reading.specs.Once.{ReadsOnly}
+use Rattle.esr_restore.specs.Unread.{IsPartOfAny}
 use Rattle.esr_restore.specs.Went.{Went}
 use Rattle.esr_restore.proofs.Listing.{FirstFiles}
 use Rattle.esr_restore.proofs.files.restore_files.Given as goal
@@ -13,5 +15,6 @@ invariant-loop-entry g l =
       made_for : g.Q.Target.Target.made_for l.target ≡ g.Q.Target.Target.made_for l.fn.target;
       is_sure : g.Q.Target.Target.is_sure l.target ≡ g.Q.Target.Target.is_sure l.fn.target;
       went : Went g.Q.Desk.start (g.Q.Desk.seen l.fn.desk) (g.Q.Desk.seen l.desk) l.ticket;
+      reads : ReadsOnly (g.Q.Desk.seen l.fn.desk) (g.Q.Desk.seen l.desk) l.ticket (IsPartOfAny l.at (take l.entry-index l.snap.files));
       first : FirstFiles g.Q.Desk.start (reader_of g.Q.Desk.start (g.Q.Desk.seen l.desk) l.ticket) l.at l.snap.files l.entry-index (g.Q.Target.Target.files l.fn.target) (g.Q.Target.Target.files l.target);
     }

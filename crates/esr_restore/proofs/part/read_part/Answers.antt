@@ -3,7 +3,7 @@ use Rattle.esr_formats.specs.Names.{name_of}
 use Rattle.esr_parts.specs.Back.{ReadBack}
 use Rattle.esr_parts.specs.declared.back.Extent.{Extent}
 use Rattle.esr_parts.specs.declared.back.Extent.TheVariants.{Whole, Short, Long}
-use Rattle.esr_reading.specs.Readers.{reader_of}
+use Rattle.esr_desk.specs.Readers.{reader_of}
 use Rattle.esr_restore.specs.Trouble.{Shown}
 use Rattle.esr_restore.proofs.Going.{passed}
 use Rattle.esr_restore.proofs.Parts.{part_read}

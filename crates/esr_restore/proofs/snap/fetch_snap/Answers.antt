@@ -1,7 +1,7 @@
 use Rattle.std.proofs.Common.{◌≡◌, Some, subst}
 use Rattle.esr_model.specs.Values.{Bytes}
 use Rattle.esr_formats.specs.Shards.{shard_snap_of, shard_snap_kind}
-use Rattle.esr_reading.specs.Readers.{reader_of}
+use Rattle.esr_desk.specs.Readers.{reader_of}
 use Rattle.esr_restore.proofs.Reading.{has_snap}
 use Rattle.esr_restore.proofs.snap.fetch_snap.Goals as goal
 

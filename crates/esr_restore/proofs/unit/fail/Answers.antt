@@ -2,7 +2,7 @@ use Rattle.std.proofs.Common.{◌∙◌, sym}
 use Rattle.esr_core.specs.Entry.{ReadFails, HasEnded}
 use Rattle.esr_desk.specs.Entries.{why_of}
 use Rattle.esr_desk.specs.Grew.{grew_by_none}
-use Rattle.esr_reading.specs.Readers.{reader_of}
+use Rattle.esr_desk.specs.Readers.{reader_of}
 use Rattle.esr_restore.proofs.Going.{worked_none, worked_same, outcome_grew, step_refusal}
 use Rattle.esr_restore.proofs.Ending.{cause_shown, stopped, has_failed}
 use Rattle.esr_restore.proofs.unit.fail.Goals as goal

@@ -1,7 +1,10 @@
-use Rattle.esr_reading.specs.Readers.{reader_of}
+use Rattle.esr_desk.specs.Readers.{reader_of}
 use Rattle.esr_restore.specs.Trouble.{Shown}
 use Rattle.esr_restore.proofs.Going.{passed, went_on}
 use Rattle.esr_restore.proofs.Reading.{snap_more}
+use Rattle.esr_model.specs.Names.{ShardSnap}
+use Rattle.esr_reading.specs.Once.{none_unread}
+use Rattle.esr_restore.proofs.Once.{files_unread}
 use Rattle.esr_restore.proofs.unit.restore.Goals as goal
 
 pub returns-in_err-snap-clause-trouble : goal.returns-in_err-snap-clause-trouble
@@ -22,3 +25,11 @@ returns-clause-snap g c =
     let s = g.Q.Desk.start in
     let who = c.args.ticket in
     snap_more s (reader_of s (g.Q.Desk.seen c.fetch_snap.new.desk) who) (reader_of s (g.Q.Desk.seen c.restore_files.new.desk) who) c.in_ok-snap.snap c.restore_files.ensures.went.worked c.in_ok-snap.ensures.snap
+
+pub fetch_snap-requires-clause-new : goal.fetch_snap-requires-clause-new
+fetch_snap-requires-clause-new g c κs within = none_unread (g.Q.Desk.seen c.args.desk.now) c.args.ticket (ShardSnap c.args.at.index.number c.args.at.number c.args.uuid.number) c.requires.new
+
+pub restore_files-requires-clause-new : goal.restore_files-requires-clause-new
+restore_files-requires-clause-new g c κs within =
+    let old = g.Q.Desk.seen c.args.desk.now in
+    files_unread old (g.Q.Desk.seen c.fetch_snap.new.desk) c.args.ticket c.args.at c.args.uuid.number c.in_ok-snap.snap.files (λ name. none_unread old c.args.ticket name c.requires.new) c.in_ok-snap.ensures.reads

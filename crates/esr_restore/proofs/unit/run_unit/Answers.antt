@@ -4,7 +4,7 @@ use Rattle.esr_source.specs.Address.{address}
 use Rattle.esr_core.specs.Entry.{RestoredShard, HasEnded}
 use Rattle.esr_desk.specs.declared.unit.UnitRefusal.TheVariants.{Stopped}
 use Rattle.esr_desk.specs.Grew.{grew_by_none, grew_by_on}
-use Rattle.esr_reading.specs.Readers.{reader_of}
+use Rattle.esr_desk.specs.Readers.{reader_of}
 use Rattle.esr_restore.specs.Files.{sum_files}
 use Rattle.esr_restore.specs.Refused.{IsUnitRefused}
 use Rattle.esr_restore.proofs.Going.{outcome_grew, worked_none, worked_same, worked_on, step_refusal, went_at, passed}

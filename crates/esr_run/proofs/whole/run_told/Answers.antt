@@ -1,6 +1,6 @@
 use Rattle.std.proofs.Common.{◌≡◌, ◌⊎◌, List, [], sym, subst}
 use Rattle.esr_core.specs.Entry.{Moment}
-use Rattle.esr_desk.specs.Once.{AreOnce}
+use Rattle.esr_desk.specs.Once.{AreOnce, NoneTwice}
 use Rattle.esr_run.specs.Made.{HasStopped, AreDone}
 use Rattle.esr_run.proofs.Making.{done_or}
 use Rattle.esr_repo.specs.Log.{log_of}
@@ -12,6 +12,9 @@ returns-clause-shown g c = logged _ g.K.Told.start c.carry_on-repo.result.0 (log
 
 pub returns-clause-once : goal.returns-clause-once
 returns-clause-once g c = subst (λ (l : List Moment). AreOnce g.K.Told.start l) (sym c.into_parts-depot.ensures.log) c.carry_on-repo.ensures.once
+
+pub returns-clause-single : goal.returns-clause-single
+returns-clause-single g c = subst NoneTwice (sym c.into_parts-depot.ensures.log) c.carry_on-repo.ensures.single
 
 pub returns-clause-done : goal.returns-clause-done
 returns-clause-done g c =

@@ -10,6 +10,7 @@ use Rattle.esr_upload.proofs.Going.{refusal_last}
 use Rattle.esr_upload.proofs.Ending.{went_same}
 use Rattle.esr_upload.proofs.Reading.{index_name, absent_base, failed_read, fetch_came, fetch_went}
 use Rattle.esr_upload.proofs.Refusing.{passed}
+use Rattle.esr_desk.specs.Told.{none_new, none_tells, fetch_tells}
 use Rattle.esr_upload.proofs.base.fetch_bytes.Goals as goal
 
 pub fetch-requires-clause-layout : goal.fetch-requires-clause-layout
@@ -63,3 +64,13 @@ returns-in-Err-Failed-clause-trouble g c =
     failed_read g.Q.Desk.start (g.Q.Fetch.Counted.faults c.in-Some.fetch) (g.Q.Fetch.Counted.faults c.read_whole.new.fetch) c.read_whole.result c.in-Err-Failed.field-0 (g.Q.Fetch.Fetch.is_sure c.in-Some.fetch) c.in-Err-Failed.is c.in-Err-Failed.field-0-is
     c.read_whole.ensures.cause
     (fetch_came c.in_ok-fetch.field-0 c.in-Some.fetch (λ fetch. g.Q.Desk.start.quiet ≡ true → IsTrue (g.Q.Fetch.Fetch.is_sure fetch)) c.in-Some.is c.in_ok-fetch.ensures.sure) c.read_whole.ensures.sure
+
+pub fetch-requires-clause-new : goal.fetch-requires-clause-new
+fetch-requires-clause-new g c = none_new (g.Q.Desk.seen c.args.desk.now) c.args.ticket (FetchStep (ShardIndex c.args.shard.index.number c.args.shard.number c.args.base.number)) c.requires.new
+
+pub returns-in-Ok-clause-tells : goal.returns-in-Ok-clause-tells
+returns-in-Ok-clause-tells g c =
+    let s = g.Q.Desk.start in
+    let old = g.Q.Desk.seen c.args.desk.now in
+    let name = ShardIndex c.args.shard.index.number c.args.shard.number c.args.base.number in
+    fetch_tells s old (g.Q.Desk.seen c.fetch.new.self) c.args.ticket name g.Q.Fetch.Fetch.left c.in_ok-fetch.field-0 (none_tells s old c.args.ticket c.requires.new) c.in_ok-fetch.ensures.step c.in_ok-fetch.ensures.own

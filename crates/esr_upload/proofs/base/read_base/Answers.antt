@@ -7,6 +7,7 @@ use Rattle.esr_desk.specs.Start.{ticket_of}
 use Rattle.esr_upload.specs.Base.{HasBase}
 use Rattle.esr_upload.proofs.Going.{went_none}
 use Rattle.esr_upload.proofs.Reading.{has_no_base}
+use Rattle.esr_desk.specs.Told.{none_tells}
 use Rattle.esr_upload.proofs.base.read_base.Goals as goal
 
 pub returns-in-None-clause-based : goal.returns-in-None-clause-based
@@ -18,3 +19,6 @@ returns-in-None-clause-based g c =
 
 pub returns-in-None-clause-went : goal.returns-in-None-clause-went
 returns-in-None-clause-went g c = went_none g.Q.Desk.start (g.Q.Desk.seen c.args.desk.now) c.args.ticket
+
+pub returns-in-None-clause-tells : goal.returns-in-None-clause-tells
+returns-in-None-clause-tells g c = none_tells g.Q.Desk.start (g.Q.Desk.seen c.args.desk.now) c.args.ticket c.requires.new

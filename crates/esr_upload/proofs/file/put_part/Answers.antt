@@ -12,6 +12,13 @@ use Rattle.esr_upload.specs.Trouble.{Shown}
 use Rattle.esr_upload.proofs.Going.{refusal_last}
 use Rattle.esr_upload.proofs.Putting.{is_faulty}
 use Rattle.esr_upload.proofs.FileParts.{err_passed, begun_is, stage_holds, can_commit, went_same, went_refused, not_there, part_put, went_put}
+use Rattle.std.proofs.Common.{◌≡◌, sym}
+use Rattle.esr_names.specs.declared.blob.BlobName.{BlobName as CodeName}
+use Rattle.esr_model.specs.Names.{BlobName}
+use Rattle.esr_desk.specs.Outcome.{Stepped}
+use Rattle.esr_desk.specs.Once.{IsNew}
+use Rattle.esr_desk.specs.Taken.{committed_by}
+use Rattle.esr_desk.specs.Told.{begin_new, commit_new, blob_tells}
 use Rattle.esr_upload.proofs.file.put_part.Goals as goal
 
 pub begin-requires-clause-may : goal.begin-requires-clause-may
@@ -93,3 +100,32 @@ returns-in_err-commit-clause-went g c =
     (stepped_grew_by s old mid c.args.ticket (BeginStep (name_of c.args.name)) WasBegun begun.step)
     (refusing_grew_by s mid new c.args.ticket (CommitStep (name_of c.in_ok-named.named.name)) (told_refusal c.in_err-commit.field-0.0) refused.step.0)
     begun.own refused.kept
+
+pub begin-requires-clause-new : goal.begin-requires-clause-new
+begin-requires-clause-new g c =
+    let may = c.requires.may.may [] in
+    begin_new g.Q.Desk.start (g.Q.Desk.seen c.args.desk.now) c.args.ticket (name_of c.args.name) c.requires.tells may.stored (may.once c.requires.may.own)
+
+pub commit-requires-clause-new : goal.commit-requires-clause-new
+commit-requires-clause-new g c =
+    let s = g.Q.Desk.start in
+    let mid = g.Q.Desk.seen c.begin.new.self in
+    let who = c.args.ticket in
+    let may = c.requires.may.may [] in
+    subst (λ (n : CodeName). IsNew mid who (CommitStep (name_of n))) (sym c.in_ok-named.ensures.name)
+    (commit_new s (g.Q.Desk.seen c.args.desk.now) mid who (name_of c.args.name) c.requires.tells (may.once c.requires.may.own) c.in_ok-named.ensures.step)
+
+pub returns-clause-tells : goal.returns-clause-tells
+returns-clause-tells g c =
+    let s = g.Q.Desk.start in
+    let old = g.Q.Desk.seen c.args.desk.now in
+    let mid = g.Q.Desk.seen c.begin.new.self in
+    let new = g.Q.Desk.seen c.commit.new.self in
+    let who = c.args.ticket in
+    let contents = g.Q.Stage.Stage.contents c.copy_part.new.stage in
+    let done = c.in_ok-commit.field-0 in
+    let is = ap name_of c.in_ok-named.ensures.name in
+    let may = c.requires.may.may [] in
+    λ full. blob_tells s old mid new who (name_of c.args.name) contents done c.requires.tells may.stored c.in_ok-named.ensures.step c.in_ok-named.ensures.own
+    (subst (λ (n : BlobName). Stepped s mid new who (CommitStep n) (commit_reply done)) is c.in_ok-commit.ensures.step)
+    (subst (λ (n : BlobName). ticket_of s new who ≡ committed_by n contents done (ticket_of s mid who)) is c.in_ok-commit.ensures.own)

@@ -19,6 +19,7 @@ loop-number-init g c = record {
   fed = c.requires.fresh;
   count = omega arith;
   is = cut_none g.Q.Desk.start (blob_name c.args.at c.args.entry.now) c.args.entry.now.part_size (ticket_of g.Q.Desk.start (g.Q.Desk.seen c.args.desk.now) c.args.ticket);
+  tells = c.requires.tells;
   went = went_none g.Q.Desk.start (g.Q.Desk.seen c.args.desk.now) c.args.ticket;
 }
 
@@ -64,6 +65,7 @@ loop-number-preserved g c =
       is = cut_put s c.args.at e number inv.bytes put.piece c.part_name-name.result
           (ticket_of s (g.Q.Desk.seen c.args.desk.now) c.args.ticket) (ticket_of s (g.Q.Desk.seen c.loop-number.desk) c.args.ticket) (ticket_of s (g.Q.Desk.seen c.put_part.new.desk) c.args.ticket)
           len within inv.is whole.1 c.part_name-name.ensures;
+      tells = done.tells c.if-not-branch.false;
       went = went_on s (g.Q.Desk.seen c.args.desk.now) (g.Q.Desk.seen c.loop-number.desk) (g.Q.Desk.seen c.put_part.new.desk) c.args.ticket inv.went done.went;
     }
 
@@ -95,3 +97,17 @@ returns-in_err-put_part-clause-went g c = went_on g.Q.Desk.start (g.Q.Desk.seen 
 
 pub returns-then-not-branch-clause-went : goal.returns-then-not-branch-clause-went
 returns-then-not-branch-clause-went g c = went_on g.Q.Desk.start (g.Q.Desk.seen c.args.desk.now) (g.Q.Desk.seen c.loop-number.desk) (g.Q.Desk.seen c.put_part.new.desk) c.args.ticket c.loop-number.invariant.went c.put_part.ensures.went
+
+pub returns-clause-tells : goal.returns-clause-tells
+returns-clause-tells g c = let inv = c.loop-number.invariant in record { bytes = inv.bytes; fed = inv.fed; tells = λ all. inv.tells }
+
+pub returns-then-not-branch-clause-tells : goal.returns-then-not-branch-clause-tells
+returns-then-not-branch-clause-tells g c =
+    let inv = c.loop-number.invariant in
+    let put = c.in_ok-put_part.ensures.put in
+    let short = put.short c.if-not-branch.true in
+    let e = c.args.entry.now in
+    let plan = c.part_plan-size.ensures in
+    let less : length inv.bytes + length put.piece < e.print.len = omega (arith, inv.count, short.0, plan.place, plan.within) in
+    let sum : length (inv.bytes ++ put.piece) ≡ length inv.bytes + length put.piece = length-append inv.bytes put.piece in
+    record { bytes = inv.bytes ++ put.piece; fed = put.fed.joined inv.bytes inv.fed; tells = λ all. let none : ⊥ = omega (arith, all, less, sum) in absurd none }

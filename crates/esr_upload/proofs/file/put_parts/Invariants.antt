@@ -3,6 +3,7 @@ use Rattle.std.specs.Io.KnownBytes.{Consumes}
 use Rattle.esr_hash.specs.Fed.{HasFed}
 use Rattle.esr_desk.specs.Start.{ticket_of}
 use Rattle.esr_desk.specs.Taken.{after_writes}
+use Rattle.esr_desk.specs.Told.{TellsAll}
 use Rattle.esr_upload.specs.Pieces.{blob_name, cut}
 use Rattle.esr_upload.specs.Worked.{Went}
 use Rattle.esr_upload.proofs.file.put_parts.Given as goal
@@ -22,5 +23,6 @@ invariant-loop-number g l =
       count : length bytes ≡ min (l.number * l.entry.part_size) l.entry.print.len;
       is : ticket_of g.Q.Desk.start (g.Q.Desk.seen l.desk) l.ticket
           ≡ after_writes g.Q.Desk.start (cut (blob_name l.at l.entry) l.entry.part_size 0 l.number bytes) (ticket_of g.Q.Desk.start (g.Q.Desk.seen l.fn.desk) l.ticket);
+      tells : TellsAll g.Q.Desk.start (g.Q.Desk.seen l.desk) l.ticket;
       went : Went g.Q.Desk.start (g.Q.Desk.seen l.fn.desk) (g.Q.Desk.seen l.desk) l.ticket;
     }

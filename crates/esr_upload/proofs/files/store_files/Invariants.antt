@@ -1,5 +1,6 @@
 use Rattle.std.proofs.Common.{◌≡◌, ◌+◌, true, length, take}
 use Rattle.esr_desk.specs.Start.{ticket_of}
+use Rattle.esr_desk.specs.Told.{TellsAll}
 use Rattle.esr_upload.specs.Entries.{new_count}
 use Rattle.esr_upload.specs.Stored.{IsAt, AreBelow}
 use Rattle.esr_upload.specs.Worked.{Went}
@@ -18,6 +19,7 @@ invariant-loop-file g l =
       origin : g.S.Shard.origin l.shard ≡ g.S.Shard.origin l.fn.shard;
       steady : (g.S.Shard.origin l.fn.shard).is_sure ≡ true → g.S.Counted.faults l.shard ≡ g.S.Counted.faults l.fn.shard;
       buffer : length l.buf ≡ length l.fn.buf;
+      tells : TellsAll g.Q.Desk.start (g.Q.Desk.seen l.desk) l.ticket;
       went : Went g.Q.Desk.start (g.Q.Desk.seen l.fn.desk) (g.Q.Desk.seen l.desk) l.ticket;
       next : l.next.number ≡ l.fn.first.number + new_count (take l.file l.plans);
       stored : StoredFirst g.Q.Desk.start (g.S.Shard.origin l.fn.shard).files l.at.index.number l.at.number l.part_size l.fn.first.number l.file l.plans l.entries

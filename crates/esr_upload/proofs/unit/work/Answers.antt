@@ -12,6 +12,9 @@ use Rattle.esr_upload.proofs.Ending.{done_on, if_err, went_same}
 use Rattle.esr_upload.proofs.Drawing.{can_draw, has_drawn, drawn_for, drew_went, ok_on, err_on}
 use Rattle.esr_upload.proofs.Refusing.{passed}
 use Rattle.esr_upload.proofs.Untold.{no_change, read_once}
+use Rattle.std.proofs.Common.{arith}
+use Rattle.esr_core.specs.World.{Ticket}
+use Rattle.esr_desk.specs.Told.{draw_new, draw_tells}
 use Rattle.esr_upload.proofs.unit.work.Goals as goal
 
 pub returns-in_err-index-clause-trouble : goal.returns-in_err-index-clause-trouble
@@ -133,3 +136,13 @@ returns-in_err-plans-clause-untold g c =
     let t = ticket_of s (g.Q.Desk.seen c.base_of.new.desk) c.args.ticket in
     passed c.from_residual-in_err-plans.result (IsChangeUntold s t) c.in_err-plans.field-0.0 c.from_residual-in_err-plans.ensures.1
     (read_once (g.S.Counted.faults c.plan_files.new.shard) s t c.in_err-plans.field-0.0 c.in_err-plans.ensures.trouble)
+
+pub draw-requires-clause-new : goal.draw-requires-clause-new
+draw-requires-clause-new g c =
+    draw_new g.Q.Desk.start (g.Q.Desk.seen c.base_of.new.desk) c.args.ticket (c.count_new.result + 1) c.in_ok-index.ensures.tells (ap (λ (t : Ticket). t.drawn) c.in_ok-index.ensures.based.has_base.is ∙ c.requires.unit.undrawn)
+
+pub store-requires-clause-tells : goal.store-requires-clause-tells
+store-requires-clause-tells g c κs within =
+    let n = c.count_new.result + 1 in
+    let first = c.in_ok-first.first.number in
+    draw_tells g.Q.Desk.start (g.Q.Desk.seen c.base_of.new.desk) (g.Q.Desk.seen c.draw.new.self) c.args.ticket first n (DrawnFrom first) c.in_ok-index.ensures.tells c.in_ok-first.ensures.step c.in_ok-first.ensures.own (λ none. omega (arith, none))

@@ -14,7 +14,7 @@ use Rattle.esr_repo.proofs.repo.Repo.call_commit.Goals as goal
 
 pub invariant_of-self-in-Ok-Done : goal.invariant_of-self-in-Ok-Done
 invariant_of-self-in-Ok-Done g c =
-    let k : Kept = record { cluster = c.self.inside.cluster; root = c.self.inside.root; plan = c.self.inside.progress; next = c.self.inside.next.number } in
+    let k : Kept = record { cluster = c.self.inside.cluster; root = c.self.inside.root; infos = c.self.inside.infos.items; plan = c.self.inside.progress; next = c.self.inside.next.number } in
     let b : Before (g.D.Depot.look c.self.inside.depot) g.K.Told.start g.K.Told.clock c.self.inside.history.items k c.self.inside.deposed c.args.self.now =
     record { laws = c.laws.ensures; repo = c.self.invariant.0.repo; view = c.self.view_is; live = c.requires.live } in
     let e : Entry = record { who = c.args.who; step = CommitStep (name_of c.args.stage.name); reply = WasDone } in
@@ -27,7 +27,7 @@ invariant_of-self-in-Ok-Done g c =
 
 pub returns-in-Ok-Done-clause-step : goal.returns-in-Ok-Done-clause-step
 returns-in-Ok-Done-clause-step g c =
-    let k : Kept = record { cluster = c.self.inside.cluster; root = c.self.inside.root; plan = c.self.inside.progress; next = c.self.inside.next.number } in
+    let k : Kept = record { cluster = c.self.inside.cluster; root = c.self.inside.root; infos = c.self.inside.infos.items; plan = c.self.inside.progress; next = c.self.inside.next.number } in
     let b : Before (g.D.Depot.look c.self.inside.depot) g.K.Told.start g.K.Told.clock c.self.inside.history.items k c.self.inside.deposed c.args.self.now =
     record { laws = c.laws.ensures; repo = c.self.invariant.0.repo; view = c.self.view_is; live = c.requires.live } in
     let made = commit_done b (g.D.Depot.look c.commit.new.self) c.args.who (name_of c.args.stage.name) (g.D.Stage.Stage.contents c.args.stage.stage) c.requires.may.0 c.requires.may.1 c.requires.may.2 c.reads_back.ensures (g.D.Stage.Stage.name c.args.stage.stage) c.args.stage.named c.in-Ok-Done.field-0 c.in-Ok-Done.field-0-is c.in-Ok-Done.ensures.call c.reserve.new.self.items c.push_reserved.new.self.items (record { reserved = c.reserve.ensures.items; pushed = c.push_reserved.ensures.items }) in
@@ -35,7 +35,7 @@ returns-in-Ok-Done-clause-step g c =
 
 pub invariant_of-self-then-is_metadata : goal.invariant_of-self-then-is_metadata
 invariant_of-self-then-is_metadata g c =
-    let k : Kept = record { cluster = c.self.inside.cluster; root = c.self.inside.root; plan = c.self.inside.progress; next = c.self.inside.next.number } in
+    let k : Kept = record { cluster = c.self.inside.cluster; root = c.self.inside.root; infos = c.self.inside.infos.items; plan = c.self.inside.progress; next = c.self.inside.next.number } in
     let b : Before (g.D.Depot.look c.self.inside.depot) g.K.Told.start g.K.Told.clock c.self.inside.history.items k c.self.inside.deposed c.args.self.now =
     record { laws = c.laws.ensures; repo = c.self.invariant.0.repo; view = c.self.view_is; live = c.requires.live } in
     let e : Entry = record { who = c.args.who; step = CommitStep (name_of c.args.stage.name); reply = WasThere } in
@@ -48,14 +48,14 @@ invariant_of-self-then-is_metadata g c =
 
 pub returns-then-is_metadata-clause-step : goal.returns-then-is_metadata-clause-step
 returns-then-is_metadata-clause-step g c =
-    let k : Kept = record { cluster = c.self.inside.cluster; root = c.self.inside.root; plan = c.self.inside.progress; next = c.self.inside.next.number } in
+    let k : Kept = record { cluster = c.self.inside.cluster; root = c.self.inside.root; infos = c.self.inside.infos.items; plan = c.self.inside.progress; next = c.self.inside.next.number } in
     let b : Before (g.D.Depot.look c.self.inside.depot) g.K.Told.start g.K.Told.clock c.self.inside.history.items k c.self.inside.deposed c.args.self.now =
     record { laws = c.laws.ensures; repo = c.self.invariant.0.repo; view = c.self.view_is; live = c.requires.live } in
     ((commit_found b (g.D.Depot.look c.commit.new.self) c.args.who (name_of c.args.stage.name) (g.D.Stage.Stage.contents c.args.stage.stage) c.requires.may.0 c.requires.may.1 c.requires.may.2 c.reads_back.ensures (g.D.Stage.Stage.name c.args.stage.stage) c.args.stage.named c.in-Ok-Exists.field-0 c.in-Ok-Exists.field-0-is c.in-Ok-Exists.ensures.call (c.is_metadata.ensures.yes_it_is c.if-is_metadata.true) c.reserve.new.self.items c.push_reserved-then-is_metadata.new.self.items (record { reserved = c.reserve.ensures.items; pushed = c.push_reserved-then-is_metadata.ensures.items })).added, c.is_metadata.ensures.yes_it_is c.if-is_metadata.true)
 
 pub invariant_of-self-in-Ok-Exists : goal.invariant_of-self-in-Ok-Exists
 invariant_of-self-in-Ok-Exists g c =
-    let k : Kept = record { cluster = c.self.inside.cluster; root = c.self.inside.root; plan = c.self.inside.progress; next = c.self.inside.next.number } in
+    let k : Kept = record { cluster = c.self.inside.cluster; root = c.self.inside.root; infos = c.self.inside.infos.items; plan = c.self.inside.progress; next = c.self.inside.next.number } in
     let b : Before (g.D.Depot.look c.self.inside.depot) g.K.Told.start g.K.Told.clock c.self.inside.history.items k c.self.inside.deposed c.args.self.now =
     record { laws = c.laws.ensures; repo = c.self.invariant.0.repo; view = c.self.view_is; live = c.requires.live } in
     let e : Entry = record { who = c.args.who; step = CommitStep (name_of c.args.stage.name); reply = Refused (NameTaken (name_of c.args.stage.name)) } in
@@ -68,14 +68,14 @@ invariant_of-self-in-Ok-Exists g c =
 
 pub returns-else-is_metadata-clause-step : goal.returns-else-is_metadata-clause-step
 returns-else-is_metadata-clause-step g c =
-    let k : Kept = record { cluster = c.self.inside.cluster; root = c.self.inside.root; plan = c.self.inside.progress; next = c.self.inside.next.number } in
+    let k : Kept = record { cluster = c.self.inside.cluster; root = c.self.inside.root; infos = c.self.inside.infos.items; plan = c.self.inside.progress; next = c.self.inside.next.number } in
     let b : Before (g.D.Depot.look c.self.inside.depot) g.K.Told.start g.K.Told.clock c.self.inside.history.items k c.self.inside.deposed c.args.self.now =
     record { laws = c.laws.ensures; repo = c.self.invariant.0.repo; view = c.self.view_is; live = c.requires.live } in
     (commit_taken b (g.D.Depot.look c.commit.new.self) c.args.who (name_of c.args.stage.name) (g.D.Stage.Stage.contents c.args.stage.stage) c.requires.may.0 c.requires.may.1 c.requires.may.2 c.reads_back.ensures (g.D.Stage.Stage.name c.args.stage.stage) c.args.stage.named c.in-Ok-Exists.field-0 c.in-Ok-Exists.field-0-is c.in-Ok-Exists.ensures.call (c.is_metadata.ensures.it_is_not c.if-is_metadata.false) c.reserve.new.self.items c.push_reserved-in-Ok-Exists.new.self.items (record { reserved = c.reserve.ensures.items; pushed = c.push_reserved-in-Ok-Exists.ensures.items })).added
 
 pub invariant_of-self-in-Err-Memory : goal.invariant_of-self-in-Err-Memory
 invariant_of-self-in-Err-Memory g c =
-    let k : Kept = record { cluster = c.self.inside.cluster; root = c.self.inside.root; plan = c.self.inside.progress; next = c.self.inside.next.number } in
+    let k : Kept = record { cluster = c.self.inside.cluster; root = c.self.inside.root; infos = c.self.inside.infos.items; plan = c.self.inside.progress; next = c.self.inside.next.number } in
     let b : Before (g.D.Depot.look c.self.inside.depot) g.K.Told.start g.K.Told.clock c.self.inside.history.items k c.self.inside.deposed c.args.self.now =
     record { laws = c.laws.ensures; repo = c.self.invariant.0.repo; view = c.self.view_is; live = c.requires.live } in (
       wanting_whole b g.K.Told.past c.self.invariant.0.past (g.D.Depot.look c.commit.new.self) c.reserve.new.self.items c.reserve.ensures.items (Committed (g.D.Stage.Stage.name c.args.stage.stage) (g.D.Stage.Stage.contents c.args.stage.stage)) (CommitMay (g.D.Stage.Stage.name c.args.stage.stage) (g.D.Stage.Stage.contents c.args.stage.stage)) c.in-Err-Memory.field-0 c.in-Err-Memory.field-0-is c.in-Err-Memory.ensures.call,
@@ -85,14 +85,14 @@ invariant_of-self-in-Err-Memory g c =
 
 pub returns-in-Err-Memory-clause-step : goal.returns-in-Err-Memory-clause-step
 returns-in-Err-Memory-clause-step g c =
-    let k : Kept = record { cluster = c.self.inside.cluster; root = c.self.inside.root; plan = c.self.inside.progress; next = c.self.inside.next.number } in
+    let k : Kept = record { cluster = c.self.inside.cluster; root = c.self.inside.root; infos = c.self.inside.infos.items; plan = c.self.inside.progress; next = c.self.inside.next.number } in
     let b : Before (g.D.Depot.look c.self.inside.depot) g.K.Told.start g.K.Told.clock c.self.inside.history.items k c.self.inside.deposed c.args.self.now =
     record { laws = c.laws.ensures; repo = c.self.invariant.0.repo; view = c.self.view_is; live = c.requires.live } in
     (wanting b (g.D.Depot.look c.commit.new.self) c.reserve.new.self.items c.reserve.ensures.items (Committed (g.D.Stage.Stage.name c.args.stage.stage) (g.D.Stage.Stage.contents c.args.stage.stage)) (CommitMay (g.D.Stage.Stage.name c.args.stage.stage) (g.D.Stage.Stage.contents c.args.stage.stage)) c.in-Err-Memory.field-0 c.in-Err-Memory.field-0-is c.in-Err-Memory.ensures.call).0
 
 pub invariant_of-self-in-Err-Failed : goal.invariant_of-self-in-Err-Failed
 invariant_of-self-in-Err-Failed g c =
-    let k : Kept = record { cluster = c.self.inside.cluster; root = c.self.inside.root; plan = c.self.inside.progress; next = c.self.inside.next.number } in
+    let k : Kept = record { cluster = c.self.inside.cluster; root = c.self.inside.root; infos = c.self.inside.infos.items; plan = c.self.inside.progress; next = c.self.inside.next.number } in
     let b : Before (g.D.Depot.look c.self.inside.depot) g.K.Told.start g.K.Told.clock c.self.inside.history.items k c.self.inside.deposed c.args.self.now =
     record { laws = c.laws.ensures; repo = c.self.invariant.0.repo; view = c.self.view_is; live = c.requires.live } in
     let e : Entry = record { who = c.args.who; step = CommitStep (name_of c.args.stage.name); reply = Refused DepotFault } in
@@ -105,7 +105,7 @@ invariant_of-self-in-Err-Failed g c =
 
 pub returns-in-Err-Failed-clause-step : goal.returns-in-Err-Failed-clause-step
 returns-in-Err-Failed-clause-step g c =
-    let k : Kept = record { cluster = c.self.inside.cluster; root = c.self.inside.root; plan = c.self.inside.progress; next = c.self.inside.next.number } in
+    let k : Kept = record { cluster = c.self.inside.cluster; root = c.self.inside.root; infos = c.self.inside.infos.items; plan = c.self.inside.progress; next = c.self.inside.next.number } in
     let b : Before (g.D.Depot.look c.self.inside.depot) g.K.Told.start g.K.Told.clock c.self.inside.history.items k c.self.inside.deposed c.args.self.now =
     record { laws = c.laws.ensures; repo = c.self.invariant.0.repo; view = c.self.view_is; live = c.requires.live } in
     (commit_fault b (g.D.Depot.look c.commit.new.self) c.args.who (name_of c.args.stage.name) (g.D.Stage.Stage.contents c.args.stage.stage) c.requires.may.0 c.requires.may.1 c.requires.may.2 c.reads_back.ensures (g.D.Stage.Stage.name c.args.stage.stage) c.args.stage.named c.in-Err-Failed.field-0 c.in-Err-Failed.field-0-is c.in-Err-Failed.ensures.call c.reserve.new.self.items c.push_reserved-in-Err-Failed.new.self.items (pushed_as c.reserve.new.self.items c.push_reserved-in-Err-Failed.new.self.items c.faulted.result c.reserve.ensures.items c.push_reserved-in-Err-Failed.ensures.items c.faulted.ensures)).added

@@ -12,4 +12,4 @@ note-requires-clause-may g c =
 
 pub returns-clause-took : goal.returns-clause-took
 returns-clause-took g c =
-    took g.K.Told.start c.args.self.now c.note.new.self c.args.ready c.in_ok-new_root.new_root c.rules.ensures.no_restore c.requires.gives c.in_ok-new_root.ensures (unit_of c.in_ok-given.given) c.requires.base c.in_ok-given.ensures c.in_ok-note.ensures.step
+    took g.K.Told.start c.args.self.now c.note.new.self c.args.ready c.in_ok-new_root.new_root c.requires.gives c.in_ok-new_root.ensures (unit_of c.in_ok-given.given) c.requires.base c.in_ok-given.ensures c.in_ok-note.ensures.step

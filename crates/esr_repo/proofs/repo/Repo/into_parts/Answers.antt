@@ -9,7 +9,7 @@ use Rattle.esr_repo.proofs.repo.Repo.into_parts.Goals as goal
 
 pub returns-clause-repo : goal.returns-clause-repo
 returns-clause-repo g c =
-    let k : Kept = record { cluster = c.self.inside.cluster; root = c.self.inside.root; plan = c.self.inside.progress; next = c.self.inside.next.number } in (
+    let k : Kept = record { cluster = c.self.inside.cluster; root = c.self.inside.root; infos = c.self.inside.infos.items; plan = c.self.inside.progress; next = c.self.inside.next.number } in (
       k,
       c.self.inside.deposed,
       subst (λ (es : List Entry). IsRepo (g.D.Depot.look c.self.inside.depot) g.K.Told.start g.K.Told.clock es k c.self.inside.deposed) (sym c.from_vec.ensures) c.self.invariant.0.repo,

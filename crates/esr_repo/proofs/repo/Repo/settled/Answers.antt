@@ -16,6 +16,6 @@ record_ops-requires g c = record {
 
 pub returns : goal.returns
 returns g c =
-    may_swap_settle g.K.Told.start c.args.self.now c.args.ticket c.in_ok-root.root _ c.plan.result.now c.in_ok-progress.progress c.next_id.result.number c.rules.ensures.no_deleting
+    may_swap_settle g.K.Told.start c.args.self.now c.args.ticket c.in_ok-root.root c.in_ok-info.info _ c.plan.result.now c.in_ok-progress.progress c.next_id.result.number c.in_ok-info.ensures c.rules.ensures.tracked c.rules.ensures.no_deleting
     (subst (λ (r : Root). CanSettle g.K.Told.start (ticket_of g.K.Told.start c.args.self.now c.args.ticket) (root_of r)) (sym c.in_ok-root.ensures) c.requires.may) c.requires.present c.plan.ensures c.in_ok-progress.ensures
     (λ n own. ap (λ (r : Record). (cluster_of r).ledger) c.cluster.view_is ∙ c.in_ok-cluster.ensures n own) c.in_ok-cluster-inside.ensures c.next_id.ensures.number

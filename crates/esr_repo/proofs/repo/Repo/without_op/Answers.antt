@@ -10,5 +10,5 @@ record_ops-requires g c = record { no_delete = dropped_deletes g.K.Told.start c.
 
 pub returns : goal.returns
 returns g c =
-    may_swap_drop g.K.Told.start c.args.self.now c.args.ticket _ c.plan.result.now c.in_ok-progress.progress c.next_id.result.number c.requires.may c.requires.present c.plan.ensures c.in_ok-progress.ensures
+    may_swap_drop g.K.Told.start c.args.self.now c.args.ticket _ c.plan.result.now c.in_ok-progress.progress c.next_id.result.number c.rules.ensures.tracked c.requires.may c.requires.present c.plan.ensures c.in_ok-progress.ensures
     (ap (λ (r : Record). (cluster_of r).ledger) (c.cluster.view_is ∙ c.in_ok-cluster.ensures) ∙ ap (λ (x : ClusterRecord). x.ledger) c.record.ensures.record) c.in_ok-cluster-inside.ensures c.next_id.ensures.number

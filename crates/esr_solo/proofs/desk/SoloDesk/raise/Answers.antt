@@ -1,3 +1,5 @@
+use Rattle.esr_core.specs.Entry.{RaiseStep}
+use Rattle.esr_solo.proofs.Single.{new_own}
 use Rattle.esr_solo.proofs.Stepping.{keeps, outcome, waited, spends}
 use Rattle.esr_solo.proofs.desk.SoloDesk.raise.Goals as goal
 
@@ -9,7 +11,7 @@ returns-then-self-eq0-clause-step g c = (
 
 pub invariant_of-self : goal.invariant_of-self
 invariant_of-self g c =
-    keeps _ g.K.Told.start c.self.inside.repo c.raise-answer.new.self c.args.ticket _ _ c.raise-answer.result c.self.inside.faults.items c.self.inside.left c.turns.result _ c.self.invariant c.if-self-eq0.false c.turns.ensures (λ x why e d. cc) (λ name e no_metadata noted. cc) c.raise-answer.ensures.step
+    keeps _ g.K.Told.start c.self.inside.repo c.raise-answer.new.self c.args.ticket _ _ c.raise-answer.result c.self.inside.faults.items c.self.inside.left c.turns.result _ c.self.invariant c.if-self-eq0.false c.turns.ensures (λ x why e d. cc) (λ name e no_metadata noted. cc) (new_own c.self.inside.repo c.args.self.now c.args.ticket RaiseStep c.self.view_is c.requires.new) c.raise-answer.ensures.step
 
 pub returns-clause-step : goal.returns-clause-step
 returns-clause-step g c = outcome g.K.Told.start c.self.inside.repo c.args.self.now c.raise-answer.new.self c.args.ticket _ _ c.raise-answer.result c.self.view_is c.is_legal.ensures c.raise-answer.ensures.step

@@ -6,3 +6,6 @@ returns-clause-shown g c = same_objects _ g.K.Told.start c.self.inside.repo c.se
 
 pub returns-clause-once : goal.returns-clause-once
 returns-clause-once g c = c.self.invariant.2
+
+pub returns-clause-single : goal.returns-clause-single
+returns-clause-single g c = c.self.invariant.3

@@ -1,0 +1,5 @@
+use Rattle.esr_desk.proofs.Numbers.{none_made}
+use Rattle.esr_desk.proofs.law.each_ticket_is_new.Goals as goal
+
+pub returns : goal.returns
+returns c = none_made

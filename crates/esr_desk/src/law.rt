@@ -1,0 +1,11 @@
+//! A law of histories: its body is empty.
+ghost use Rattle.std.specs.Prelude.{◌≡◌, ℕ, List, [], ◌∷◌, ◌++◌};
+ghost use Rattle.esr_core.specs.Entry.{Given, Gave, Moment};
+ghost use Rattle.esr_desk.specs.Start.{Start, Legal};
+ghost use Rattle.esr_desk.specs.Once.{HasMadeNone};
+ghost use Rattle.esr_desk.specs.Numbered.{Numbered};
+
+/// No step was made by the ticket that a unit is given: its number is new.
+pub fn each_ticket_is_new()
+    ensures { (s : Start) (log : List Moment) (m : Moment) (ticket op : ℕ) (unit : Given) → Numbered 1 s.world → Legal s (log ++ m ∷ []) → m.entry.reply ≡ Gave ticket op unit → HasMadeNone (log ++ m ∷ []) ticket }
+{}

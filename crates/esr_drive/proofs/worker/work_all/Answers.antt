@@ -1,0 +1,157 @@
+use Rattle.std.proofs.Common.{◌≡◌, ◌+◌, ◌≤◌, [], ◌++◌, length, arith}
+use Rattle.esr_core.specs.Entry.{TakeStep, NothingReady, Gave}
+use Rattle.esr_progress.specs.Units.{given_of}
+use Rattle.esr_desk.specs.Outcome.{take_reply}
+use Rattle.esr_desk.specs.Refusals.{told_refusal}
+use Rattle.esr_quiet.specs.Asking.{asking_none, asking_on, asking_by, asking_stepped, asking_taking}
+use Rattle.esr_drive.proofs.Going.{took_none, took_some, take_stopped, unit_stopped}
+use Rattle.esr_drive.specs.Restored.{Telling}
+use Rattle.esr_drive.specs.Filled.{filled_of}
+use Rattle.esr_drive.proofs.Resting.{given_least, given_some, nothing_rest, unit_rest, nothing_readers, unit_readers}
+use Rattle.esr_drive.proofs.Targets.{targets_none, targets_on, targets_stay, targets_taken, targets_refused, targets_as, items_on}
+use Rattle.esr_drive.proofs.Rounds.{round_longer}
+use Rattle.esr_drive.proofs.worker.work_all.Goals as goal
+
+pub loop-round-init : goal.loop-round-init
+loop-round-init g c =
+    let telling : Telling g.row.T-Target.Denot = record { made_for = g.T.Target.Target.made_for; files = g.T.Target.Target.files; is_sure = g.T.Target.Target.is_sure; are_told = g.T.Targets.is_told c.args.targets.now; are_quiet = g.T.Targets.is_quiet c.args.targets.now } in
+    record {
+      grew = asking_none g.Q.Desk.start (g.Q.Desk.seen c.args.desk.now);
+      rest = λ alone rest. rest;
+      readers = λ alone rest. rest;
+      restored = λ alone. targets_as telling g.Q.Desk.start (g.Q.Desk.seen c.args.desk.now) (g.Q.Desk.seen c.args.desk.now) [] c.args.restored.now.items c.requires.none (targets_none telling g.Q.Desk.start (g.Q.Desk.seen c.args.desk.now));
+      rounds = omega arith;
+    }
+
+pub returns-then-is_err-clause-grew : goal.returns-then-is_err-clause-grew
+returns-then-is_err-clause-grew g c = c.loop-round.invariant.grew
+
+pub returns-then-is_err-clause-restored : goal.returns-then-is_err-clause-restored
+returns-then-is_err-clause-restored g c = λ alone.
+    let telling : Telling g.row.T-Target.Denot = record { made_for = g.T.Target.Target.made_for; files = g.T.Target.Target.files; is_sure = g.T.Target.Target.is_sure; are_told = g.T.Targets.is_told c.args.targets.now; are_quiet = g.T.Targets.is_quiet c.args.targets.now } in
+    targets_as telling g.Q.Desk.start (g.Q.Desk.seen c.args.desk.now) (g.Q.Desk.seen c.loop-round.desk) c.loop-round.restored.items c.reserve.new.self.items c.reserve.ensures.items (c.loop-round.invariant.restored alone)
+
+pub returns-in-Ok-None-clause-rest : goal.returns-in-Ok-None-clause-rest
+returns-in-Ok-None-clause-rest g c alone rest =
+    nothing_rest c.laws.ensures g.Q.Desk.start c.requires.numbered alone (g.Q.Desk.seen c.loop-round.desk) (g.Q.Desk.seen c.take.new.self)
+    (took_none g.Q.Desk.start (g.Q.Desk.seen c.loop-round.desk) (g.Q.Desk.seen c.take.new.self) c.in-Ok-None.field-0 c.in-Ok-None.field-0-is c.in-Ok-None.ensures.step) (c.loop-round.invariant.rest alone rest)
+
+pub returns-in-Ok-None-clause-readers : goal.returns-in-Ok-None-clause-readers
+returns-in-Ok-None-clause-readers g c alone rest =
+    nothing_readers c.laws.ensures g.Q.Desk.start c.requires.numbered alone (g.Q.Desk.seen c.loop-round.desk) (g.Q.Desk.seen c.take.new.self)
+    (took_none g.Q.Desk.start (g.Q.Desk.seen c.loop-round.desk) (g.Q.Desk.seen c.take.new.self) c.in-Ok-None.field-0 c.in-Ok-None.field-0-is c.in-Ok-None.ensures.step) (c.loop-round.invariant.readers alone rest)
+
+pub returns-in-Ok-None-clause-restored : goal.returns-in-Ok-None-clause-restored
+returns-in-Ok-None-clause-restored g c = λ alone.
+    let telling : Telling g.row.T-Target.Denot = record { made_for = g.T.Target.Target.made_for; files = g.T.Target.Target.files; is_sure = g.T.Target.Target.is_sure; are_told = g.T.Targets.is_told c.args.targets.now; are_quiet = g.T.Targets.is_quiet c.args.targets.now } in
+    let s = g.Q.Desk.start in
+    let old = g.Q.Desk.seen c.args.desk.now in
+    let mid = g.Q.Desk.seen c.loop-round.desk in
+    let new = g.Q.Desk.seen c.take.new.self in
+    targets_as telling s old new c.loop-round.restored.items c.reserve.new.self.items c.reserve.ensures.items (targets_stay telling s old mid new c.loop-round.restored.items (c.loop-round.invariant.restored alone)
+    (targets_taken telling s mid new NothingReady alone (took_none s mid new c.in-Ok-None.field-0 c.in-Ok-None.field-0-is c.in-Ok-None.ensures.step)))
+
+pub returns-in-Ok-None-clause-grew : goal.returns-in-Ok-None-clause-grew
+returns-in-Ok-None-clause-grew g c =
+    let s = g.Q.Desk.start in
+    let old = g.Q.Desk.seen c.args.desk.now in
+    let mid = g.Q.Desk.seen c.loop-round.desk in
+    let new = g.Q.Desk.seen c.take.new.self in
+    asking_on s [] [] old mid new c.loop-round.invariant.grew (asking_stepped s mid new TakeStep NothingReady (took_none s mid new c.in-Ok-None.field-0 c.in-Ok-None.field-0-is c.in-Ok-None.ensures.step))
+
+pub returns-in-Err-clause-stopped : goal.returns-in-Err-clause-stopped
+returns-in-Err-clause-stopped g c = take_stopped g.Q.Desk.start (g.Q.Desk.seen c.loop-round.desk) (g.Q.Desk.seen c.take.new.self) take_reply c.in-Err.refusal c.in-Err.ensures.step
+
+pub returns-in-Err-clause-restored : goal.returns-in-Err-clause-restored
+returns-in-Err-clause-restored g c = λ alone.
+    let telling : Telling g.row.T-Target.Denot = record { made_for = g.T.Target.Target.made_for; files = g.T.Target.Target.files; is_sure = g.T.Target.Target.is_sure; are_told = g.T.Targets.is_told c.args.targets.now; are_quiet = g.T.Targets.is_quiet c.args.targets.now } in
+    let s = g.Q.Desk.start in
+    let old = g.Q.Desk.seen c.args.desk.now in
+    let mid = g.Q.Desk.seen c.loop-round.desk in
+    let new = g.Q.Desk.seen c.take.new.self in
+    targets_as telling s old new c.loop-round.restored.items c.reserve.new.self.items c.reserve.ensures.items (targets_stay telling s old mid new c.loop-round.restored.items (c.loop-round.invariant.restored alone)
+    (targets_refused telling s mid new (told_refusal c.in-Err.refusal) alone c.in-Err.ensures.step.0))
+
+pub returns-in-Err-clause-grew : goal.returns-in-Err-clause-grew
+returns-in-Err-clause-grew g c =
+    let s = g.Q.Desk.start in
+    let old = g.Q.Desk.seen c.args.desk.now in
+    let mid = g.Q.Desk.seen c.loop-round.desk in
+    let new = g.Q.Desk.seen c.take.new.self in
+    asking_on s [] [] old mid new c.loop-round.invariant.grew (asking_taking s mid new (told_refusal c.in-Err.refusal) c.in-Err.ensures.step.0)
+
+pub do_next-requires-clause-some : goal.do_next-requires-clause-some
+do_next-requires-clause-some g c κs within =
+    let s = g.Q.Desk.start in
+    let unit = c.in-Ok-Some.unit in
+    given_least c.laws.ensures s (g.Q.Desk.seen c.loop-round.desk) (g.Q.Desk.seen c.take.new.self) unit.ready.ticket unit.ready.op (given_of unit.ready) c.requires.numbered
+    (took_some s (g.Q.Desk.seen c.loop-round.desk) (g.Q.Desk.seen c.take.new.self) c.in-Ok-Some.field-0 unit c.in-Ok-Some.field-0-is c.in-Ok-Some.ensures.step)
+
+pub returns-in-Err-do_next-clause-restored : goal.returns-in-Err-do_next-clause-restored
+returns-in-Err-do_next-clause-restored g c = λ alone.
+    let telling : Telling g.row.T-Target.Denot = record { made_for = g.T.Target.Target.made_for; files = g.T.Target.Target.files; is_sure = g.T.Target.Target.is_sure; are_told = g.T.Targets.is_told c.args.targets.now; are_quiet = g.T.Targets.is_quiet c.args.targets.now } in
+    let s = g.Q.Desk.start in
+    let old = g.Q.Desk.seen c.args.desk.now in
+    let mid = g.Q.Desk.seen c.loop-round.desk in
+    let took = g.Q.Desk.seen c.take.new.self in
+    let new = g.Q.Desk.seen c.do_next.new.desk in
+    let unit = c.in-Ok-Some.unit in
+    let gave = took_some s mid took c.in-Ok-Some.field-0 unit c.in-Ok-Some.field-0-is c.in-Ok-Some.ensures.step in
+    let taken = targets_taken telling s mid took (Gave unit.ready.ticket unit.ready.op (given_of unit.ready)) alone gave in
+    targets_as telling s old new c.loop-round.restored.items c.reserve.new.self.items c.reserve.ensures.items (targets_stay telling s old mid new c.loop-round.restored.items (c.loop-round.invariant.restored alone)
+    (targets_stay telling s mid took new [] taken (c.in-Err-do_next.ensures.restored alone)))
+
+pub returns-in-Err-do_next-clause-stopped : goal.returns-in-Err-do_next-clause-stopped
+returns-in-Err-do_next-clause-stopped g c =
+    let s = g.Q.Desk.start in
+    let unit = c.in-Ok-Some.unit in
+    unit_stopped s (g.Q.Desk.seen c.do_next.new.desk) unit.ready.ticket c.in-Err-do_next.refusal
+    (given_some c.laws.ensures s (g.Q.Desk.seen c.loop-round.desk) (g.Q.Desk.seen c.take.new.self) unit.ready.ticket unit.ready.op (given_of unit.ready) c.requires.numbered
+    (took_some s (g.Q.Desk.seen c.loop-round.desk) (g.Q.Desk.seen c.take.new.self) c.in-Ok-Some.field-0 unit c.in-Ok-Some.field-0-is c.in-Ok-Some.ensures.step)) c.in-Err-do_next.ensures.stopped
+
+pub returns-in-Err-do_next-clause-grew : goal.returns-in-Err-do_next-clause-grew
+returns-in-Err-do_next-clause-grew g c =
+    let s = g.Q.Desk.start in
+    let old = g.Q.Desk.seen c.args.desk.now in
+    let mid = g.Q.Desk.seen c.loop-round.desk in
+    let took = g.Q.Desk.seen c.take.new.self in
+    let new = g.Q.Desk.seen c.do_next.new.desk in
+    let unit = c.in-Ok-Some.unit in
+    let gave = took_some s mid took c.in-Ok-Some.field-0 unit c.in-Ok-Some.field-0-is c.in-Ok-Some.ensures.step in
+    let taking = asking_stepped s mid took TakeStep (Gave unit.ready.ticket unit.ready.op (given_of unit.ready)) gave in
+    let some = given_some c.laws.ensures s mid took unit.ready.ticket unit.ready.op (given_of unit.ready) c.requires.numbered gave in
+    asking_on s [] [] old mid new c.loop-round.invariant.grew (asking_on s [] [] mid took new taking (asking_by s unit.ready.ticket took new some c.do_next.ensures.grew))
+
+pub loop-round-preserved : goal.loop-round-preserved
+loop-round-preserved g c =
+    let telling : Telling g.row.T-Target.Denot = record { made_for = g.T.Target.Target.made_for; files = g.T.Target.Target.files; is_sure = g.T.Target.Target.is_sure; are_told = g.T.Targets.is_told c.args.targets.now; are_quiet = g.T.Targets.is_quiet c.args.targets.now } in
+    let s = g.Q.Desk.start in
+    let old = g.Q.Desk.seen c.args.desk.now in
+    let mid = g.Q.Desk.seen c.loop-round.desk in
+    let took = g.Q.Desk.seen c.take.new.self in
+    let new = g.Q.Desk.seen c.do_next.new.desk in
+    let unit = c.in-Ok-Some.unit in
+    let inv = c.loop-round.invariant in
+    let gave = took_some s mid took c.in-Ok-Some.field-0 unit c.in-Ok-Some.field-0-is c.in-Ok-Some.ensures.step in
+    let taking = asking_stepped s mid took TakeStep (Gave unit.ready.ticket unit.ready.op (given_of unit.ready)) gave in
+    let some = given_some c.laws.ensures s mid took unit.ready.ticket unit.ready.op (given_of unit.ready) c.requires.numbered gave in
+    let longer : length mid + 1 ≤ length new = round_longer s mid took new unit.ready.ticket TakeStep (Gave unit.ready.ticket unit.ready.op (given_of unit.ready)) gave c.do_next.ensures.grew in
+    let rounds : c.loop-round._round ≤ length mid = inv.rounds in
+    let items : c.keep.new.restored.items ≡ c.loop-round.restored.items ++ filled_of c.in-Ok.target = items_on c.loop-round.restored.items c.reserve.new.self.items c.keep.new.restored.items (filled_of c.in-Ok.target) c.keep.ensures c.reserve.ensures.items in
+    record {
+      grew = asking_on s [] [] old mid new inv.grew (asking_on s [] [] mid took new taking (asking_by s unit.ready.ticket took new some c.do_next.ensures.grew));
+      rest = λ alone rest. unit_rest c.laws.ensures s c.requires.numbered alone mid took new unit.ready.ticket unit.ready.op (given_of unit.ready) gave c.do_next.ensures.grew (c.in-Ok.ensures.over alone) (inv.rest alone rest);
+      readers = λ alone rest. unit_readers c.laws.ensures s c.requires.numbered alone mid took new unit.ready.ticket unit.ready.op (given_of unit.ready) gave c.do_next.ensures.grew (c.in-Ok.ensures.over alone) (inv.readers alone rest);
+      restored = λ alone. targets_as telling s old new (c.loop-round.restored.items ++ filled_of c.in-Ok.target) c.keep.new.restored.items items (targets_on telling s old mid new c.loop-round.restored.items (filled_of c.in-Ok.target) (inv.restored alone)
+          (targets_on telling s mid took new [] (filled_of c.in-Ok.target) (targets_taken telling s mid took (Gave unit.ready.ticket unit.ready.op (given_of unit.ready)) alone gave) (c.in-Ok.ensures.restored alone)));
+      rounds = omega (arith, longer, rounds);
+    }
+
+pub returns-clause-grew : goal.returns-clause-grew
+returns-clause-grew g c = c.loop-round.invariant.grew
+
+pub returns-clause-restored : goal.returns-clause-restored
+returns-clause-restored g c = c.loop-round.invariant.restored
+
+pub returns-clause-stopped : goal.returns-clause-stopped
+returns-clause-stopped g c = let rounds : c.loop-round._round ≤ length (g.Q.Desk.seen c.loop-round.desk) = c.loop-round.invariant.rounds in λ alone. omega (arith, rounds)

@@ -1,0 +1,101 @@
+//! The file system for tests, of whose calls one fails.
+use std::alloc::Allocator;
+use std::cell::Cell;
+use std::fmt::Display;
+use std::fs::{File, Metadata, OpenOptions};
+use std::io::{self, ErrorKind};
+use std::rt::Files;
+
+/// The file system, whose call after the next `left` ones fails, and no other. Where it is full, the files of stages
+/// take no byte.
+#[derive(Drop)]
+pub struct Failing {
+    pub rt: HostRuntime,
+    pub left: Cell<u64>,
+    pub is_full: bool,
+}
+
+impl Failing {
+    fn turn(&self) -> io::Result<()> {
+        let left = self.left.get();
+        self.left.set(left.wrapping_sub(1));
+        if left == 0 {
+            return Err(ErrorKind::StorageFull.into());
+        }
+        Ok(())
+    }
+}
+
+impl Files for Failing {
+    type File = File;
+
+    type Dir = <HostRuntime as Files>::Dir;
+
+    fn open_file(&self, how: &OpenOptions, path: &str) -> io::Result<File> {
+        self.turn()?;
+        let file = self.rt.open_file(how, path)?;
+        if self.is_full && path.contains("/stage/") {
+            return self
+                .rt
+                .open_file(OpenOptions::new().write(true), "/dev/full");
+        }
+        Ok(file)
+    }
+
+    fn open_dir(&self, path: &str) -> io::Result<Self::Dir> {
+        self.turn()?;
+        self.rt.open_dir(path)
+    }
+
+    fn metadata(&self, path: &str) -> io::Result<Metadata> {
+        self.turn()?;
+        self.rt.metadata(path)
+    }
+
+    fn symlink_metadata(&self, path: &str) -> io::Result<Metadata> {
+        self.turn()?;
+        self.rt.symlink_metadata(path)
+    }
+
+    fn copy(&self, _from: &str, _to: &str) -> io::Result<u64> {
+        Err(ErrorKind::Unsupported.into())
+    }
+
+    fn rename(&self, from: &str, to: &str) -> io::Result<()> {
+        self.turn()?;
+        self.rt.rename(from, to)
+    }
+
+    fn remove_file(&self, path: &str) -> io::Result<()> {
+        self.turn()?;
+        self.rt.remove_file(path)
+    }
+
+    fn create_dir(&self, path: &str) -> io::Result<()> {
+        self.turn()?;
+        self.rt.create_dir(path)
+    }
+
+    fn remove_dir(&self, path: &str) -> io::Result<()> {
+        self.rt.remove_dir(path)
+    }
+
+    fn remove_dir_all<B: Allocator>(&self, _alloc: B, _path: &str) -> io::Result<()> {
+        Err(ErrorKind::Unsupported.into())
+    }
+
+    fn hard_link(&self, original: &str, link: &str) -> io::Result<()> {
+        self.turn()?;
+        self.rt.hard_link(original, link)
+    }
+}
+
+impl Eprint for Failing {
+    fn eprint<D: Display + Drop>(&self, value: D) -> io::Result<()> {
+        self.rt.eprint(value)
+    }
+
+    fn eprintln<D: Display + Drop>(&self, value: D) -> io::Result<()> {
+        self.rt.eprintln(value)
+    }
+}

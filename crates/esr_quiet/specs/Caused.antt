@@ -1,0 +1,10 @@
+-- The failures of units in a history have causes.
+use Rattle.std.specs.Prelude.{ℕ, List}
+use Rattle.esr_core.specs.Entry.{Why, Moment}
+use Rattle.esr_desk.specs.declared.fault.Fault.{Fault}
+use Rattle.esr_desk.specs.Start.{Start}
+use Rattle.esr_desk.specs.Shown.{Counts, IsReport, IsShownAt}
+
+-- the cause of each failure that is told was shown when it was told
+abbrev pub AreCaused : {S F H T : Type 0} → Counts S F H T → Start → List Moment → List (Fault S F H T) → Type 0
+AreCaused c s log faults = (place who : ℕ) (why : Why) (report : IsReport log place who why) → IsShownAt c s report.front place who why faults

@@ -1,0 +1,705 @@
+-- The infos of the listed snapshots stay right over each step that is no settle, and with one more over the settle of a finalization.
+--
+-- What is kept:
+--   WorksStay w v         each ticket of w is in v under its number, with the same work
+--   BlobsStay f w v       each blob of w is in v with the same bytes
+--   IsPlain step reply    the step settles nothing and removes no blob. It computes to Unit at each step but a settle and RemoveTests, whatever the reply, and at a settle with each refusal but DepotFault.
+--   AreListed root infos  each info is of a snapshot that the root lists. AreInfosOf doesn't say so, and a settle needs it: an info of no index under the uuid of an open op would pass before the settle, and not after it.
+-- Over any two worlds:
+--   infos_stay : v.root ≡ w.root → WorksStay w v → (tells ≡ true → BlobsStay f w v) → AreInfosOf f w tells infos → AreInfosOf f v tells infos
+-- Over a step:
+--   infos_step : Tracked w → Allowed f size w m → IsPlain m.entry.step m.entry.reply → AreInfosOf f w tells infos → AreInfosOf f (after f w m) tells infos
+--   listed_step : Tracked w → IsPlain m.entry.step m.entry.reply → AreListed w.root infos → AreListed (after f w m).root infos
+--   root_step, works_step, blobs_step : what these take of the step
+-- Over the settle of the ticket t, whose work is Finalize info results made:
+--   infos_settle_step : Tracked w → Allowed f size w m → m.entry.step ≡ SettleStep → m.entry.reply ≡ WasSettled → fin.get w.tickets m.entry.who ≡ Some t → t.work ≡ Finalize info results made
+--       → info_of_code i ≡ info → AreApart (map ref_of_code i.indices) → ReadsBack f.info info → AreListed w.root infos → AreInfosOf f w tells infos
+--       → AreInfosOf f (after f w m) tells (infos ++ i ∷ []) × AreListed (after f w m).root (infos ++ i ∷ [])
+--   infos_settled_of : the same for settled_of f w k (Some t), where t is out, unsettled, of the present term, and has raised n
+--   infos_settled, listed_settled : the same for any world in which it HasSettled
+-- What these ask of the info:
+--   final_info : info_of x r ≡ info, for the open op x of the ticket and results r of all its shards
+--   info_apart : IsInfo i → AreApart (map ref_of_code i.indices)
+use Rattle.std.proofs.Common.{◌≡◌, ◌≢◌, ◌⊎◌, ℕ, zero, suc, ◌+◌, ◌<◌, ◌≤◌, Bool, true, false, List, [], ◌∷◌, ◌++◌, Option, Some, None, map, refl, sym, ap, ◌∙◌, subst, inl, inr, arith, nat_cmp, true≢false, eq-eqb}
+use Rattle.std.specs.Prelude.{if◌then◌else◌}
+use Rattle.std.specs.List.{IsDistinct}
+use Rattle.std.proofs.lemmas.Bool.Decides.{eqb_tells}
+use Rattle.std.specs.Cmp.{nat_cmp_total}
+use Rattle.std.specs.Cmp.Lexicographic.{nat_list_cmp_total}
+use Rattle.std.specs.FinMap.{FinMap, nat_cmp-IsAntisymmetric}
+use Rattle.std.specs.FinMap as fin
+use Rattle.esr_model.specs.Names.{BlobName, Latest, Snap}
+use Rattle.esr_model.specs.Values.{Bytes, Has, IndexRef, RootSnap, RootData, SnapInfo, ShardResult, ReadsBack, Formats}
+use Rattle.esr_model.specs.Shelf.{Shelved, Create}
+use Rattle.esr_model.specs.Places.{numbered, places}
+use Rattle.esr_model.specs.Finalize.{Finalizes, finalized_root, done_at}
+use Rattle.esr_model.specs.Image.{Blobs, Image, At, Generation, index_at, at_shard_of}
+use Rattle.esr_core.specs.World.{World, Op, ShardWork, Finalize, Drop, swap_of, AllDone, info_of, metadata, Ticket, ReadState, Restored, NotRestored, RestoreShard, Restoring, Reader, record_of}
+use Rattle.esr_core.specs.Steps.{IsOut, noting, with_ticket, shard_ticket, final_ticket}
+use Rattle.esr_core.specs.Turns.{plain_ticket}
+use Rattle.esr_core.specs.Restores.{AreApart, restore_shard}
+use Rattle.esr_core.specs.Tracked.{Named, FinalTracked, Tracked}
+use Rattle.esr_core.specs.Entry.{Snapshot, Restore, Clone, DeleteSnapshots, Cleanup, Given, GivenShard, GivenFinalize, GivenDrop, GivenRestore, Read, ReadBlob, RestoredShard, CheckedAll, DrawTest, CommitTest, RemoveTests, ReadFails, Step, AskStep, TakeStep, DrawStep, BeginStep, CommitStep, LatestStep, FetchStep, RaiseStep, SettleStep, DoneStep, FailedStep, FinishStep, DroppedStep, ElectStep, ReadStep, DepotFault, DeposedAt, Reply, Gave, DrawnFrom, WasDone, WasThere, WasFetched, WasSettled, HasEnded, Refused, AcceptedRestore, Moment}
+use Rattle.esr_core.specs.After.{taken_shard, taken_by, taken_restore, taken_restore_shard, shard_of, with_given, committing, told_blob, fetching, settled_by, settled_of, done_by, done_of, is_stale, failed_by, failed_of, dropped_of, read_told, read_over, shard_over, read_step, read_by, done_step, has_text, fallen, is_latest, tried, test_left, faulted, answered, blobs_in, after}
+use Rattle.esr_core.specs.Allowed as allowed
+use Rattle.esr_core.specs.Allowed.{Told, SameBlobs, Adds, WasMade, IsInInfo, AreIndicesIn, Settles, VerifyAllows, Allows, Allowed}
+use Rattle.esr_core.proofs.Maps.{get_same, get_other, get_kept, split, texts_same}
+use Rattle.esr_core.proofs.Adds.{text_one}
+use Rattle.esr_core.proofs.Reading.{some_same, Has-mapped, Has-append, Has-left, Has-right}
+use Rattle.esr_core.proofs.Results.{done_of as result_of, done_found, done_same}
+use Rattle.esr_core.proofs.Staging.{larger_old, larger_new}
+use Rattle.esr_core.proofs.Finalizing.{Suits, finalized_is}
+use Rattle.esr_names.specs.declared.index_ref.IndexRef.{IndexRef as CodeRef}
+use Rattle.esr_meta.specs.Info.{Info, IsInfo}
+use Rattle.esr_formats.specs.Refs.{ref_of_code}
+use Rattle.esr_formats.specs.Infos.{info_of_code}
+use Rattle.esr_results.proofs.Refs.{one_id, ids_distinct, other_later}
+use Rattle.esr_progress.specs.Infos.{HasIndices, AreInfosOf}
+
+-- ---- over any two worlds
+
+-- each ticket is there under its number, with the same work
+abbrev pub KeepsWork : FinMap nat_cmp Ticket → FinMap nat_cmp Ticket → Type 0
+KeepsWork was now = (k : ℕ) (t : Ticket) → fin.get was k ≡ Some t → (u : Ticket) × (fin.get now k ≡ Some u) × (u.work ≡ t.work)
+
+abbrev pub WorksStay : World → World → Type 0
+WorksStay w v = KeepsWork w.tickets v.tickets
+
+-- each blob is there with the same bytes
+abbrev pub KeepsBlobs : Formats → Blobs → Blobs → Type 0
+KeepsBlobs f was now = (name : BlobName) (bytes : Bytes) → At f was name bytes → At f now name bytes
+
+abbrev pub BlobsStay : Formats → World → World → Type 0
+BlobsStay f w v = KeepsBlobs f w.blobs v.blobs
+
+pub made_stays : (f : Formats) (w v : World) (uuid : ℕ) (indices : List IndexRef) → WorksStay w v → WasMade f w uuid indices → WasMade f v uuid indices
+made_stays f w v uuid indices works m =
+    let (u, there, same) = works m.number m.t m.there in
+    record { number = m.number; t = u; there = there; info = m.info; results = m.results; made = m.made; work = same ∙ m.work; uuid_is = m.uuid_is; indices_is = m.indices_is; back = m.back }
+
+pub info_stays : (f : Formats) (w v : World) (uuid : ℕ) (indices : List IndexRef) → BlobsStay f w v → IsInInfo f w uuid indices → IsInInfo f v uuid indices
+info_stays f w v uuid indices blobs i = (i.0, record { bytes = i.1.bytes; there = blobs (Snap uuid) i.1.bytes i.1.there; reads = i.1.reads }, i.2)
+
+pub told_stays : (f : Formats) (w v : World) (tells : Bool) (uuid : ℕ) (indices : List IndexRef) → WorksStay w v → (tells ≡ true → BlobsStay f w v)
+    → WasMade f w uuid indices ⊎ (tells ≡ true → IsInInfo f w uuid indices) → WasMade f v uuid indices ⊎ (tells ≡ true → IsInInfo f v uuid indices)
+told_stays f w v tells uuid indices works blobs (inl m) = inl (made_stays f w v uuid indices works m)
+told_stays f w v tells uuid indices works blobs (inr i) = inr (λ t. info_stays f w v uuid indices (blobs t) (i t))
+
+pub indices_stay : (f : Formats) (w v : World) (tells : Bool) (uuid : ℕ) (indices : List IndexRef) → v.root ≡ w.root → WorksStay w v → (tells ≡ true → BlobsStay f w v)
+    → HasIndices f w tells uuid indices → HasIndices f v tells uuid indices
+indices_stay f w v tells uuid indices root works blobs h =
+    record {
+      within = subst (λ (r : RootData). AreIndicesIn r uuid indices) (sym root) h.within;
+      told = told_stays f w v tells uuid indices works blobs h.told;
+    }
+
+pub infos_stay : (f : Formats) (w v : World) (tells : Bool) (infos : List Info) → v.root ≡ w.root → WorksStay w v → (tells ≡ true → BlobsStay f w v)
+    → AreInfosOf f w tells infos → AreInfosOf f v tells infos
+infos_stay f w v tells infos root works blobs a =
+    record {
+      there = λ snap m. a.there snap (subst (λ (r : RootData). Has r.snapshots snap) root m);
+      each = λ i m. indices_stay f w v tells i.uuid.number (map ref_of_code i.indices) root works blobs (a.each i m);
+    }
+
+-- ---- what keeps the works of tickets
+
+works_same : (m : FinMap nat_cmp Ticket) → KeepsWork m m
+works_same m k t e = (t, e, refl)
+
+-- a ticket given anew, with its work
+works_again : (m : FinMap nat_cmp Ticket) (j : ℕ) (old v : Ticket) → fin.get m j ≡ Some old → v.work ≡ old.work → KeepsWork m (fin.insert m j v)
+works_again m j old v there same k t e = elim (split nat_cmp_total nat_cmp-IsAntisymmetric k j) [
+  | inl is ↦
+      let one : t ≡ old = some_same t old (sym e ∙ ap (fin.get m) is ∙ there) in
+      (v, ap (fin.get (fin.insert m j v)) is ∙ get_same nat_cmp_total nat_cmp-IsAntisymmetric m j v, same ∙ ap (λ (x : Ticket). x.work) (sym one))
+  | inr other ↦ (t, get_other nat_cmp_total nat_cmp-IsAntisymmetric m j v k other.0 ∙ e, refl)
+]
+
+-- one more under a number that none has
+works_more : (m : FinMap nat_cmp Ticket) (next : ℕ) (v : Ticket) → ((k : ℕ) (t : Ticket) → fin.get m k ≡ Some t → k < next) → KeepsWork m (fin.insert m next v)
+works_more m next v below k t e = (t, get_other nat_cmp_total nat_cmp-IsAntisymmetric m next v k apart ∙ e, refl)
+  where
+    apart : k ≢ next
+    apart is = let b : k < next = below k t e in absurd (omega (arith, is, b))
+
+-- what is kept of a world: its root, and the works of its tickets
+pub record Keeps (w new : World) : Type 0 where
+  pub root : new.root ≡ w.root
+  pub works : WorksStay w new
+
+-- no ticket has the next number, or a higher one
+abbrev pub AreBelow : World → Type 0
+AreBelow w = (k : ℕ) (t : Ticket) → fin.get w.tickets k ≡ Some t → k < w.next_ticket
+
+keeps_same : (w : World) → Keeps w w
+keeps_same w = record { root = refl; works = works_same w.tickets }
+
+keeps_ticket : (w : World) (k : ℕ) (old t : Ticket) → fin.get w.tickets k ≡ Some old → t.work ≡ old.work → Keeps w (with_ticket w k t)
+keeps_ticket w k old t there same = record { root = refl; works = works_again w.tickets k old t there same }
+
+keeps_change : (w : World) (k : ℕ) (g : Ticket → Ticket) → ((t : Ticket) → (g t).work ≡ t.work) → (o : Option Ticket) → fin.get w.tickets k ≡ o → Keeps w (with_given w k g o)
+keeps_change w k g same None is = keeps_same w
+keeps_change w k g same (Some t) is = keeps_ticket w k t (g t) is (same t)
+
+keeps_either : (w a b : World) (first : Bool) → Keeps w a → Keeps w b → Keeps w (if first then a else b)
+keeps_either w a b true p q = p
+keeps_either w a b false p q = q
+
+committing_work : (name : BlobName) (bytes : Option Bytes) (t : Ticket) → (committing name bytes t).work ≡ t.work
+committing_work name None t = refl
+committing_work name (Some bytes) t = refl
+
+fetching_work : (name : BlobName) (bytes : Option Bytes) (t : Ticket) → (fetching name bytes t).work ≡ t.work
+fetching_work name None t = refl
+fetching_work name (Some bytes) t = refl
+
+-- ---- take
+
+keeps_shard : (w : World) → AreBelow w → (o : ℕ) (op : Op) (base : Option ℕ) (s : Option ShardWork) → Keeps w (taken_shard w o op base s)
+keeps_shard w below o op base None = keeps_same w
+keeps_shard w below o op base (Some s) = record { root = refl; works = works_more w.tickets w.next_ticket (shard_ticket w o op s base) below }
+
+keeps_restore_shard : (w : World) (o : ℕ) (r : Restoring) (s : Option RestoreShard) → Keeps w (taken_restore_shard w o r s)
+keeps_restore_shard w o r None = keeps_same w
+keeps_restore_shard w o r (Some s) = record { root = refl; works = works_same w.tickets }
+
+keeps_restore : (w : World) (o index number : ℕ) (r : Option Restoring) → Keeps w (taken_restore w o index number r)
+keeps_restore w o index number None = keeps_same w
+keeps_restore w o index number (Some r) = keeps_restore_shard w o r (restore_shard r.shards index number)
+
+keeps_taken : (f : Formats) (w : World) → AreBelow w → (o : ℕ) (unit : Given) (op : Option Op) → Keeps w (taken_by f w o unit op)
+keeps_taken f w below o (GivenShard index number base) (Some op) = keeps_shard w below o op base (shard_of op.shards index number)
+keeps_taken f w below o (GivenShard index number base) None = keeps_same w
+keeps_taken f w below o (GivenFinalize info results) (Some op) = record { root = refl; works = works_more w.tickets w.next_ticket (final_ticket f w o op results) below }
+keeps_taken f w below o (GivenFinalize info results) None = keeps_same w
+keeps_taken f w below o GivenDrop op = record { root = refl; works = works_more w.tickets w.next_ticket (plain_ticket w o Drop) below }
+keeps_taken f w below o (GivenRestore index number uuid) op = keeps_restore w o index number (fin.get w.restores o)
+keeps_taken f w below o unit op = keeps_same w
+
+-- ---- ends
+
+keeps_done_by : (w : World) (k : ℕ) (r : ShardResult) (t : Ticket) (op : Option Op) → fin.get w.tickets k ≡ Some t → Keeps w (done_by w k r t op)
+keeps_done_by w k r t None is = keeps_same w
+keeps_done_by w k r t (Some op) is = record { root = refl; works = works_again w.tickets k t (record t { out = false }) is refl }
+
+keeps_done : (w : World) (k : ℕ) (r : ShardResult) (o : Option Ticket) → fin.get w.tickets k ≡ o → Keeps w (done_of w k r o)
+keeps_done w k r None is = keeps_same w
+keeps_done w k r (Some t) is = keeps_done_by w k r t (fin.get w.ops t.op) is
+
+keeps_failed_by : (w : World) (k : ℕ) (t : Ticket) (op : Option Op) → fin.get w.tickets k ≡ Some t → Keeps w (failed_by w k t op)
+keeps_failed_by w k t None is = keeps_same w
+keeps_failed_by w k t (Some op) is = record { root = refl; works = works_again w.tickets k t (record t { out = false }) is refl }
+
+keeps_failed : (w : World) (k : ℕ) (o : Option Ticket) → fin.get w.tickets k ≡ o → Keeps w (failed_of w k o)
+keeps_failed w k None is = keeps_same w
+keeps_failed w k (Some t) is = keeps_either w (with_ticket w k (record t { out = false })) (failed_by w k t (fin.get w.ops t.op)) (is_stale w t t.work) (keeps_ticket w k t (record t { out = false }) is refl) (keeps_failed_by w k t (fin.get w.ops t.op) is)
+
+keeps_dropped : (w : World) (k : ℕ) (o : Option Ticket) → fin.get w.tickets k ≡ o → Keeps w (dropped_of w k o)
+keeps_dropped w k None is = keeps_same w
+keeps_dropped w k (Some t) is = record { root = refl; works = works_again w.tickets k t (record t { out = false }) is refl }
+
+-- ---- steps that read
+
+keeps_told : (w : World) (k : ℕ) (name : BlobName) (bytes : Option Bytes) (q : Option Reader) → Keeps w (read_told w k name bytes q)
+keeps_told w k name bytes None = keeps_same w
+keeps_told w k name None (Some q) = keeps_same w
+keeps_told w k name (Some bytes) (Some q) = record { root = refl; works = works_same w.tickets }
+
+keeps_shard_over : (w : World) (k : ℕ) (state : ReadState) (q : Reader) (r : Option Restoring) → Keeps w (shard_over w k state q r)
+keeps_shard_over w k state q None = keeps_same w
+keeps_shard_over w k state q (Some r) = record { root = refl; works = works_same w.tickets }
+
+keeps_over : (w : World) (k : ℕ) (state : ReadState) (q : Option Reader) → Keeps w (read_over w k state q)
+keeps_over w k state None = keeps_same w
+keeps_over w k state (Some q) = keeps_shard_over w k state q (fin.get w.restores q.op)
+
+keeps_read_step : (f : Formats) (w : World) (k : ℕ) (read : Read) (reply : Reply) (image : Option Image) → Keeps w (read_step f w k read reply image)
+keeps_read_step f w k (ReadBlob name) WasFetched image = keeps_told w k name (told_blob f image name) (fin.get w.readers k)
+keeps_read_step f w k (ReadBlob name) reply image = keeps_same w
+keeps_read_step f w k (RestoredShard files bytes) reply image = keeps_over w k (Restored files bytes) (fin.get w.readers k)
+keeps_read_step f w k (CheckedAll snapshots blobs) reply image = keeps_same w
+keeps_read_step f w k (ReadFails why) reply image = keeps_over w k (NotRestored why) (fin.get w.readers k)
+keeps_read_step f w k read reply image = keeps_same w
+
+keeps_read : (f : Formats) (w : World) (k : ℕ) (read : Read) (reply : Reply) (image : Option Image) → Keeps w (read_by f w k read reply image)
+keeps_read f w zero DrawTest (DrawnFrom first) image = record { root = refl; works = works_same w.tickets }
+keeps_read f w zero (CommitTest name) WasDone image = record { root = refl; works = works_same w.tickets }
+keeps_read f w zero read reply image = keeps_same w
+keeps_read f w (suc k) read reply image = keeps_read_step f w (suc k) read reply image
+
+-- ---- all steps
+
+-- the step settles nothing, and removes no blob
+abbrev pub IsPlain : Step → Reply → Type 0
+IsPlain SettleStep (Refused DepotFault) = ⊥
+IsPlain SettleStep (Refused refusal) = Unit {0}
+IsPlain SettleStep reply = ⊥
+IsPlain (ReadStep (RemoveTests names)) reply = ⊥
+IsPlain step reply = Unit {0}
+
+abbrev IsNoSettle : Step → Type 0
+IsNoSettle SettleStep = ⊥
+IsNoSettle step = Unit {0}
+
+keeps_done_step : (f : Formats) (w : World) → AreBelow w → (k : ℕ) (step : Step) (reply : Reply) (image : Option Image) → IsNoSettle step → Keeps w (done_step f w k step reply image)
+keeps_done_step f w below k (AskStep (Snapshot name indices moment)) reply image no_settle = record { root = refl; works = works_same w.tickets }
+keeps_done_step f w below k (AskStep (Restore name place)) (AcceptedRestore o uuid indices) image no_settle = record { root = refl; works = works_same w.tickets }
+keeps_done_step f w below k TakeStep (Gave ticket op unit) image no_settle = keeps_taken f w below op unit (fin.get w.ops op)
+keeps_done_step f w below k (DrawStep n) reply image no_settle =
+    let h = keeps_change w k (λ t. record t { first = w.next_id; drawn = n }) (λ t. refl) (fin.get w.tickets k) refl in record { root = h.root; works = h.works }
+keeps_done_step f w below k (CommitStep name) WasDone image no_settle = keeps_change w k (committing name (told_blob f image name)) (committing_work name (told_blob f image name)) (fin.get w.tickets k) refl
+keeps_done_step f w below k (CommitStep name) WasThere image no_settle = keeps_change w k (λ t. noting t name) (λ t. refl) (fin.get w.tickets k) refl
+keeps_done_step f w below k LatestStep reply image no_settle = keeps_change w k (λ t. record t { tried_latest = true }) (λ t. refl) (fin.get w.tickets k) refl
+keeps_done_step f w below k (FetchStep name) WasFetched image no_settle = keeps_change w k (fetching name (told_blob f image name)) (fetching_work name (told_blob f image name)) (fin.get w.tickets k) refl
+keeps_done_step f w below k RaiseStep reply image no_settle =
+    let h = keeps_change w k (λ t. record t { raised = Some w.pending }) (λ t. refl) (fin.get w.tickets k) refl in record { root = h.root; works = h.works }
+keeps_done_step f w below k SettleStep reply image no_settle = absurd no_settle
+keeps_done_step f w below k (DoneStep result) reply image no_settle = keeps_done w k result (fin.get w.tickets k) refl
+keeps_done_step f w below k (FailedStep why) reply image no_settle = keeps_failed w k (fin.get w.tickets k) refl
+keeps_done_step f w below k FinishStep reply image no_settle = keeps_change w k (λ t. record t { out = false }) (λ t. refl) (fin.get w.tickets k) refl
+keeps_done_step f w below k DroppedStep reply image no_settle = keeps_dropped w k (fin.get w.tickets k) refl
+keeps_done_step f w below k ElectStep reply image no_settle = record { root = refl; works = works_same w.tickets }
+keeps_done_step f w below k (ReadStep read) reply image no_settle = keeps_read f w k read reply image
+keeps_done_step f w below k step reply image no_settle = keeps_same w
+
+keeps_fallen : (f : Formats) (w up : World) (image : Option Image) → Keeps w up → Keeps w (fallen f w up image)
+keeps_fallen f w up image h =
+    let g = keeps_either w up w (has_text image (f.cluster.text (record_of up))) h (keeps_same w) in record { root = g.root; works = g.works }
+
+keeps_left : (w : World) (name : BlobName) (was now : Option Bytes) → Keeps w (test_left w name was now)
+keeps_left w name None (Some bytes) = record { root = refl; works = works_same w.tickets }
+keeps_left w name None None = keeps_same w
+keeps_left w name (Some was) now = keeps_same w
+
+keeps_fault : (f : Formats) (w : World) → AreBelow w → (k : ℕ) (step : Step) (image : Option Image) → IsNoSettle step → Keeps w (faulted f w k step image)
+keeps_fault f w below k LatestStep image no_settle = keeps_change w k (λ t. record t { tried_latest = true }) (λ t. refl) (fin.get w.tickets k) refl
+keeps_fault f w below k (BeginStep name) image no_settle = keeps_either w (tried w k) w (is_latest name) (keeps_change w k (λ t. record t { tried_latest = true }) (λ t. refl) (fin.get w.tickets k) refl) (keeps_same w)
+keeps_fault f w below k (AskStep (Snapshot name indices moment)) image no_settle = keeps_fallen f w _ image (keeps_done_step f w below k (AskStep (Snapshot name indices moment)) HasEnded image tt)
+keeps_fault f w below k (AskStep (Clone source name indices moment)) image no_settle = keeps_fallen f w w image (keeps_same w)
+keeps_fault f w below k (AskStep (DeleteSnapshots names)) image no_settle = keeps_fallen f w w image (keeps_same w)
+keeps_fault f w below k (AskStep Cleanup) image no_settle = keeps_fallen f w w image (keeps_same w)
+keeps_fault f w below k RaiseStep image no_settle = keeps_fallen f w _ image (keeps_done_step f w below k RaiseStep HasEnded image tt)
+keeps_fault f w below k SettleStep image no_settle = absurd no_settle
+keeps_fault f w below k DroppedStep image no_settle = keeps_fallen f w _ image (keeps_done_step f w below k DroppedStep HasEnded image tt)
+keeps_fault f w below k ElectStep image no_settle = keeps_fallen f w _ image (keeps_done_step f w below k ElectStep HasEnded image tt)
+keeps_fault f w below k (ReadStep (CommitTest name)) image no_settle = keeps_left w name (fin.get w.blobs (f.names.text name)) (told_blob f image name)
+keeps_fault f w below k step image no_settle = keeps_same w
+
+keeps_answered : (f : Formats) (w : World) → AreBelow w → (k : ℕ) (step : Step) (reply : Reply) (image : Option Image) → IsPlain step reply → Keeps w (answered f w k step reply image)
+keeps_answered f w below k SettleStep (Refused DepotFault) image is_plain = absurd is_plain
+keeps_answered f w below k SettleStep (Refused refusal) image is_plain = keeps_same w
+keeps_answered f w below k SettleStep reply image is_plain = absurd is_plain
+keeps_answered f w below k step (Refused DepotFault) image is_plain = keeps_fault f w below k step image tt
+keeps_answered f w below k step (Refused refusal) image is_plain = keeps_same w
+keeps_answered f w below k step reply image is_plain = keeps_done_step f w below k step reply image tt
+
+pub root_step : (f : Formats) (w : World) (m : Moment) → Tracked w → IsPlain m.entry.step m.entry.reply → (after f w m).root ≡ w.root
+root_step f w m t is_plain = (keeps_answered f w (λ k u e. (t.tickets k u e).0) m.entry.who m.entry.step m.entry.reply m.image is_plain).root
+
+pub works_step : (f : Formats) (w : World) (m : Moment) → Tracked w → IsPlain m.entry.step m.entry.reply → WorksStay w (after f w m)
+works_step f w m t is_plain = (keeps_answered f w (λ k u e. (t.tickets k u e).0) m.entry.who m.entry.step m.entry.reply m.image is_plain).works
+
+-- ---- what keeps the blobs
+
+blobs_same : (f : Formats) (was now : Blobs) → now ≡ was → KeepsBlobs f was now
+blobs_same f was now same m b h = subst (λ (x : Blobs). At f x m b) (sym same) h
+
+-- a blob is added under a free name
+pub blobs_added : (f : Formats) (w : World) (name : BlobName) (bytes : Bytes) (now : Blobs) → Adds f w name bytes now → KeepsBlobs f w.blobs now
+blobs_added f w name bytes now adds m b h = subst (λ (x : Blobs). At f x m b) (sym adds.1) (get_kept nat_list_cmp_total texts_same w.blobs (f.names.text name) bytes (f.names.text m) b adds.0 h.0, h.1)
+
+-- `index.latest` is replaced
+pub blobs_latest : (f : Formats) (was now : Blobs) (bytes : Bytes) → ReadsBack f.names Latest → now ≡ fin.insert was (f.names.text Latest) bytes → KeepsBlobs f was now
+blobs_latest f was now bytes named is m b h =
+    subst (λ (x : Blobs). At f x m b) (sym is) (get_other nat_list_cmp_total texts_same was (f.names.text Latest) bytes (f.names.text m) (λ same. h.1.1 (text_one f m Latest h.1.0 named same)) ∙ h.0, h.1)
+
+module _ (f : Formats) (size : ℕ) (w : World) where
+  abbrev Kept : Option Image → Type 0
+  Kept image = KeepsBlobs f w.blobs (blobs_in image w.blobs)
+
+  told_kept : (image : Option Image) (P : Blobs → Type 0) → ((now : Blobs) → P now → KeepsBlobs f w.blobs now) → Told image P → Kept image
+  told_kept None P keeps told = λ m b h. h
+  told_kept (Some image) P keeps told = keeps image.blobs told
+
+  same_kept : (image : Option Image) → SameBlobs w image → Kept image
+  same_kept image same = told_kept image (λ blobs. blobs ≡ w.blobs) (λ now is. blobs_same f w.blobs now is) same
+
+  added_kept : (image : Option Image) (name : BlobName) (bytes : Bytes) → Told image (Adds f w name bytes) → Kept image
+  added_kept image name bytes adds = told_kept image (Adds f w name bytes) (blobs_added f w name bytes) adds
+
+  left_kept : (image : Option Image) (name : BlobName) (bytes : Bytes) → Told image (λ blobs. (blobs ≡ w.blobs) ⊎ Adds f w name bytes blobs) → Kept image
+  left_kept image name bytes left =
+      told_kept image (λ blobs. (blobs ≡ w.blobs) ⊎ Adds f w name bytes blobs) (λ now is. elim is [ inl e ↦ blobs_same f w.blobs now e | inr adds ↦ blobs_added f w name bytes now adds ]) left
+
+  verified_kept : (read : Read) (reply : Reply) (image : Option Image) → IsPlain (ReadStep read) reply → VerifyAllows f w read reply image → Kept image
+  verified_kept read reply image is_plain (allowed.DrawingTest im idle fits same) = same_kept im same
+  verified_kept read reply image is_plain (allowed.TestSpent im idle spent same) = same_kept im same
+  verified_kept read reply image is_plain (allowed.BeginningTest name im own same) = same_kept im same
+  verified_kept read reply image is_plain (allowed.BeginTestFails name im own same) = same_kept im same
+  verified_kept read reply image is_plain (allowed.CommittingTest name bytes im own new adds) = added_kept im name bytes adds
+  verified_kept read reply image is_plain (allowed.TestTaken name im own there) = told_kept im _ (λ now is. blobs_same f w.blobs now is.1) there
+  verified_kept read reply image is_plain (allowed.CommitTestFails name bytes im own leaves) = left_kept im name bytes leaves
+  verified_kept read reply image is_plain (allowed.RemovingTests names im may left) = absurd is_plain
+  verified_kept read reply image is_plain (allowed.RemoveTestsFails names im may left) = absurd is_plain
+  verified_kept read reply image is_plain (allowed.VerifyingAll im done same) = same_kept im same
+  verified_kept read reply image is_plain (allowed.VerifyFailing why id im drawn same) = same_kept im same
+
+  pub allowed_kept : (who : ℕ) (step : Step) (reply : Reply) (image : Option Image) → IsPlain step reply → Allows f size w who step reply image → Kept image
+  allowed_kept who step reply image is_plain (allowed.Accepting name indices moment o im a same) = same_kept im same
+  allowed_kept who step reply image is_plain (allowed.GivingNothing im none same) = same_kept im same
+  allowed_kept who step reply image is_plain (allowed.Giving k o unit im is first gives same) = same_kept im same
+  allowed_kept who step reply image is_plain (allowed.Drawing k n first im draws same) = same_kept im same
+  allowed_kept who step reply image is_plain (allowed.Beginning k name im c same) = same_kept im same
+  allowed_kept who step reply image is_plain (allowed.BeginningLatest k im p same) = same_kept im same
+  allowed_kept who step reply image is_plain (allowed.Committing k name im c adds) = added_kept im name c.bytes adds
+  allowed_kept who step reply image is_plain (allowed.Finding k name im c there) = told_kept im _ (λ now is. blobs_same f w.blobs now is.1) there
+  allowed_kept who step reply image is_plain (allowed.Replacing k im p named put) = told_kept im _ (λ now is. blobs_latest f w.blobs now _ named is) put
+  allowed_kept who step reply image is_plain (allowed.Fetching k name im c there) = told_kept im _ (λ now is. blobs_same f w.blobs now is.2) there
+  allowed_kept who step reply image is_plain (allowed.Missing k name im c none) = told_kept im _ (λ now is. blobs_same f w.blobs now is.1) none
+  allowed_kept who step reply image is_plain (allowed.Listing k im t out same) = same_kept im same
+  allowed_kept who step reply image is_plain (allowed.Raising k n im r same) = same_kept im same
+  allowed_kept who step reply image is_plain (allowed.Settling k im s same) = same_kept im same
+  allowed_kept who step reply image is_plain (allowed.Doing k r im d same) = same_kept im same
+  allowed_kept who step reply image is_plain (allowed.Failing k why im h same) = same_kept im same
+  allowed_kept who step reply image is_plain (allowed.Finishing k im h same) = same_kept im same
+  allowed_kept who step reply image is_plain (allowed.Dropping k im h same) = same_kept im same
+  allowed_kept who step reply image is_plain (allowed.Electing im room same) = same_kept im same
+  allowed_kept who step reply image is_plain (allowed.Looking im same) = same_kept im same
+  allowed_kept who step reply image is_plain (allowed.AskingRestore name place r im h same) = same_kept im same
+  allowed_kept who step reply image is_plain (allowed.Verifying read r im h) = verified_kept read r im is_plain h
+  allowed_kept who step reply image is_plain (allowed.Reading k read r im h same) = same_kept im same
+  allowed_kept who step reply image is_plain (allowed.Cleaning command d x im recorded there clean same) = same_kept im same
+  allowed_kept who step reply image is_plain (allowed.Used name indices moment uuid im none used same) = same_kept im same
+  allowed_kept who step reply image is_plain (allowed.Full name indices moment im none unused full same) = same_kept im same
+  allowed_kept who step reply image is_plain (allowed.AskSpent name indices moment im none unused room spent same) = same_kept im same
+  allowed_kept who step reply image is_plain (allowed.DrawSpent k n im may spent same) = same_kept im same
+  allowed_kept who step reply image is_plain (allowed.RaiseStale k im may stale same) = same_kept im same
+  allowed_kept who step reply image is_plain (allowed.SettleStale k n t s im may stale same) = same_kept im same
+  allowed_kept who step reply image is_plain (allowed.DropStale k im may stale same) = same_kept im same
+  allowed_kept who step reply image is_plain (allowed.RaiseSpent k im may present spent same) = same_kept im same
+  allowed_kept who step reply image is_plain (allowed.ElectSpent im spent same) = same_kept im same
+  allowed_kept who step reply image is_plain (allowed.Taken k name im c other there) = told_kept im _ (λ now is. blobs_same f w.blobs now is.1) there
+  allowed_kept who step reply image is_plain (allowed.BeginFails k name im c same) = same_kept im same
+  allowed_kept who step reply image is_plain (allowed.BeginLatestFails k im p same) = same_kept im same
+  allowed_kept who step reply image is_plain (allowed.CommitFails k name im c left) = left_kept im name c.bytes left
+  allowed_kept who step reply image is_plain (allowed.ReplaceFails k im p named left) =
+      told_kept im _ (λ now is. elim is [ inl e ↦ blobs_same f w.blobs now e | inr put ↦ blobs_latest f w.blobs now _ named put ]) left
+  allowed_kept who step reply image is_plain (allowed.FetchFails k name im c same) = same_kept im same
+  allowed_kept who step reply image is_plain (allowed.ListFails k im t out same) = same_kept im same
+  allowed_kept who step reply image is_plain (allowed.AskFails name indices moment im a same) = same_kept im same
+  allowed_kept who step reply image is_plain (allowed.RaiseFails k im r same) = same_kept im same
+  allowed_kept who step reply image is_plain (allowed.SettleFails k im s same) = same_kept im same
+  allowed_kept who step reply image is_plain (allowed.DropFails k im h same) = same_kept im same
+  allowed_kept who step reply image is_plain (allowed.ElectFails im room same) = same_kept im same
+
+pub blobs_step : (f : Formats) (size : ℕ) (w : World) (m : Moment) → Allowed f size w m → IsPlain m.entry.step m.entry.reply → BlobsStay f w (after f w m)
+blobs_step f size w m a is_plain = elim a.answered [
+  | inl alive ↦ allowed_kept f size w m.entry.who m.entry.step m.entry.reply m.image is_plain alive.1
+  | inr dead ↦ same_kept f size w m.image dead.same
+]
+
+-- ---- the infos over a step that is no settle
+
+pub infos_step : (f : Formats) (size : ℕ) (w : World) (m : Moment) (tells : Bool) (infos : List Info) → Tracked w → Allowed f size w m → IsPlain m.entry.step m.entry.reply
+    → AreInfosOf f w tells infos → AreInfosOf f (after f w m) tells infos
+infos_step f size w m tells infos t a is_plain h = infos_stay f w (after f w m) tells infos (root_step f w m t is_plain) (works_step f w m t is_plain) (λ told. blobs_step f size w m a is_plain) h
+
+-- ---- the root with a snapshot more
+
+-- each info is of a snapshot that is listed
+abbrev pub AreListed : RootData → List Info → Type 0
+AreListed root infos = (i : Info) → Has infos i → (snap : RootSnap) × Has root.snapshots snap × (i.uuid.number ≡ snap.uuid)
+
+-- a shard with a generation keeps one, and one that is done has one
+generation_kept : (root new : RootData) (info : SnapInfo) (results : List ShardResult) → Finalizes root info results new → (index shard g : ℕ) → Generation root index shard g → (h : ℕ) × Generation new index shard h
+generation_kept root new info results fins index shard g at = let now = larger_old (at_shard_of (index_at root.indices index) shard) (done_at results index shard) g at in (now.0, fins.generations index shard ∙ now.1)
+
+generation_made : (root new : RootData) (info : SnapInfo) (results : List ShardResult) → Finalizes root info results new → (index shard g : ℕ) → done_at results index shard ≡ Some g → (h : ℕ) × Generation new index shard h
+generation_made root new info results fins index shard g at = let now = larger_new (at_shard_of (index_at root.indices index) shard) (done_at results index shard) g at in (now.0, fins.generations index shard ∙ now.1)
+
+pub listed_step : (f : Formats) (w : World) (m : Moment) (infos : List Info) → Tracked w → IsPlain m.entry.step m.entry.reply → AreListed w.root infos → AreListed (after f w m).root infos
+listed_step f w m infos t is_plain listed = subst (λ (r : RootData). AreListed r infos) (sym (root_step f w m t is_plain)) listed
+
+-- the indices of another snapshot stay
+pub indices_kept : (root new : RootData) (info : SnapInfo) (results : List ShardResult) → Finalizes root info results new → (uuid : ℕ) (indices : List IndexRef) → uuid ≢ info.uuid
+    → AreIndicesIn root uuid indices → AreIndicesIn new uuid indices
+indices_kept root new info results fins uuid indices apart a =
+    record {
+      listed = λ r m. let (x, xm, name, id, has) = a.listed r m in let (y, ym, y_name, y_id, more) = fins.kept x xm in (y, ym, y_name ∙ name, y_id ∙ id, more uuid has);
+      exact = λ y ym has. elim (fins.from y ym uuid has) [
+        | inl e ↦ absurd (apart e.0)
+        | inr e ↦ let (x, xm, name, id, was) = e in let (r, rm, r_name, r_id) = a.exact x xm was in (r, rm, r_name ∙ name, r_id ∙ id)
+      ];
+      generations = λ r k m below. let (g, at) = a.generations r k m below in generation_kept root new info results fins r.id k g at;
+      apart = a.apart;
+    }
+
+numbered_has : (r : IndexRef) (first n k : ℕ) → first ≤ k → k < first + n → Has (numbered r first n) (r, k)
+numbered_has r first zero k low high = absurd (omega (arith, low, high))
+numbered_has r first (suc n) k low high = elim (eqb_tells first k) [
+  | inl h ↦ inl (ap (λ (x : ℕ). (r, x)) h.1)
+  | inr h ↦ inr (let other : first ≢ k = h.1 in numbered_has r (suc first) n k (omega (arith, low, other)) (omega (arith, high)))
+]
+
+-- a shard of an index is a place
+places_has : (refs : List IndexRef) (r : IndexRef) (k : ℕ) → Has refs r → k < r.shards → Has (places refs) (r, k)
+places_has [] r k m below = absurd m
+places_has (q ∷ refs) r k (inl e) below =
+    Has-left (numbered q 0 q.shards) (places refs) (r, k) (subst (λ (z : IndexRef). Has (numbered z 0 z.shards) (r, k)) (sym e) (numbered_has r 0 r.shards k (omega arith) (omega (arith, below))))
+places_has (q ∷ refs) r k (inr m) below = Has-right (numbered q 0 q.shards) (places refs) (r, k) (places_has refs r k m below)
+
+-- what holds of an open op suits the root
+suits : (root : RootData) (ops : FinMap nat_cmp Op) (next o : ℕ) (op : Op) → Named root ops next → fin.get ops o ≡ Some op → Suits root op
+suits root ops next o op n there =
+    record {
+      places = n.shards o op there;
+      results = λ s r m state. n.results o op s r there m state;
+      one_id = λ r q rm qm e. n.once o op r q there rm qm e;
+      same_name = λ r x rm xm e. (n.rooted o op r x there rm xm).one_name e;
+    }
+
+finalized : (root : RootData) (ops : FinMap nat_cmp Op) (next o : ℕ) (op : Op) (results : List ShardResult) → Named root ops next → fin.get ops o ≡ Some op → AllDone op.shards results
+    → Finalizes root (info_of op results) results (finalized_root root (info_of op results) results)
+finalized root ops next o op results n there done = finalized_is root op results (suits root ops next o op n there) (λ x y xm ym e. (n.root_indices x y xm ym).one_name e) done
+
+found_at : (results : List ShardResult) (s : ShardWork) (r : IndexRef) (k g : ℕ) → ◌≡◌ {A = IndexRef × ℕ} (s.ref, s.number) (r, k) → done_at results s.ref.id s.number ≡ Some g → done_at results r.id k ≡ Some g
+found_at results s r k g same found = subst (λ (p : IndexRef × ℕ). done_at results p.0.id p.1 ≡ Some g) same found
+
+-- the new snapshot has those of its op
+pub indices_made : (root new : RootData) (ops : FinMap nat_cmp Op) (next o : ℕ) (op : Op) (results : List ShardResult) → Named root ops next → fin.get ops o ≡ Some op → AllDone op.shards results
+    → AreApart op.indices → Finalizes root (info_of op results) results new → AreIndicesIn new op.uuid op.indices
+indices_made root new ops next o op results n there done apart fins =
+    record {
+      listed = fins.made;
+      exact = λ y ym has. elim (fins.from y ym op.uuid has) [
+        | inl e ↦ e.1
+        | inr e ↦ let (x, xm, name, id, was) = e in absurd (n.unused o op x there xm was)
+      ];
+      generations = λ r k m below. generation r k m below;
+      apart = apart;
+    }
+  where
+    generation : (r : IndexRef) (k : ℕ) → Has op.indices r → k < r.shards → (g : ℕ) × Generation new r.id k g
+    generation r k m below =
+        let member : Has (map (λ (s : ShardWork). (s.ref, s.number)) op.shards) (r, k) = subst (λ (xs : List (IndexRef × ℕ)). Has xs (r, k)) (sym (n.shards o op there)) (places_has op.indices r k m below) in
+        let (s, sm, e) = Has-mapped (λ (s : ShardWork). (s.ref, s.number)) op.shards (r, k) member in
+        let (q, state, qm) = result_of op.shards results done s sm in
+        let found : done_at results s.ref.id s.number ≡ Some q.generation = done_found op.shards results done (λ z x zm st. n.results o op z x there zm st) (λ a b am bm ids nums. n.distinct o op a b there am bm ids nums) s q sm state in
+        let at : done_at results r.id k ≡ Some q.generation = found_at results s r k q.generation e found in
+        generation_made root new (info_of op results) results fins r.id k q.generation at
+
+-- ---- a settle
+
+-- From w the finalization under k has settled in v, which made the snapshot of this info.
+pub record HasSettled (f : Formats) (w v : World) (k : ℕ) (i : Info) : Type 0 where
+  pub t : Ticket
+  pub out : IsOut w k t
+  pub unsettled : t.settled ≡ false
+  pub present : t.term ≡ w.term
+  pub info : SnapInfo
+  pub results : List ShardResult
+  pub made : Shelved
+  pub work : t.work ≡ Finalize info results made
+  pub root : v.root ≡ finalized_root t.root info results
+  pub works : WorksStay w v
+  pub code : info_of_code i ≡ info
+  pub apart : AreApart (map ref_of_code i.indices)
+  pub back : ReadsBack f.info info
+
+module _ (f : Formats) (w v : World) (k : ℕ) (i : Info) (tr : Tracked w) (h : HasSettled f w v k i) where
+  law : FinalTracked w.root w.ops h.t h.info h.results
+  law = tr.finals k h.t h.info h.results h.made h.out.there h.out.out h.unsettled h.present h.work
+
+  code : info_of_code i ≡ info_of law.op h.results
+  code = h.code ∙ law.info_is
+
+  fins : Finalizes w.root (info_of law.op h.results) h.results v.root
+  fins =
+      let root : v.root ≡ finalized_root w.root (info_of law.op h.results) h.results = h.root ∙ (λ j. finalized_root (law.root_is j) (law.info_is j) h.results) in
+      subst (Finalizes w.root (info_of law.op h.results) h.results) (sym root) (finalized w.root w.ops w.next_id h.t.op law.op h.results tr.named law.op_there law.done)
+
+  uuid : i.uuid.number ≡ law.op.uuid
+  uuid = ap (λ (x : SnapInfo). x.uuid) code
+
+  refs : map ref_of_code i.indices ≡ law.op.indices
+  refs = ap (λ (x : SnapInfo). x.indices) code
+
+  new_within : AreIndicesIn v.root i.uuid.number (map ref_of_code i.indices)
+  new_within =
+      subst (λ (xs : List IndexRef). AreIndicesIn v.root i.uuid.number xs) (sym refs) (subst (λ (u : ℕ). AreIndicesIn v.root u law.op.indices) (sym uuid)
+      (indices_made w.root v.root w.ops w.next_id h.t.op law.op h.results tr.named law.op_there law.done (subst AreApart refs h.apart) fins))
+
+  new_made : WasMade f v i.uuid.number (map ref_of_code i.indices)
+  new_made =
+      let (u, there, same) = h.works k h.t h.out.there in
+      record { number = k; t = u; there = there; info = h.info; results = h.results; made = h.made; work = same ∙ h.work; uuid_is = ap (λ (x : SnapInfo). x.uuid) (sym h.code); indices_is = ap (λ (x : SnapInfo). x.indices) (sym h.code); back = h.back }
+
+  -- the snapshots are one more
+  snapshot_was : (snap : RootSnap) → Has v.root.snapshots snap → Has w.root.snapshots snap ⊎ (i.uuid.number ≡ snap.uuid)
+  snapshot_was snap m = elim (Has-append w.root.snapshots _ snap (subst (λ (xs : List RootSnap). Has xs snap) fins.snapshots m)) [ inl old ↦ inl old | inr e ↦ inr (uuid ∙ ap (λ (x : RootSnap). x.uuid) e) ]
+
+  -- its uuid is that of none that was listed
+  uuid_new : (infos : List Info) → AreListed w.root infos → (j : Info) → Has infos j → j.uuid.number ≢ law.op.uuid
+  uuid_new infos listed j m same = let (snap, there, e) = listed j m in (tr.named.unlisted h.t.op law.op snap law.op_there there).1 (sym e ∙ same)
+
+  pub infos_settled : (tells : Bool) (infos : List Info) → (tells ≡ true → BlobsStay f w v) → AreListed w.root infos → AreInfosOf f w tells infos → AreInfosOf f v tells (infos ++ i ∷ [])
+  infos_settled tells infos blobs listed a =
+      record {
+        there = λ snap m. elim (snapshot_was snap m) [
+          | inl old ↦ let (j, jm, e) = a.there snap old in (j, Has-left infos (i ∷ []) j jm, e)
+          | inr new ↦ (i, Has-right infos (i ∷ []) i (inl refl), new)
+        ];
+        each = λ j m. elim (Has-append infos i j m) [
+          | inl old ↦
+              let was : HasIndices f w tells j.uuid.number (map ref_of_code j.indices) = a.each j old in
+              record {
+                within = indices_kept w.root v.root (info_of law.op h.results) h.results fins j.uuid.number (map ref_of_code j.indices) (uuid_new infos listed j old) was.within;
+                told = told_stays f w v tells j.uuid.number (map ref_of_code j.indices) h.works blobs was.told;
+              }
+          | inr new ↦ subst (λ (x : Info). HasIndices f v tells x.uuid.number (map ref_of_code x.indices)) new (record { within = new_within; told = inl new_made })
+        ];
+      }
+
+  pub listed_settled : (infos : List Info) → AreListed w.root infos → AreListed v.root (infos ++ i ∷ [])
+  listed_settled infos listed j m =
+      let add : RootSnap = record { name = law.op.name; uuid = law.op.uuid; state = 1 } in
+      elim (Has-append infos i j m) [
+        | inl old ↦ let (snap, there, e) = listed j old in (snap, subst (λ (xs : List RootSnap). Has xs snap) (sym fins.snapshots) (Has-left w.root.snapshots (add ∷ []) snap there), e)
+        | inr new ↦ (add, subst (λ (xs : List RootSnap). Has xs add) (sym fins.snapshots) (Has-right w.root.snapshots (add ∷ []) add (inl refl)), ap (λ (x : Info). x.uuid.number) (sym new) ∙ uuid)
+      ]
+
+-- ---- the settle of a finalization, as a step
+
+-- its world
+settled_is : (f : Formats) (w : World) (k n : ℕ) (t : Ticket) (info : SnapInfo) (results : List ShardResult) (made : Shelved) → t.work ≡ Finalize info results made → t.raised ≡ Some n
+    → settled_of f w k (Some t) ≡ settled_by f w k t (Some (record { root = finalized_root t.root info results; own = metadata f info; commands = Create made ∷ [] })) (Some n)
+settled_is f w k n t info results made work raised = λ j. settled_by f w k t (swap_of f (work j) t.root) (raised j)
+
+pub settled_root : (f : Formats) (w : World) (k n : ℕ) (t : Ticket) (info : SnapInfo) (results : List ShardResult) (made : Shelved) → t.work ≡ Finalize info results made → t.raised ≡ Some n
+    → (settled_of f w k (Some t)).root ≡ finalized_root t.root info results
+settled_root f w k n t info results made work raised = ap (λ (x : World). x.root) (settled_is f w k n t info results made work raised)
+
+pub settled_works : (f : Formats) (w : World) (k n : ℕ) (t : Ticket) (info : SnapInfo) (results : List ShardResult) (made : Shelved) → fin.get w.tickets k ≡ Some t → t.work ≡ Finalize info results made → t.raised ≡ Some n
+    → WorksStay w (settled_of f w k (Some t))
+settled_works f w k n t info results made there work raised =
+    subst (WorksStay w) (sym (settled_is f w k n t info results made work raised)) (works_again w.tickets k t (record t { settled = true }) there refl)
+
+-- the world of a settle, where its ticket is told
+pub of_ticket : (f : Formats) (w : World) (k n : ℕ) (i : Info) (t : Ticket) (info : SnapInfo) (results : List ShardResult) (made : Shelved) → IsOut w k t → t.settled ≡ false → t.term ≡ w.term
+    → t.work ≡ Finalize info results made → t.raised ≡ Some n → info_of_code i ≡ info → AreApart (map ref_of_code i.indices) → ReadsBack f.info info
+    → HasSettled f w (settled_of f w k (Some t)) k i
+of_ticket f w k n i t info results made out unsettled present work raised code apart back =
+    record {
+      t = t;
+      out = out;
+      unsettled = unsettled;
+      present = present;
+      info = info;
+      results = results;
+      made = made;
+      work = work;
+      root = settled_root f w k n t info results made work raised;
+      works = settled_works f w k n t info results made out.there work raised;
+      code = code;
+      apart = apart;
+      back = back;
+    }
+
+pub infos_settled_of : (f : Formats) (w : World) (k n : ℕ) (t : Ticket) (tells : Bool) (infos : List Info) (i : Info) (info : SnapInfo) (results : List ShardResult) (made : Shelved) → Tracked w → IsOut w k t → t.settled ≡ false → t.term ≡ w.term
+    → t.work ≡ Finalize info results made → t.raised ≡ Some n → info_of_code i ≡ info → AreApart (map ref_of_code i.indices) → ReadsBack f.info info
+    → AreListed w.root infos → AreInfosOf f w tells infos → AreInfosOf f (settled_of f w k (Some t)) tells (infos ++ i ∷ [])
+infos_settled_of f w k n t tells infos i info results made tr out unsettled present work raised code apart back listed h =
+    let blobs : (settled_of f w k (Some t)).blobs ≡ w.blobs = ap (λ (x : World). x.blobs) (settled_is f w k n t info results made work raised) in
+    infos_settled f w (settled_of f w k (Some t)) k i tr (of_ticket f w k n i t info results made out unsettled present work raised code apart back) tells infos (λ told. blobs_same f w.blobs (settled_of f w k (Some t)).blobs blobs) listed h
+
+-- it reads the root and the tickets alone
+in_step : (f : Formats) (w u v : World) (k : ℕ) (i : Info) → v.root ≡ u.root → v.tickets ≡ u.tickets → HasSettled f w u k i → HasSettled f w v k i
+in_step f w u v k i root tickets h =
+    record {
+      t = h.t;
+      out = h.out;
+      unsettled = h.unsettled;
+      present = h.present;
+      info = h.info;
+      results = h.results;
+      made = h.made;
+      work = h.work;
+      root = root ∙ h.root;
+      works = subst (KeepsWork w.tickets) (sym tickets) h.works;
+      code = h.code;
+      apart = h.apart;
+      back = h.back;
+    }
+
+settling : (f : Formats) (size : ℕ) (w : World) (who : ℕ) (image : Option Image) → Allows f size w who SettleStep WasSettled image → Settles f w who × SameBlobs w image
+settling f size w who image (allowed.Settling k im s same) = (s, same)
+
+-- the world after a settle that was answered Ok
+pub of_step : (f : Formats) (size : ℕ) (w : World) (m : Moment) (i : Info) (t : Ticket) (info : SnapInfo) (results : List ShardResult) (made : Shelved) → Allowed f size w m
+    → m.entry.step ≡ SettleStep → m.entry.reply ≡ WasSettled → fin.get w.tickets m.entry.who ≡ Some t → t.work ≡ Finalize info results made
+    → info_of_code i ≡ info → AreApart (map ref_of_code i.indices) → ReadsBack f.info info
+    → HasSettled f w (after f w m) m.entry.who i × BlobsStay f w (after f w m)
+of_step f size w m i t info results made a step_is reply_is there work code apart back = elim a.answered [
+  | inl alive ↦ from (settling f size w m.entry.who m.image (subst (λ (r : Reply). Allows f size w m.entry.who SettleStep r m.image) reply_is (subst (λ (s : Step). Allows f size w m.entry.who s m.entry.reply m.image) step_is alive.1)))
+  | inr dead ↦ absurd (refused dead.place (sym reply_is ∙ dead.refused))
+]
+  where
+    refused : (place : ℕ) → WasSettled ≡ Refused (DeposedAt place) → ⊥
+    refused place e = cc
+
+    from : Settles f w m.entry.who × SameBlobs w m.image → HasSettled f w (after f w m) m.entry.who i × BlobsStay f w (after f w m)
+    from (s, same) =
+        let one : s.t ≡ t = some_same s.t t (sym s.may.out.there ∙ there) in
+        let was : settled_of f w m.entry.who (Some t) ≡ answered f w m.entry.who m.entry.step m.entry.reply m.image =
+        (λ j. settled_of f w m.entry.who (sym there j)) ∙ (λ j. answered f w m.entry.who (sym step_is j) (sym reply_is j) m.image) in
+        let over : HasSettled f w (settled_of f w m.entry.who (Some t)) m.entry.who i =
+        of_ticket f w m.entry.who s.n i t info results made
+        (record { there = there; out = subst (λ (x : Ticket). x.out ≡ true) one s.may.out.out })
+        (subst (λ (x : Ticket). x.settled ≡ false) one s.may.unsettled)
+        (subst (λ (x : Ticket). x.term ≡ w.term) one s.present)
+        work
+        (subst (λ (x : Ticket). x.raised ≡ Some s.n) one s.may.raised)
+        code apart back in
+        (in_step f w (answered f w m.entry.who m.entry.step m.entry.reply m.image) (after f w m) m.entry.who i refl refl (subst (λ (x : World). HasSettled f w x m.entry.who i) was over), same_kept f size w m.image same)
+
+pub infos_settle_step : (f : Formats) (size : ℕ) (w : World) (m : Moment) (tells : Bool) (infos : List Info) (i : Info) (t : Ticket) (info : SnapInfo) (results : List ShardResult) (made : Shelved) → Tracked w → Allowed f size w m
+    → m.entry.step ≡ SettleStep → m.entry.reply ≡ WasSettled → fin.get w.tickets m.entry.who ≡ Some t → t.work ≡ Finalize info results made
+    → info_of_code i ≡ info → AreApart (map ref_of_code i.indices) → ReadsBack f.info info
+    → AreListed w.root infos → AreInfosOf f w tells infos → AreInfosOf f (after f w m) tells (infos ++ i ∷ []) × AreListed (after f w m).root (infos ++ i ∷ [])
+infos_settle_step f size w m tells infos i t info results made tr a step_is reply_is there work code apart back listed h =
+    let s = of_step f size w m i t info results made a step_is reply_is there work code apart back in
+    (infos_settled f w (after f w m) m.entry.who i tr s.0 tells infos (λ told. s.1) listed h, listed_settled f w (after f w m) m.entry.who i tr s.0 infos listed)
+
+-- ---- what is known of the info
+
+done_one : (shards : List ShardWork) (a b : List ShardResult) → AllDone shards a → AllDone shards b → a ≡ b
+done_one [] [] [] p q = refl
+done_one [] [] (y ∷ b) p q = absurd q
+done_one [] (x ∷ a) b p q = absurd p
+done_one (s ∷ shards) [] b p q = absurd p
+done_one (s ∷ shards) (x ∷ a) [] p q = absurd q
+done_one (s ∷ shards) (x ∷ a) (y ∷ b) p q = λ j. done_same x y (sym p.0 ∙ q.0) j ∷ done_one shards a b p.1 q.1 j
+
+-- the info of a finalization that is out is that of its op
+pub final_info : (w : World) (k : ℕ) (t : Ticket) (info : SnapInfo) (results : List ShardResult) (made : Shelved) → Tracked w → IsOut w k t → t.settled ≡ false → t.term ≡ w.term → t.work ≡ Finalize info results made
+    → (x : Op) (r : List ShardResult) → fin.get w.ops t.op ≡ Some x → AllDone x.shards r → info_of x r ≡ info
+final_info w k t info results made tr out unsettled present work x r there done =
+    let law : FinalTracked w.root w.ops t info results = tr.finals k t info results made out.there out.out unsettled present work in
+    let one : x ≡ law.op = some_same x law.op (sym there ∙ law.op_there) in
+    let same : r ≡ results = done_one law.op.shards r results (subst (λ (o : Op). AllDone o.shards r) one done) law.done in
+    (λ j. info_of (one j) (same j)) ∙ sym law.info_is
+
+-- the indices of an info are apart
+apart_by : (qs : List CodeRef) → IsDistinct one_id qs → AreApart (map ref_of_code qs)
+unfolding IsDistinct
+apart_by [] d = tt
+apart_by (q ∷ qs) d = (other q qs (λ p has. other_later one_id q qs p has d.0), apart_by qs d.1)
+  where
+    other : (q : CodeRef) (qs : List CodeRef) → ((p : CodeRef) → Has qs p → one_id q p ≡ false) → (r : IndexRef) → Has (map ref_of_code qs) r → q.id.number ≢ r.id
+    other q qs differ r has same =
+        let p = Has-mapped ref_of_code qs r has in
+        let ids : q.id.number ≡ p.0.id.number = same ∙ sym (ap (λ (x : IndexRef). x.id) p.2) in
+        true≢false (sym (eq-eqb q.id.number p.0.id.number ids) ∙ differ p.0 p.1)
+
+pub info_apart : (i : Info) → IsInfo i → AreApart (map ref_of_code i.indices)
+info_apart i h = apart_by i.indices (ids_distinct i.indices h.indices)

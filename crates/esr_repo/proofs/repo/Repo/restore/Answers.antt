@@ -1,0 +1,26 @@
+use Rattle.std.proofs.Common.{List, map, sym, subst}
+use Rattle.esr_names.specs.declared.index_ref.IndexRef.{IndexRef}
+use Rattle.esr_core.specs.Entry.{Step, Restore, AskStep, AcceptedRestore}
+use Rattle.esr_formats.specs.Refs.{ref_of_code}
+use Rattle.std.proofs.Common.{Some}
+use Rattle.esr_desk.specs.Refusals.{refusal_of}
+use Rattle.esr_desk.specs.Start.{world_of}
+use Rattle.esr_repo.specs.May.{MayNote, MayRefuse}
+use Rattle.esr_repo.proofs.Restores.{may_restore}
+use Rattle.esr_repo.proofs.repo.Repo.restore.Goals as goal
+
+pub restore_refusal-requires : goal.restore_refusal-requires
+restore_refusal-requires g c = (g.K.Told.start, c.check.new.self, c.args.name.now, c.in-Err.ensures (world_of g.K.Told.start c.check.new.self) c.plan.ensures (sym c.safe_root.ensures))
+
+pub refuse-requires-clause-may : goal.refuse-requires-clause-may
+refuse-requires-clause-may g c =
+    subst (λ (step : Step). MayRefuse g.K.Told.start c.check.new.self 0 step (refusal_of c.restore_refusal.result)) (sym c.in_ok-step.ensures)
+    (c.restore_refusal.ensures g.K.Told.start c.check.new.self c.args.name.now c.args.place.now (c.in-Err.ensures (world_of g.K.Told.start c.check.new.self) c.plan.ensures (sym c.safe_root.ensures)))
+
+pub note-requires-clause-may : goal.note-requires-clause-may
+note-requires-clause-may g c =
+    subst (λ (step : Step). MayNote g.K.Told.start c.check.new.self 0 step (AcceptedRestore c.next_op-op.result c.in-Ok.uuid.number (map ref_of_code c.in_ok-told.told)) (Some c.in_ok-progress.progress) c.next_id-next.result.number) (sym c.in_ok-step.ensures)
+    (subst (λ (indices : List IndexRef). MayNote g.K.Told.start c.check.new.self 0 (AskStep (Restore c.args.name.now c.args.place.now)) (AcceptedRestore c.next_op-op.result c.in-Ok.uuid.number (map ref_of_code indices)) (Some c.in_ok-progress.progress) c.next_id-next.result.number) (sym c.in_ok-told.ensures)
+    (may_restore g.K.Told.start c.check.new.self c.args.name.now c.args.place.now c.in-Ok.uuid.number (map ref_of_code c.in_ok-indices.indices) c.in_ok-progress.progress c.next_op-op.result c.next_id-next.result.number
+    (c.in-Ok.ensures (world_of g.K.Told.start c.check.new.self) c.plan.ensures (sym c.safe_root.ensures)) c.in_ok-indices.ensures.indices c.next_op-op.ensures
+    (c.in_ok-progress.ensures (world_of g.K.Told.start c.check.new.self) c.plan-2.ensures) c.next_id-next.ensures.number))

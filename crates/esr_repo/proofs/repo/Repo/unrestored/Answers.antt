@@ -1,0 +1,15 @@
+use Rattle.esr_core.specs.Entry.{ReadStep, ReadFails, HasEnded}
+use Rattle.esr_desk.specs.Entries.{why_of}
+use Rattle.esr_repo.proofs.Stepping.{on_done}
+use Rattle.esr_repo.proofs.Reading.{may_note_unrestored, unrestored_reader}
+use Rattle.esr_repo.proofs.repo.Repo.unrestored.Goals as goal
+
+pub note-requires-clause-may : goal.note-requires-clause-may
+note-requires-clause-may g c =
+    may_note_unrestored g.K.Told.start c.args.self.now c.check.new.self c.args.ticket (why_of c.args.why) c.plan.result.now c.in_ok-progress.progress c.next_id-next.result.number c.in_ok-check.ensures.step.0 c.rules.ensures.read_tracked c.requires.out
+    c.plan.ensures c.in_ok-progress.ensures c.next_id-next.ensures.number
+
+pub returns-clause-own : goal.returns-clause-own
+returns-clause-own g c =
+    on_done g.K.Told.start c.check.new.self c.note.new.self c.args.ticket (ReadStep (ReadFails (why_of c.args.why))) HasEnded c.note.result c.note.ensures.step
+    (unrestored_reader g.K.Told.start c.args.self.now c.check.new.self c.note.new.self c.args.ticket (why_of c.args.why) c.in_ok-check.ensures.step.0 c.rules.ensures.read_tracked c.requires.out)

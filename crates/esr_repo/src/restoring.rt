@@ -1,0 +1,177 @@
+//! The steps of restores.
+ghost use Rattle.std.specs.Prelude.{◌≡◌, ◌==◌, ◌<◌, ◌^◌, List, map, find, option_copied, length, true, false, IsTrue, IfOk, IfSome, OnOk, OnErr};
+ghost use Rattle.esr_model.specs.Values.{Bytes};
+ghost use Rattle.esr_core.specs.Entry.{Moment, Restore, AskStep, ReadStep, ReadBlob, RestoredShard, ReadFails, HasEnded, AcceptedRestore as Accepted};
+ghost use Rattle.esr_core.specs.Allowed.{IsListed};
+ghost use Rattle.esr_names.specs.Layout.{IsName};
+ghost use Rattle.esr_formats.specs.Names.{name_of};
+ghost use Rattle.esr_formats.specs.Refs.{ref_of_code, AreApart};
+ghost use Rattle.esr_progress.specs.Accepting.{IsRestoreRefused};
+ghost use Rattle.esr_progress.specs.Infos.{HasIndices};
+ghost use Rattle.esr_desk.specs.Entries.{why_of, step_of};
+ghost use Rattle.esr_desk.specs.Refusals.{refusal_of};
+ghost use Rattle.esr_desk.specs.Outcome.{fetch_reply};
+ghost use Rattle.esr_desk.specs.Conditions.{Holds};
+ghost use Rattle.esr_desk.specs.Readers.{reader_of, read_by};
+ghost use Rattle.esr_desk.specs.Start.{Start, formats_of, world_of};
+ghost use Rattle.esr_reading.specs.Conditions.{CanRead, CanEnd};
+ghost use Rattle.esr_repo.specs.May.{MayRefuse};
+ghost use Rattle.esr_repo.specs.Next.{IsLive, Did};
+
+use crate::{Repo, Told};
+use esr_depot::{Depot, Fetch};
+use esr_desk::{AcceptedRestore, Answer, EntryRefusal, Read, Step, StepRefusal, Why};
+use esr_meta::{SnapInfo, indices_copy};
+use esr_names::{BlobName, Id, IndexRefs, SnapName};
+use esr_progress::{Command, Refusal};
+use esr_seq::Text;
+use std::alloc::{AllocError, Global};
+
+/// The step that asks for a restore.
+fn asks(alloc: Global, name: &SnapName, place: &Text) -> Result<Step, AllocError>
+    ensures { IfOk result (λ step. step_of step ≡ AskStep (Restore name.now place.now)) }
+{
+    let name = name.try_clone(alloc)?;
+    let place = place.try_clone(alloc)?;
+    let command = Command::Restore { name, place };
+    Ok(Step::Ask { command })
+}
+
+/// Why a restore is not accepted, as an entry tells it.
+fn restore_refusal(refusal: Refusal) -> EntryRefusal
+    requires { (s : Start) × (log : List Moment) × (name : Bytes) × IsRestoreRefused (world_of s log) name refusal }
+    ensures { (s : Start) (log : List Moment) (name place : Bytes) → IsRestoreRefused (world_of s log) name refusal
+        → MayRefuse s log 0 (AskStep (Restore name place)) (refusal_of result) }
+{
+    match refusal {
+        Refusal::NoSnapshot => EntryRefusal::NoSnapshot { place: 0 },
+        Refusal::BeingDeleted { op } => EntryRefusal::BeingDeleted { op },
+        Refusal::TooMany { limit } => EntryRefusal::TooMany { limit },
+        // Of other commands.
+        Refusal::Memory => unreachable!(),
+        Refusal::CleanupRunning { .. } => unreachable!(),
+        Refusal::NameInUse { .. } => unreachable!(),
+        Refusal::IdsSpent { .. } => unreachable!(),
+    }
+}
+
+/// The info of a snapshot.
+fn info_of(infos: &[SnapInfo], uuid: Id) -> Option<&SnapInfo>
+    ensures { option_copied result ≡ find (λ info. info.uuid.number == uuid.number) infos.now }
+{
+    infos.iter().find(|info| info.uuid.number == uuid.number)
+}
+
+impl<D: Depot, K: Told> Repo<D, K> {
+    /// Asks for a restore of the files of the snapshot of that name below a place. The answer tells its indices.
+    pub fn restore(
+        &mut self,
+        alloc: Global,
+        name: &SnapName,
+        place: &Text,
+    ) -> Result<AcceptedRestore, StepRefusal>
+        requires room { length self.old < 2 ^ 41 }
+        ensures { Did K.start self.old self.new 0 (AskStep (Restore name.now place.now))
+            (λ accepted. Accepted accepted.op accepted.uuid.number (map ref_of_code accepted.indices)) result }
+    {
+        self.check(0, asks(alloc, name, place)?)?;
+        self.rules();
+        let step = asks(alloc, name, place)?;
+        let uuid = match self.plan().restorable(self.safe_root(), name) {
+            Ok(uuid) => uuid,
+            Err(refusal) => return Err(self.refuse(0, step, restore_refusal(refusal))),
+        };
+        let indices = self.indices_of(alloc, uuid)?;
+        let progress = self.plan().restoring(alloc, uuid, place, &indices)?;
+        let told = indices_copy(alloc, &indices)?;
+        let op = self.next_op();
+        let answer = Answer::AcceptedRestore {
+            op,
+            uuid,
+            indices: told,
+        };
+        let next = self.next_id();
+        self.note(0, step, answer, Some(progress), next)?;
+        Ok(AcceptedRestore { op, uuid, indices })
+    }
+
+    /// The indices of a listed snapshot.
+    fn indices_of(&self, alloc: Global, uuid: Id) -> Result<IndexRefs, AllocError>
+        requires live { IsLive K.start self.now }
+        requires listed { (name : Bytes) × IsListed (world_of K.start self.now) name uuid.number }
+        ensures indices { IfOk result (λ indices. HasIndices (formats_of K.start) (world_of K.start self.now) K.start.tells uuid.number (map ref_of_code indices)) }
+        ensures apart { IfOk result (λ indices. AreApart (map ref_of_code indices)) }
+    {
+        let Some(info) = info_of(self.infos(), uuid) else {
+            unreachable!();
+        };
+        let _ = &info.name;
+        indices_copy(alloc, &info.indices)
+    }
+
+    /// The blob of that name, to be read from its first byte, or `None` where there is none.
+    pub fn read(
+        &mut self,
+        alloc: Global,
+        ticket: u64,
+        name: BlobName,
+    ) -> Result<Option<D::Fetch>, StepRefusal>
+        requires layout { IsName name }
+        requires may { CanRead K.start (reader_of K.start self.old ticket) (name_of name) }
+        ensures step { Did K.start self.old self.new ticket (ReadStep (ReadBlob (name_of name))) fetch_reply result }
+        ensures own { IfOk result (λ o. reader_of K.start self.new ticket
+            ≡ read_by D.Fetch.left (name_of name) o (reader_of K.start self.old ticket)) }
+        ensures told { IfOk result (λ o. IfSome o (λ f. (bytes : Bytes) × Holds K.start (D.Fetch.left f) bytes)) }
+        ensures count { IfOk result (λ o. IfSome o (λ f. D.Fetch.faults f ≡ 0)) }
+        ensures sure { IfOk result (λ o. IfSome o (λ f. K.start.quiet ≡ true → length self.old < 2 ^ 41 → IsTrue (D.Fetch.is_sure f))) }
+        ensures kept { OnErr result (reader_of K.start self.new ticket ≡ reader_of K.start self.old ticket) }
+    {
+        let read = Read::Blob { name };
+        self.check(ticket, Step::Read { read })?;
+        self.rules();
+        let read = Read::Blob { name };
+        self.call_fetch(alloc, ticket, Step::Read { read }, name)
+    }
+
+    /// A shard is restored, with so many files of so many bytes; its ticket ends.
+    pub fn restored(
+        &mut self,
+        alloc: Global,
+        ticket: u64,
+        files: u64,
+        bytes: u64,
+    ) -> Result<(), StepRefusal>
+        requires may { CanEnd K.start (reader_of K.start self.old ticket) files bytes }
+        ensures step { Did K.start self.old self.new ticket (ReadStep (RestoredShard files bytes)) (λ _. HasEnded) result }
+        ensures own { OnOk result (reader_of K.start self.new ticket
+            ≡ record (reader_of K.start self.old ticket) { out = false }) }
+        ensures kept { OnErr result (reader_of K.start self.new ticket ≡ reader_of K.start self.old ticket) }
+    {
+        let read = Read::Restored { files, bytes };
+        self.check(ticket, Step::Read { read })?;
+        self.rules();
+        let ended = self.plan().shard_read(alloc, ticket)?;
+        let next = self.next_id();
+        let read = Read::Restored { files, bytes };
+        let step = Step::Read { read };
+        self.note(ticket, step, Answer::Ended, Some(ended), next)
+    }
+
+    /// A shard is not restored; its ticket ends.
+    pub fn unrestored(&mut self, alloc: Global, ticket: u64, why: Why) -> Result<(), StepRefusal>
+        requires out { (reader_of K.start self.old ticket).out ≡ true }
+        ensures step { Did K.start self.old self.new ticket (ReadStep (ReadFails (why_of why))) (λ _. HasEnded) result }
+        ensures own { OnOk result (reader_of K.start self.new ticket
+            ≡ record (reader_of K.start self.old ticket) { out = false }) }
+        ensures kept { OnErr result (reader_of K.start self.new ticket ≡ reader_of K.start self.old ticket) }
+    {
+        let read = Read::Failed { why };
+        self.check(ticket, Step::Read { read })?;
+        self.rules();
+        let progress = self.plan().shard_read(alloc, ticket)?;
+        let next = self.next_id();
+        let read = Read::Failed { why };
+        let step = Step::Read { read };
+        self.note(ticket, step, Answer::Ended, Some(progress), next)
+    }
+}
