@@ -5,27 +5,49 @@ use Rattle.std.proofs.lemmas.Bool.{le-ltb}
 use Rattle.esr_model.specs.Names.{BlobName}
 use Rattle.esr_model.specs.Values.{Has}
 use Rattle.esr_core.specs.After.{or_else}
-use Rattle.esr_core.specs.Entry.{NameInUse, TooMany, Entry}
+use Rattle.esr_core.specs.Entry.{Refusal, NameInUse, TooMany, NoSnapshot, BeingDeleted, Entry}
 use Rattle.esr_script.specs.declared.item.Item.{Item}
 use Rattle.esr_script.specs.declared.item.Item.TheVariants as items
 use Rattle.esr_script.specs.declared.item.ScriptLine.{ScriptLine}
-use Rattle.esr_report.specs.Replies.{Reply, Made, Waited, Listed, Refused, fails_swap, has_fallen, wait_reply, end_reply, replies}
+use Rattle.esr_report.specs.Replies.{Reply, Made, Restored, Waited, Listed, Refused, fails_swap, has_fallen, wait_reply, end_reply, replies}
 use Rattle.esr_report.specs.Status.{is_deposed, damaged_name, first_damaged, is_spent, are_ok, AllOk, SomeRefused, SwapFailed, ending_by, ending}
-use Rattle.esr_quiet.specs.Refusals.{RefusesSnapshot}
+use Rattle.esr_quiet.specs.Refusals.{RefusesSnapshot, RefusesRestore}
 use Rattle.esr_complete.specs.Answers.{IsAnswer, AreAnswered, EndsWell}
 use Rattle.esr_complete.proofs.Facts.{Fact}
+
+-- a rule of accepting refused a command
+abbrev IsRuled : Refusal → Type 0
+IsRuled (NameInUse uuid) = Unit {0}
+IsRuled (TooMany limit) = Unit {0}
+IsRuled (NoSnapshot place) = Unit {0}
+IsRuled (BeingDeleted op) = Unit {0}
+IsRuled refusal = ⊥
+
+ruled_snapshot : (refusal : Refusal) → RefusesSnapshot refusal → IsRuled refusal
+ruled_snapshot (NameInUse uuid) h = tt
+ruled_snapshot (TooMany limit) h = tt
+ruled_snapshot refusal h = absurd h
+
+ruled_restore : (refusal : Refusal) → RefusesRestore refusal → IsRuled refusal
+ruled_restore (NoSnapshot place) h = tt
+ruled_restore (BeingDeleted op) h = tt
+ruled_restore (TooMany limit) h = tt
+ruled_restore refusal h = absurd h
 
 -- a reply that ends no run
 abbrev IsFine : Reply → Type 0
 IsFine (Made uuid) = Unit {0}
+IsFine (Restored files bytes) = Unit {0}
 IsFine Waited = Unit {0}
 IsFine (Listed snapshots) = Unit {0}
-IsFine (Refused refusal) = RefusesSnapshot refusal
+IsFine (Refused refusal) = IsRuled refusal
 IsFine reply = ⊥
 
 fine_answer : (item : Item) (reply : Reply) → IsAnswer item reply → IsFine reply
 fine_answer (items.Snapshot name indices) (Made uuid) h = tt
-fine_answer (items.Snapshot name indices) (Refused refusal) h = h
+fine_answer (items.Snapshot name indices) (Refused refusal) h = ruled_snapshot refusal h
+fine_answer (items.Restore name place) (Restored files bytes) h = tt
+fine_answer (items.Restore name place) (Refused refusal) h = ruled_restore refusal h
 fine_answer items.Wait Waited h = tt
 fine_answer items.List (Listed snapshots) h = tt
 fine_answer item reply h = absurd h
@@ -37,10 +59,13 @@ record Calm (reply : Reply) : Type 0 where
 
 calm_reply : (reply : Reply) → IsFine reply → Calm reply
 calm_reply (Made uuid) fine = record { undeposed = refl; undamaged = refl; unspent = refl }
+calm_reply (Restored files bytes) fine = record { undeposed = refl; undamaged = refl; unspent = refl }
 calm_reply Waited fine = record { undeposed = refl; undamaged = refl; unspent = refl }
 calm_reply (Listed snapshots) fine = record { undeposed = refl; undamaged = refl; unspent = refl }
 calm_reply (Refused (NameInUse uuid)) fine = record { undeposed = refl; undamaged = refl; unspent = refl }
 calm_reply (Refused (TooMany limit)) fine = record { undeposed = refl; undamaged = refl; unspent = refl }
+calm_reply (Refused (NoSnapshot place)) fine = record { undeposed = refl; undamaged = refl; unspent = refl }
+calm_reply (Refused (BeingDeleted op)) fine = record { undeposed = refl; undamaged = refl; unspent = refl }
 calm_reply (Refused refusal) fine = absurd fine
 calm_reply reply fine = absurd fine
 

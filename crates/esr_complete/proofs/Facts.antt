@@ -2,21 +2,24 @@
 use Rattle.std.proofs.Common.{◌≡◌, ℕ, false, List, Option, Some, None, refl, sym, subst, inl, inr}
 use Rattle.esr_model.specs.Values.{Bytes, Has}
 use Rattle.esr_core.specs.Entry as entry
-use Rattle.esr_core.specs.Entry.{AskedIndex, Asked, Snapshot, Restore, Step, AskStep, LookStep, Refusal, NameInUse, TooMany, NoSnapshot, BeingDeleted, Accepted, Looked, Entry, Moment}
+use Rattle.esr_core.specs.Entry.{AskedIndex, Asked, Snapshot, Restore, Step, AskStep, LookStep, Refusal, NameInUse, TooMany, NoSnapshot, BeingDeleted, Accepted, AcceptedRestore, Looked, Entry, Moment}
 use Rattle.esr_core.specs.After.{or_else}
 use Rattle.esr_script.specs.declared.item.AskedIndex.{AskedIndex as LineIndex}
 use Rattle.esr_script.specs.declared.item.Item.{Item}
 use Rattle.esr_script.specs.declared.item.Item.TheVariants as items
-use Rattle.esr_report.specs.Replies.{Reply, fails_swap, has_fallen, deposed_by, end_of_op, ask_reply, look_reply}
+use Rattle.esr_report.specs.Replies.{Reply, fails_swap, has_fallen, deposed_by, end_of_op, restore_reply, ask_reply, look_reply}
 use Rattle.esr_desk.specs.Start.{Start, world_of}
 use Rattle.esr_quiet.specs.Refusals.{IsByRule, AreByRule}
-use Rattle.esr_quiet.specs.Smooth.{IsSmooth, NoneFailed}
+use Rattle.esr_quiet.specs.Smooth.{IsSmooth, NoneFailed, NoneUnrestored}
 use Rattle.esr_complete.specs.Lines.{entries_of}
 use Rattle.esr_complete.specs.Answers.{IsIdle, IsAnswer}
 use Rattle.esr_core.proofs.Reading.{Has-mapped}
 use Rattle.esr_complete.proofs.Tickets.{IsCalm, IsMade, end_made, settle_made}
 use Rattle.esr_complete.proofs.Following.{IsSaid, accepts, IsSettledIn, FollowsIn}
+use Rattle.esr_complete.proofs.RestoreTickets.{IsRestoredReply, restored_reply}
+use Rattle.esr_complete.proofs.FollowingRestores.{AskedRestore, opens}
 use Rattle.esr_complete.proofs.Histories.{Laws, all_calm, all_closed, follows_all}
+use Rattle.esr_complete.proofs.RestoreHistories.{all_restored}
 
 -- there is an answer, and it is one of the line
 abbrev pub IsAnswerOf : Item → Option Reply → Type 0
@@ -26,6 +29,7 @@ IsAnswerOf item (Some reply) = IsAnswer item reply
 pub record Fact (all : List Entry) (e : Entry) : Type 0 where
   pub unfallen : fails_swap e.step e.reply ≡ false
   pub asked : (of : Bytes) (refs : List AskedIndex) (moment : ℕ) → e.step ≡ AskStep (Snapshot of refs moment) → (name : Bytes) (indices : List LineIndex) → IsAnswerOf (items.Snapshot name indices) (ask_reply all e.reply)
+  pub restored : (of place : Bytes) → e.step ≡ AskStep (Restore of place) → (name at : Bytes) → IsAnswerOf (items.Restore name at) (ask_reply all e.reply)
   pub looked : e.step ≡ LookStep → IsAnswerOf items.List (look_reply e.reply)
 
 unfallen_rule : (command : Asked) (refusal : Refusal) → IsByRule command refusal → fails_swap (AskStep command) (entry.Refused refusal) ≡ false
@@ -51,15 +55,28 @@ asked_by all of refs moment (entry.Refused (TooMany limit)) name indices calm sa
 asked_by all of refs moment (entry.Refused refusal) name indices calm said made = absurd calm
 asked_by all of refs moment reply name indices calm said made = absurd said
 
+-- the restore of each that was accepted is answered
+abbrev IsAnswered : List Entry → entry.Reply → Type 0
+IsAnswered all reply = (a : AskedRestore) → opens reply ≡ Some a → IsRestoredReply (restore_reply all a.op a.uuid a.indices)
+
+restored_by : (all : List Entry) (of place : Bytes) (reply : entry.Reply) (name at : Bytes) → IsCalm reply (AskStep (Restore of place)) → IsSaid (AskStep (Restore of place)) reply → IsAnswered all reply → IsAnswerOf (items.Restore name at) (ask_reply all reply)
+restored_by all of place (AcceptedRestore op uuid indices) name at calm said made = subst (λ (a : Option Reply). IsAnswerOf (items.Restore name at) (or_else a (deposed_by (has_fallen all)))) (sym (made (record { op = op; uuid = uuid; indices = indices }) refl).is) tt
+restored_by all of place (entry.Refused (NoSnapshot number)) name at calm said made = tt
+restored_by all of place (entry.Refused (BeingDeleted op)) name at calm said made = tt
+restored_by all of place (entry.Refused (TooMany limit)) name at calm said made = tt
+restored_by all of place (entry.Refused refusal) name at calm said made = absurd calm
+restored_by all of place reply name at calm said made = absurd said
+
 looked_by : (reply : entry.Reply) → IsSaid LookStep reply → IsAnswerOf items.List (look_reply reply)
 looked_by (Looked snapshots safe) said = tt
 looked_by reply said = absurd said
 
-fact_by : (all : List Entry) (e : Entry) → IsCalm e.reply e.step → IsSaid e.step e.reply → ((o : ℕ) → accepts e.reply ≡ Some o → IsMade (end_of_op all o all)) → Fact all e
-fact_by all e calm said made =
+fact_by : (all : List Entry) (e : Entry) → IsCalm e.reply e.step → IsSaid e.step e.reply → ((o : ℕ) → accepts e.reply ≡ Some o → IsMade (end_of_op all o all)) → IsAnswered all e.reply → Fact all e
+fact_by all e calm said made answered =
     record {
       unfallen = unfallen_by e.step e.reply calm;
       asked = λ of refs moment is name indices. asked_by all of refs moment e.reply name indices (subst (IsCalm e.reply) is calm) (subst (λ (step : Step). IsSaid step e.reply) is said) made;
+      restored = λ of place is name at. restored_by all of place e.reply name at (subst (IsCalm e.reply) is calm) (subst (λ (step : Step). IsSaid step e.reply) is said) answered;
       looked = λ is. looked_by e.reply (subst (λ (step : Step). IsSaid step e.reply) is said);
     }
 
@@ -67,8 +84,10 @@ fact_by all e calm said made =
 made_by : (all : List Entry) (o : ℕ) → ((e : Entry) → Has all e → IsCalm e.reply e.step) → IsSettledIn all o → IsMade (end_of_op all o all)
 made_by all o calm h = end_made all o all calm h.e h.has (settle_made all o h.uuid h.e h.op_is h.uuid_is h.step h.reply)
 
-pub facts : Laws → (s : Start) (log : List Moment) → IsSmooth s log → NoneFailed log → AreByRule log → IsIdle s log → (e : Entry) → Has (entries_of log) e → Fact (entries_of log) e
-facts laws s log smooth none by_rule idle e has = fact_by (entries_of log) e (calm e has) (h.said e has) (λ o accepted. elim (h.ended e o has accepted) [ inl stands ↦ absurd (all_closed laws s log smooth idle o stands) | inr settled ↦ made_by (entries_of log) o calm settled ])
+pub facts : Laws → (s : Start) (log : List Moment) → IsSmooth s log → NoneFailed log → NoneUnrestored log → AreByRule log → IsIdle s log → (e : Entry) → Has (entries_of log) e → Fact (entries_of log) e
+facts laws s log smooth none unrestored by_rule idle e has =
+    fact_by (entries_of log) e (calm e has) (h.said e has) (λ o accepted. elim (h.ended e o has accepted) [ inl stands ↦ absurd (all_closed laws s log smooth idle o stands) | inr settled ↦ made_by (entries_of log) o calm settled ])
+    (λ a opened. restored_reply (entries_of log) a.op a.uuid a.indices (all_restored laws s log smooth none unrestored by_rule idle e a has opened))
   where
     h : FollowsIn (world_of s log) (entries_of log)
     h = follows_all s log smooth none by_rule

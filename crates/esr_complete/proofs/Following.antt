@@ -6,18 +6,21 @@ use Rattle.esr_model.specs.Values.{Has, SnapInfo, ShardResult}
 use Rattle.esr_model.specs.Shelf.{Shelved}
 use Rattle.esr_core.specs.World.{World, Op, Deletion, Finalize, Drop, Ticket}
 use Rattle.esr_core.specs.Ready.{Goes}
-use Rattle.esr_core.specs.Entry.{Snapshot, Given, Step, AskStep, TakeStep, SettleStep, LookStep, Reply, Accepted, Gave, WasSettled, Looked, Refused, Entry}
+use Rattle.esr_core.specs.Entry.{Snapshot, Restore, Given, Step, AskStep, TakeStep, SettleStep, LookStep, Reply, Accepted, Gave, WasSettled, Looked, Refused, AcceptedRestore, Entry}
 use Rattle.esr_report.specs.Replies.{op_by, op_of_ticket, uuid_of_unit, uuid_by, uuid_of_ticket}
 use Rattle.esr_core.proofs.Besides.{Aside}
 use Rattle.esr_core.proofs.Reading.{Has-left, Has-append}
 use Rattle.esr_core.proofs.Queues.{Ops, Deletes, Tickets, was_in, same_in, other_in, split_at}
 use Rattle.esr_complete.proofs.Tickets.{op_stays, uuid_stays, op_given, uuid_given}
 
--- what may be answered to a snapshot or a look
+-- what may be answered to a snapshot, a restore or a look
 abbrev pub IsSaid : Step → Reply → Type 0
 IsSaid (AskStep (Snapshot name indices moment)) (Accepted op) = Unit {0}
 IsSaid (AskStep (Snapshot name indices moment)) (Refused refusal) = Unit {0}
 IsSaid (AskStep (Snapshot name indices moment)) reply = ⊥
+IsSaid (AskStep (Restore name place)) (AcceptedRestore op uuid indices) = Unit {0}
+IsSaid (AskStep (Restore name place)) (Refused refusal) = Unit {0}
+IsSaid (AskStep (Restore name place)) reply = ⊥
 IsSaid (AskStep command) reply = Unit {0}
 IsSaid LookStep (Looked snapshots safe) = Unit {0}
 IsSaid LookStep reply = ⊥
@@ -136,6 +139,9 @@ goes_on deposed ops now deletes left tickets later next es x h less going kin no
     }
 
 -- ---- a step that gives one
+
+abbrev pub told : ℕ → Step → Reply → Entry
+told who step reply = record { who = who; step = step; reply = reply }
 
 abbrev pub gave : ℕ → ℕ → Given → Entry
 gave ticket op unit = record { who = 0; step = TakeStep; reply = Gave ticket op unit }

@@ -8,6 +8,7 @@ use Rattle.esr_model.specs.Image.{Blobs, Image}
 use Rattle.esr_core.specs.World.{World, Ticket, opened, Opened, OpenedEmpty, OpenedRecord, no_record, no_root}
 use Rattle.esr_core.specs.Ready.{IsOpen, AnyReady}
 use Rattle.esr_core.specs.Ids.{Law}
+use Rattle.esr_core.specs.ReadLaw.{ReadLaw}
 use Rattle.esr_core.specs.Entry.{Asked, Why, Step, AskStep, TakeStep, FailedStep, Refusal, Reply, NothingReady, HasEnded, Refused, Entry, Moment}
 use Rattle.esr_core.specs.After.{after}
 use Rattle.esr_core.specs.Allowed as allowed
@@ -70,6 +71,9 @@ pub record Laws : Type 0 where
   pub lawful : (f : Formats) (part_size : ℕ) (image : Image) (shelf : List Shelved) (w : World) (log : List Moment) → AllKnown f → Kept f image shelf → Opened f image w → IsLegal f part_size w log → AreTold log → AreHonest f w log
       → Law f (world_from f w log) (shelf_after shelf (committed f (world_from f w log).safe w log))
   pub ready : (f : Formats) (w : World) (shelf : List Shelved) (o : ℕ) → Law f w shelf → IsOpen w o → ((k : ℕ) (t : Ticket) → fin.get w.tickets k ≡ Some t → t.out ≡ true → ⊥) → AnyReady w
+  pub opening : (f : Formats) (image : Image) (shelf : List Shelved) (w : World) → Kept f image shelf → Opened f image w → Law f w shelf
+  pub restores_open : (f : Formats) (blobs : Blobs) (cluster : ClusterRecord) (root : RootData) → ReadLaw f (opened blobs cluster root)
+  pub restores_kept : (f : Formats) (part_size : ℕ) (shelf : List Shelved) (w : World) (log : List Moment) → AllKnown f → Law f w shelf → ReadLaw f w → IsLegal f part_size w log → AreTold log → AreHonest f w log → ReadLaw f (world_from f w log)
 
 -- what the answer of a take that gives nothing says
 abbrev SaysNone : World → Step → Reply → Type 0
@@ -83,14 +87,14 @@ says_none f size w who step reply image other = tt
 refused_nothing : (refusal : Refusal) → NothingReady ≡ Refused refusal → ⊥
 refused_nothing refusal e = cc
 
-none_ready : (f : Formats) (size : ℕ) (w : World) (image : Option Image) → Allowed f size w (record { entry = record { who = 0; step = TakeStep; reply = NothingReady }; image = image }) → AnyReady w → ⊥
+pub none_ready : (f : Formats) (size : ℕ) (w : World) (image : Option Image) → Allowed f size w (record { entry = record { who = 0; step = TakeStep; reply = NothingReady }; image = image }) → AnyReady w → ⊥
 none_ready f size w image a = elim a.answered [ inl alive ↦ says_none f size w 0 TakeStep NothingReady image alive.1 | inr dead ↦ λ any. absurd (refused_nothing _ dead.refused) ]
 
-world_append : (f : Formats) (log : List Moment) (w : World) (m : Moment) → world_from f w (log ++ m ∷ []) ≡ after f (world_from f w log) m
+pub world_append : (f : Formats) (log : List Moment) (w : World) (m : Moment) → world_from f w (log ++ m ∷ []) ≡ after f (world_from f w log) m
 world_append f [] w m = refl
 world_append f (x ∷ log) w m = world_append f log (after f w x) m
 
-abbrev nothing_ready : Option Image → Moment
+abbrev pub nothing_ready : Option Image → Moment
 nothing_ready image = record { entry = record { who = 0; step = TakeStep; reply = NothingReady }; image = image }
 
 -- with a take that gives nothing at its end

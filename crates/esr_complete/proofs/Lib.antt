@@ -1,7 +1,11 @@
 pub mod Tickets
+pub mod RestoreTickets
 pub mod Following
+pub mod FollowingRestores
 pub mod Steps
+pub mod RestoreSteps
 pub mod Histories
+pub mod RestoreHistories
 pub mod Facts
 pub mod Walk
 pub mod Endings

@@ -18,10 +18,7 @@ use Rattle.esr_core.proofs.Queues.{left_in, stays_in, split_at}
 use Rattle.esr_core.proofs.Moments.{moment, settled_plain}
 use Rattle.esr_report.specs.Replies.{op_by, uuid_by}
 use Rattle.esr_complete.proofs.Tickets.{IsCalm, op_stays, uuid_stays}
-use Rattle.esr_complete.proofs.Following.{IsSaid, accepts, IsOpenIn, IsSettledIn, FollowsIn, stands_at, stands_on, going_on, kin_same, kin_on, goes_on, gave, given_on, handed_on, follows_aside}
-
-abbrev told : ℕ → Step → Reply → Entry
-told who step reply = record { who = who; step = step; reply = reply }
+use Rattle.esr_complete.proofs.Following.{IsSaid, accepts, IsOpenIn, IsSettledIn, FollowsIn, stands_at, stands_on, going_on, kin_same, kin_on, goes_on, told, gave, given_on, handed_on, follows_aside}
 
 -- it accepts nothing, and gives no ticket
 abbrev IsPlain : Reply → Type 0

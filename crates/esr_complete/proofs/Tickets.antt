@@ -8,14 +8,14 @@ use Rattle.esr_quiet.specs.Refusals.{IsByRule}
 use Rattle.esr_report.specs.Replies as report
 use Rattle.esr_report.specs.Replies.{Made, op_by, op_of_ticket, uuid_by, uuid_of_ticket, is_op, ends_by, ends_at, end_of_op}
 
-none_some : {A : Type 0} (x : A) → ◌≡◌ {A = Option A} None (Some x) → ⊥
+pub none_some : {A : Type 0} (x : A) → ◌≡◌ {A = Option A} None (Some x) → ⊥
 none_some x e = cc
 
-or_none : {A : Type 0} (a : Option A) → or_else a None ≡ a
+pub or_none : {A : Type 0} (a : Option A) → or_else a None ≡ a
 or_none None = refl
 or_none (Some x) = refl
 
-or_assoc : {A : Type 0} (a b c : Option A) → or_else a (or_else b c) ≡ or_else (or_else a b) c
+pub or_assoc : {A : Type 0} (a b c : Option A) → or_else a (or_else b c) ≡ or_else (or_else a b) c
 or_assoc None b c = refl
 or_assoc (Some x) b c = refl
 
@@ -91,7 +91,7 @@ end_made all o (x ∷ es) calm e (inl same) made =
 end_made all o (x ∷ es) calm e (inr has) made =
     either_made (ends_at all o x) (end_of_op all o es) (ends_at_calm all o x (calm x (inl refl))) (inr (end_made all o es (λ y h. calm y (inr h)) e has made))
 
-same_op : (o : ℕ) → (o == o) ≡ true
+pub same_op : (o : ℕ) → (o == o) ≡ true
 same_op o = elim (eqb_tells o o) [ inl h ↦ h.0 | inr h ↦ absurd (h.1 refl) ]
 
 -- a settle of the op makes its snapshot

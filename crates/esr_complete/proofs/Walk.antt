@@ -1,7 +1,7 @@
 -- The replies along the lines.
 use Rattle.std.proofs.Common.{◌≡◌, ℕ, Bool, true, false, true≢false, ◌&&◌, ◌||◌, not, if◌then◌else◌, ◌==◌, List, [], ◌∷◌, ◌++◌, Option, Some, None, map, option_map, refl, sym, ap, ◌∙◌, subst, inl, inr}
 use Rattle.esr_model.specs.Values.{Has}
-use Rattle.esr_core.specs.Entry.{Step, AskStep, TakeStep, LookStep, Entry, Moment}
+use Rattle.esr_core.specs.Entry.{Restore, Step, AskStep, TakeStep, LookStep, Entry, Moment}
 use Rattle.esr_script.specs.declared.item.Item.{Item}
 use Rattle.esr_script.specs.declared.item.Item.TheVariants as items
 use Rattle.esr_script.specs.declared.item.ScriptLine.{ScriptLine}
@@ -128,6 +128,12 @@ walk_item all rest moment (items.Snapshot name indices) lines facts known e on =
     let n = next_line all rest step (steps_of moment lines) facts refl e in
     by_entry all rest (items.Snapshot name indices) lines step (steps_of moment lines) facts n
     (subst (λ (x : Step). IsAnswerOf (items.Snapshot name indices) (answer_at all x n.e.reply)) (sym n.step_is) (n.fact.asked name (map index_of_line indices) moment n.step_is name indices))
+    (on n.es n.facts n.more_is)
+walk_item all rest moment (items.Restore name place) lines facts known e on =
+    let step : Step = AskStep (Restore name place) in
+    let n = next_line all rest step (steps_of moment lines) facts refl e in
+    by_entry all rest (items.Restore name place) lines step (steps_of moment lines) facts n
+    (subst (λ (x : Step). IsAnswerOf (items.Restore name place) (answer_at all x n.e.reply)) (sym n.step_is) (n.fact.restored name place n.step_is name place))
     (on n.es n.facts n.more_is)
 walk_item all rest moment items.Wait lines facts known e on =
     subst (λ (b : Bool). IsFirst items.Wait lines (wait_reply (false || b) ∷ replies_from all lines false rest)) (sym (unfallen_before all rest facts)) (tt, on rest facts e)

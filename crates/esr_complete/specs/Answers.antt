@@ -1,25 +1,33 @@
 -- How lines are answered where nothing fails.
-use Rattle.std.specs.Prelude.{◌≡◌, ◌⊎◌, List, [], ◌∷◌}
+use Rattle.std.specs.Prelude.{◌≡◌, ◌⊎◌, ℕ, false, List, [], ◌∷◌}
 use Rattle.esr_core.specs.Entry.{TakeStep, NothingReady, Entry, Moment}
 use Rattle.esr_script.specs.declared.item.Item.{Item}
 use Rattle.esr_script.specs.declared.item.Item.TheVariants as items
 use Rattle.esr_script.specs.declared.item.ScriptLine.{ScriptLine}
-use Rattle.esr_report.specs.Replies.{Reply, Made, Waited, Listed, Refused}
+use Rattle.esr_report.specs.Replies.{Reply, Made, Restored, Waited, Listed, Refused}
 use Rattle.esr_report.specs.Status.{ending, AllOk, SomeRefused}
 use Rattle.esr_desk.specs.Start.{Start}
 use Rattle.esr_desk.specs.Grew.{NoneOut}
 use Rattle.esr_desk.specs.Last.{IsLast}
-use Rattle.esr_quiet.specs.Refusals.{RefusesSnapshot}
+use Rattle.esr_desk.specs.Readers.{reader_of}
+use Rattle.esr_quiet.specs.Refusals.{RefusesSnapshot, RefusesRestore}
+
+-- no ticket of a restore is out
+abbrev pub NoReaderOut : Start → List Moment → Type 0
+NoReaderOut s log = (k : ℕ) → (reader_of s log k).out ≡ false
 
 -- no unit was ready, and none is out
 pub record IsIdle (s : Start) (log : List Moment) : Type 0 where
   pub none_out : NoneOut s log
+  pub no_reader : NoReaderOut s log
   pub none_ready : IsLast log 0 TakeStep NothingReady
 
--- the answer of a line: a snapshot was made or refused by a rule
+-- the answer of a line: a snapshot was made, or a restore has restored each shard, or a rule refused it
 abbrev pub IsAnswer : Item → Reply → Type 0
 IsAnswer (items.Snapshot name indices) (Made uuid) = Unit {0}
 IsAnswer (items.Snapshot name indices) (Refused refusal) = RefusesSnapshot refusal
+IsAnswer (items.Restore name place) (Restored files bytes) = Unit {0}
+IsAnswer (items.Restore name place) (Refused refusal) = RefusesRestore refusal
 IsAnswer items.Wait Waited = Unit {0}
 IsAnswer items.List (Listed snapshots) = Unit {0}
 IsAnswer item reply = ⊥

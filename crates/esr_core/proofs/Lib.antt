@@ -74,4 +74,5 @@ pub mod ReadLaws
 pub mod ReadHistories
 pub mod Shelving
 pub mod OnShelf
+pub mod AskedShelf
 pub mod ReadEnding

@@ -32,6 +32,11 @@ listed_as f w shelf l u has =
     let (y, there, s) = pairs_both (SnapStands f (HeldIn f w) w.root) w.root.snapshots shelf z stands.snapshots m in
     record { snap = z; uuid_is = uuid; shelved = y; there = there; stands = s }
 
+-- it is listed as that
+pub listed_snap : (f : Formats) (w : World) (shelf : List Shelved) (l : Law f w shelf) (u : ℕ) (has : Lists w.root u) → (listed_as f w shelf l u has).snap ≡ has.0
+unfolding listed_as
+listed_snap f w shelf l u has = refl
+
 -- its info, which nobody may remove
 pub listed_info : (f : Formats) (w : World) (shelf : List Shelved) (u : ℕ) (a : IsListedAs f w shelf u) → Reads (HeldIn f w) (Snap u) f.info a.stands.info
 listed_info f w shelf u a = subst (λ x. Reads (HeldIn f w) (Snap x) f.info a.stands.info) a.uuid_is a.stands.info_reads

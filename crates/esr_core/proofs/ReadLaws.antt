@@ -74,7 +74,7 @@ serves_snap f w shelf q s =
     subst (λ x. Reads (HeldIn f w) (ShardSnap x q.number q.uuid) f.shard_snap s.found.stands.snap) s.index_is
     (subst (λ x. Reads (HeldIn f w) (ShardSnap s.place.0.id x q.uuid) f.shard_snap s.found.stands.snap) s.number_is s.found.stands.snap_reads)
 
-serves_part : (f : Formats) (w : World) (shelf : List Shelved) (q : Reader) (s : Serves f w shelf q) (e : FileEntry) → Has s.found.stands.snap.files e → (name : BlobName) → Has (part_names q.index q.number e) name → (bytes : Bytes) × HeldIn f w name bytes
+pub serves_part : (f : Formats) (w : World) (shelf : List Shelved) (q : Reader) (s : Serves f w shelf q) (e : FileEntry) → Has s.found.stands.snap.files e → (name : BlobName) → Has (part_names q.index q.number e) name → (bytes : Bytes) × HeldIn f w name bytes
 serves_part f w shelf q s e m name part =
     part_held f w q.uuid s.place s.found.shard s.found.stands e m name
     (subst (λ x. Has (part_names x s.place.1 e) name) (sym s.index_is) (subst (λ x. Has (part_names q.index x e) name) (sym s.number_is) part))
@@ -164,11 +164,11 @@ module _ (f : Formats) (w new : World) (shelf : List Shelved) (l : Law f new she
 
 -- ---- a turn that reads
 
-places_mapped : (g : RestoreShard → RestoreShard) → LeavesPlace g → (shards : List RestoreShard) → map {B = IndexRef × ℕ} (λ (s : RestoreShard). (s.ref, s.number)) (map g shards) ≡ map {B = IndexRef × ℕ} (λ (s : RestoreShard). (s.ref, s.number)) shards
+pub places_mapped : (g : RestoreShard → RestoreShard) → LeavesPlace g → (shards : List RestoreShard) → map {B = IndexRef × ℕ} (λ (s : RestoreShard). (s.ref, s.number)) (map g shards) ≡ map {B = IndexRef × ℕ} (λ (s : RestoreShard). (s.ref, s.number)) shards
 places_mapped g p [] = refl
 places_mapped g p (s ∷ shards) = λ i. (p.ref s i, p.number s i) ∷ places_mapped g p shards i
 
-places_begun : (ps : List (IndexRef × ℕ)) → map {B = IndexRef × ℕ} (λ (s : RestoreShard). (s.ref, s.number)) (map unread ps) ≡ ps
+pub places_begun : (ps : List (IndexRef × ℕ)) → map {B = IndexRef × ℕ} (λ (s : RestoreShard). (s.ref, s.number)) (map unread ps) ≡ ps
 places_begun [] = refl
 places_begun (p ∷ ps) = λ i. p ∷ places_begun ps i
 

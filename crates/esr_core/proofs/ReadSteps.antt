@@ -44,11 +44,11 @@ caller_none : (w : World) (looked : Bool) → CallerTracked w (record no_caller 
 caller_none w looked = record { once = once_none looked; drawn = λ v e. absurd (none_drawn v e); doomed = λ name m. absurd m }
 
 -- other blobs, and what who 0 has done
-read_aside : (w : World) → ReadTracked w → (blobs : Blobs) (caller : Caller) → CallerTracked w caller → ReadTracked (record w { blobs = blobs; caller = caller })
+pub read_aside : (w : World) → ReadTracked w → (blobs : Blobs) (caller : Caller) → CallerTracked w caller → ReadTracked (record w { blobs = blobs; caller = caller })
 read_aside w l blobs caller c = record { tracked = l.tracked; apart = record { ops = l.apart.ops; deletes = l.apart.deletes; tickets = l.apart.tickets }; once = c.once; drawn = c.drawn; doomed = c.doomed }
 
 -- a step that has nothing to do with restores
-read_goes : (w new : World) → ReadTracked w → Goes w new → ReadTracked new
+pub read_goes : (w new : World) → ReadTracked w → Goes w new → ReadTracked new
 read_goes w new l g =
     record {
       tracked = subst (λ (x : FinMap nat_cmp Restoring). RestoresTracked new.next_op new.next_ticket x new.readers) (sym g.restores)

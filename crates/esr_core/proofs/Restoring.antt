@@ -15,16 +15,16 @@ use Rattle.esr_core.proofs.Ordered.{in_places}
 
 -- ---- states
 
-read_same : {a b : ℕ} → BeingRead a ≡ BeingRead b → a ≡ b
+pub read_same : {a b : ℕ} → BeingRead a ≡ BeingRead b → a ≡ b
 read_same e = cc
 
 pub unread_read : {a : ℕ} → Unread ≡ BeingRead a → ⊥
 unread_read e = cc
 
-restored_read : {n m a : ℕ} → Restored n m ≡ BeingRead a → ⊥
+pub restored_read : {n m a : ℕ} → Restored n m ≡ BeingRead a → ⊥
 restored_read e = cc
 
-failed_read : {a : ℕ} (s : ReadState) → waits s ≡ false → s ≡ BeingRead a → ⊥
+pub failed_read : {a : ℕ} (s : ReadState) → waits s ≡ false → s ≡ BeingRead a → ⊥
 failed_read s w e = true≢false (sym (ap waits e) ∙ w)
 
 pub some_waits : (shards : List RestoreShard) (s : RestoreShard) → Has shards s → waits s.state ≡ true → any_waits shards ≡ true
@@ -101,7 +101,7 @@ once_mapped g p shards once s z sm zm i n =
     let numbers : a.number ≡ b.number = sym (p.number a) ∙ ap (λ (x : RestoreShard). x.number) ae ∙ n ∙ ap (λ (x : RestoreShard). x.number) (sym be) ∙ p.number b in
     sym ae ∙ ap g (once a b am bm ids numbers) ∙ be
 
-apart_one : (refs : List IndexRef) → AreApart refs → (r q : IndexRef) → Has refs r → Has refs q → r.id ≡ q.id → r ≡ q
+pub apart_one : (refs : List IndexRef) → AreApart refs → (r q : IndexRef) → Has refs r → Has refs q → r.id ≡ q.id → r ≡ q
 apart_one [] h r q rm qm e = absurd rm
 apart_one (x ∷ refs) h r q (inl a) (inl b) e = sym a ∙ b
 apart_one (x ∷ refs) h r q (inl a) (inr m) e = absurd (h.0 q m (ap (λ (y : IndexRef). y.id) a ∙ e))

@@ -18,6 +18,7 @@ pub mod Entry
 pub mod After
 pub mod Allowed
 pub mod ReadLaw
+pub mod Restored
 pub mod History
 pub mod ReadEnds
 pub mod Left

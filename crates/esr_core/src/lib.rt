@@ -2,7 +2,7 @@
 #![tactic(auto)]
 
 ghost use Rattle.std.specs.Prelude.{◌≡◌, Bool, true, false, Option, Some, ℕ, suc, ◌<◌, ◌≤◌, List, [], ◌∷◌, ◌++◌, ◌⊎◌};
-ghost use Rattle.esr_model.specs.Values.{Bytes, RootIndex, RootData, ClusterRecord, ReadsBack, Formats};
+ghost use Rattle.esr_model.specs.Values.{Bytes, IndexRef, RootIndex, RootData, ClusterRecord, ReadsBack, Formats};
 ghost use Rattle.esr_model.specs.Names.{BlobName, Root};
 ghost use Rattle.esr_model.specs.Image.{Has, Blobs, Image, KeptBy, Present};
 ghost use Rattle.esr_model.specs.Kept.{Kept, RootIds, first_id};
@@ -21,6 +21,7 @@ ghost use Rattle.esr_core.specs.Ranked.{Ranked};
 ghost use Rattle.esr_core.specs.ReadTracked.{ReadTracked};
 ghost use Rattle.esr_core.specs.ReadEnds.{CanEnd};
 ghost use Rattle.esr_core.specs.ReadLaw.{ReadLaw, ReadsShelved, IsOnShelf};
+ghost use Rattle.esr_core.specs.Restored.{IsServed, IsShelvedAs};
 ghost use Rattle.esr_core.specs.Restores.{IsReading};
 ghost use Rattle.esr_core.specs.Ready.{IsOpen, AnyReady, Barrier, Idle, SwapIsOut};
 ghost use Rattle.std.specs.FinMap as fin;
@@ -28,7 +29,7 @@ ghost use Rattle.std.specs.FinMap.{FinMap};
 ghost use Rattle.std.specs.Ordering.{nat_cmp};
 ghost use Rattle.esr_core.specs.Turns.{Turn, Turns, commands_of};
 ghost use Rattle.esr_core.specs.Doomed.{Dooms};
-ghost use Rattle.esr_core.specs.Entry.{Moment, SettleStep, WasSettled, Refused, StaleTerm};
+ghost use Rattle.esr_core.specs.Entry.{Moment, Restore, AskStep, SettleStep, WasSettled, Refused, StaleTerm, AcceptedRestore};
 ghost use Rattle.esr_core.specs.After.{swaps_record, after};
 ghost use Rattle.esr_core.specs.Example.{CanWrite, HasSnapshot};
 ghost use Rattle.esr_core.specs.Allowed.{SameBlobs, Allowed, RestoredBy};
@@ -279,4 +280,23 @@ pub fn each_step_is_ranked()
 /// And so does each legal history.
 pub fn each_history_is_ranked()
     ensures { (f : Formats) (part_size : ℕ) (w : World) (log : List Moment) → Tracked w → Ranked w → IsLegal f part_size w log → Ranked (world_from f w log) }
+{}
+
+/// What a ticket has read of its whole shard are the files of that shard on the shelf as it was when its restore was asked,
+/// whatever has counted since then.
+pub fn restores_give_the_shelf_of_their_ask()
+    ensures { (f : Formats) (part_size : ℕ) (shelf : List Shelved) (w : World) (before rest : List Moment) (m : Moment) (name place : Bytes) (o uuid : ℕ) (indices : List IndexRef) (k : ℕ) (q : Reader) (files bytes : ℕ) → AllKnown f → Law f w shelf → ReadLaw f w
+        → IsLegal f part_size w (before ++ m ∷ rest) → AreTold (before ++ m ∷ rest) → AreHonest f w (before ++ m ∷ rest) → m.entry.step ≡ AskStep (Restore name place) → m.entry.reply ≡ AcceptedRestore o uuid indices → IsReading (world_from f w (before ++ m ∷ rest)) k q → q.op ≡ o
+        → (by : RestoredBy f q files bytes) → IsOnShelf f (shelf_after shelf (committed f (world_from f w before).safe w before)) q files bytes by }
+{}
+
+/// The snapshot of which a restore is asked is on the shelf, under its name, with the shards of the indices that the answer tells.
+pub fn asked_snapshots_are_on_the_shelf()
+    ensures { (f : Formats) (part_size : ℕ) (w : World) (shelf : List Shelved) (m : Moment) (name place : Bytes) (o uuid : ℕ) (indices : List IndexRef) (image : Image) → Law f w shelf → Allowed f part_size w m → m.image ≡ Some image
+        → m.entry.step ≡ AskStep (Restore name place) → m.entry.reply ≡ AcceptedRestore o uuid indices → IsShelvedAs shelf name uuid indices }
+{}
+
+/// What the ticket of a restore that is out may read stands: the snapshot of its shard, and each file of it.
+pub fn each_reader_is_served()
+    ensures { (f : Formats) (w : World) (shelf : List Shelved) (k : ℕ) (q : Reader) → Law f w shelf → ReadLaw f w → IsReading w k q → IsServed f w q }
 {}

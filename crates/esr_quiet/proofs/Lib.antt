@@ -7,6 +7,9 @@ pub mod Passing
 pub mod Bases
 pub mod Failures
 pub mod Rules
+pub mod Fronts
+pub mod Restores
+pub mod Unasked
 pub mod Core
 pub mod FreeFrame
 pub mod FreeNames

@@ -1,10 +1,16 @@
--- The failures of units in a history have causes.
+-- The failures of units, and those of restores, in a history have causes.
 use Rattle.std.specs.Prelude.{ℕ, List}
 use Rattle.esr_core.specs.Entry.{Why, Moment}
 use Rattle.esr_desk.specs.declared.fault.Fault.{Fault}
 use Rattle.esr_desk.specs.Start.{Start}
 use Rattle.esr_desk.specs.Shown.{Counts, IsReport, IsShownAt}
+use Rattle.esr_reading.specs.Shown as reading
+use Rattle.esr_reading.specs.AllShown.{IsReadReport, IsReadShownAt}
 
 -- the cause of each failure that is told was shown when it was told
 abbrev pub AreCaused : {S F H T : Type 0} → Counts S F H T → Start → List Moment → List (Fault S F H T) → Type 0
 AreCaused c s log faults = (place who : ℕ) (why : Why) (report : IsReport log place who why) → IsShownAt c s report.front place who why faults
+
+-- and so was that of each shard that was not restored
+abbrev pub AreReadCaused : {S F H T : Type 0} → reading.Counts F T → Start → List Moment → List (Fault S F H T) → Type 0
+AreReadCaused c s log faults = (place who : ℕ) (why : Why) (report : IsReadReport log place who why) → IsReadShownAt c s report.front place who why faults

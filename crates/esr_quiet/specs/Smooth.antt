@@ -1,13 +1,13 @@
 -- A history over quiet objects that tell, in which no number was spent.
-use Rattle.std.specs.Prelude.{◌≡◌, ◌≢◌, true, List, ◌∷◌, ◌++◌}
+use Rattle.std.specs.Prelude.{◌≡◌, ◌≢◌, ◌≤◌, true, List, ◌∷◌, ◌++◌}
 use Rattle.std.specs.FinMap as fin
 use Rattle.esr_model.specs.Names.{BlobName}
-use Rattle.esr_model.specs.Values.{Has}
+use Rattle.esr_model.specs.Values.{Bytes, Has}
 use Rattle.esr_model.specs.Shelf.{Shelved}
 use Rattle.esr_model.specs.Image.{Image}
 use Rattle.esr_model.specs.Kept.{Kept}
 use Rattle.esr_core.specs.World.{Opened}
-use Rattle.esr_core.specs.Entry.{FailedStep, Why, ElectStep, ReadStep, CommitTest, Reply, HasEnded, Refused, DepotFault, IdsSpent, GenerationsSpent, TermsSpent, Moment}
+use Rattle.esr_core.specs.Entry.{Restore, AskStep, FailedStep, Why, ElectStep, ReadStep, CommitTest, ReadFails, Reply, HasEnded, Refused, DepotFault, IdsSpent, GenerationsSpent, TermsSpent, Moment}
 use Rattle.esr_core.specs.History.{AllKnown, AreTold, AreHonest}
 use Rattle.esr_desk.specs.Start.{Start, formats_of, world_of, Legal}
 use Rattle.esr_desk.specs.Once.{AreOnce}
@@ -59,3 +59,11 @@ pub record IsSmooth (s : Start) (log : List Moment) : Type 0 where
 -- no unit failed
 abbrev pub NoneFailed : List Moment → Type 0
 NoneFailed log = (m : Moment) (why : Why) → Has log m → m.entry.step ≡ FailedStep why → m.entry.reply ≢ HasEnded
+
+-- no ticket of a restore failed
+abbrev pub NoneUnrestored : List Moment → Type 0
+NoneUnrestored log = (m : Moment) (why : Why) → Has log m → 1 ≤ m.entry.who → m.entry.step ≡ ReadStep (ReadFails why) → m.entry.reply ≢ HasEnded
+
+-- no restore was asked
+abbrev pub NoneAsked : List Moment → Type 0
+NoneAsked log = (m : Moment) (name place : Bytes) → Has log m → m.entry.step ≢ AskStep (Restore name place)

@@ -5,8 +5,9 @@ ghost use Rattle.esr_desk.specs.declared.fault.Fault.{Fault};
 ghost use Rattle.esr_desk.specs.Start.{Start, Legal, ticket_of};
 ghost use Rattle.esr_desk.specs.Shown.{Counts};
 ghost use Rattle.esr_desk.specs.Grew.{AllOf};
-ghost use Rattle.esr_quiet.specs.Caused.{AreCaused};
-ghost use Rattle.esr_quiet.specs.Smooth.{IsSmooth, NoneFailed};
+ghost use Rattle.esr_reading.specs.Shown as reading;
+ghost use Rattle.esr_quiet.specs.Caused.{AreCaused, AreReadCaused};
+ghost use Rattle.esr_quiet.specs.Smooth.{IsSmooth, NoneFailed, NoneUnrestored, NoneAsked};
 ghost use Rattle.esr_quiet.specs.Refusals.{AreByRule};
 ghost use Rattle.esr_quiet.specs.Prefixes.{Prefixes};
 
@@ -16,6 +17,23 @@ pub fn no_unit_fails<S, F, H, T>()
 {
     each_world_is_free();
     none_fail_where_free::<S, F, H, T>();
+}
+
+/// No shard of a restore fails either, where targets are sure: what its ticket may read is there, and reads.
+pub fn no_restore_fails<S, F, H, T>()
+    ensures { (c : reading.Counts F T) (s : Start) (log : List Moment) (faults : List (Fault S F H T)) → IsSmooth s log → s.sure_targets ≡ true → AreReadCaused c s log faults → NoneUnrestored log }
+{
+    each_world_is_free();
+    esr_core::opened_restores_are_lawful();
+    esr_core::each_history_keeps_restores();
+    esr_core::each_reader_is_served();
+}
+
+/// Nor where none was asked, whatever the targets.
+pub fn no_unasked_restore_fails()
+    ensures { (s : Start) (log : List Moment) → IsSmooth s log → NoneAsked log → NoneUnrestored log }
+{
+    each_world_is_free();
 }
 
 /// And no step is refused but that of a command, by a rule: so no name is ever taken.

@@ -1,16 +1,16 @@
 -- What a run over quiet objects ends with.
-use Rattle.std.proofs.Common.{◌≡◌, ◌≢◌, ◌⊎◌, ℕ, zero, suc, ◌+◌, ◌-◌, ◌^◌, ◌<◌, ◌≤◌, min, Bool, true, false, cond, nat_lt, List, [], ◌∷◌, ◌++◌, map, length, Option, Some, None, is_some, refl, sym, ap, ◌∙◌, subst, inl, inr, ⊎_elim, arith}
+use Rattle.std.proofs.Common.{◌≡◌, ◌≢◌, ◌⊎◌, ℕ, suc, ◌+◌, ◌^◌, ◌<◌, ◌≤◌, Bool, true, false, cond, nat_lt, List, [], ◌∷◌, ◌++◌, map, length, Option, Some, None, is_some, refl, sym, ap, ◌∙◌, subst, inl, inr, ⊎_elim, arith}
 use Rattle.std.specs.FinMap as fin
-use Rattle.std.specs.Prelude.{◌&&◌, ◌==◌, not, unwrap_or, if◌then◌else◌, sum_by, count_by}
+use Rattle.std.specs.Prelude.{◌&&◌, ◌==◌, not, unwrap_or, if◌then◌else◌}
 use Rattle.std.proofs.lemmas.Bool.{ltb-true, ltb-false}
 use Rattle.std.proofs.lemmas.List.Sums.{sum_by-cons}
 use Rattle.esr_model.specs.Values.{Bytes, Has, Formats}
 use Rattle.esr_model.specs.Image.{Image}
 use Rattle.esr_core.specs.World.{World, Opened}
-use Rattle.esr_core.specs.Entry.{AskedIndex, Asked, Snapshot, Read, CommitTest, Step, AskStep, TakeStep, ElectStep, LookStep, ReadStep, Reply, Refused, DepotFault, DeposedAt, IdsSpent, GenerationsSpent, TermsSpent, Entry, Moment}
+use Rattle.esr_core.specs.Entry.{AskedIndex, Asked, Snapshot, Restore, Read, CommitTest, Step, AskStep, TakeStep, ElectStep, ReadStep, Reply, Refused, DepotFault, DeposedAt, IdsSpent, GenerationsSpent, TermsSpent, Entry, Moment}
 use Rattle.esr_core.specs.Allowed as allowed
 use Rattle.esr_core.specs.Allowed.{ReadAllows, VerifyAllows, Allows, Allowed}
-use Rattle.esr_core.specs.History.{world_from, IsLegal, AllKnown, AreTold, AreHonest}
+use Rattle.esr_core.specs.History.{world_from, IsLegal, AreTold}
 use Rattle.esr_depot.specs.Image.{Image as Held}
 use Rattle.esr_depot.specs.Look.{Look, now}
 use Rattle.esr_script.specs.declared.item.AskedIndex.{AskedIndex as LineIndex}
@@ -21,23 +21,23 @@ use Rattle.esr_report.specs.Replies.{replies}
 use Rattle.esr_report.specs.Status.{ending, status_of}
 use Rattle.esr_desk.specs.Start.{Start, Legal, formats_of}
 use Rattle.esr_desk.specs.declared.fault.Fault.{Fault}
-use Rattle.esr_run.specs.Counts.{Counts, unit_counts, AreShown}
+use Rattle.esr_run.specs.Counts.{Counts, unit_counts, read_counts, AreShown}
 use Rattle.esr_desk.specs.Once.{AreOnce}
 use Rattle.esr_repo.specs.Log.{image_of, image_at, log_from, log_of, tick}
 use Rattle.esr_repo.specs.Counted.{is_fault, fault_entries}
 use Rattle.esr_repo.specs.Calm.{IsCalm}
 use Rattle.esr_repo.specs.Deposed.{FailedSwap, AreDeposedSo}
-use Rattle.esr_quiet.specs.Asked.{is_take, is_asked, asked_steps, GrewAsking, IsSteady, AreSteady}
-use Rattle.esr_quiet.specs.Smooth.{IsSmooth, IsSpent, AreCalm, AreUnspent, AreUnelected, AreTestedOnce, NoneFailed}
+use Rattle.esr_quiet.specs.Asked.{is_take, is_asked, asked_steps, AreSteady}
+use Rattle.esr_quiet.specs.Smooth.{IsSmooth, IsSpent, AreCalm, AreUnelected, AreTestedOnce, NoneFailed, NoneUnrestored, NoneAsked}
 use Rattle.esr_quiet.specs.Refusals.{AreByRule}
-use Rattle.esr_complete.specs.Lines.{index_of_line, command_of_line, steps_of_item, steps_of, IsKnown, AreKnown, entries_of}
+use Rattle.esr_complete.specs.Lines.{index_of_line, steps_of_item, steps_of, IsKnown, AreKnown, entries_of}
 use Rattle.esr_complete.specs.Answers.{AreAnswered, EndsWell}
 use Rattle.esr_run.specs.Script.{is_carried, first_bad}
 use Rattle.esr_run.specs.Start.{Telling, formats_by, steady_by, start_of}
-use Rattle.esr_run.specs.Images.{Holds, TellsAll}
-use Rattle.esr_run.specs.Complete.{AreThere, IsQuietFor, HasSpent, IsAnsweredWell, Completes}
+use Rattle.esr_run.specs.Images.{TellsAll}
+use Rattle.esr_run.specs.Complete.{AsksRestore, IsQuietFor, IsAnsweredWell, Completes}
 use Rattle.esr_run.specs.Laws.{QuietLaws}
-use Rattle.esr_run.specs.Made.{MadeFirst, WasStopped, HasStopped, AreDone}
+use Rattle.esr_run.specs.Made.{MadeFirst, HasStopped, AreDone}
 
 -- ---- lines that can be carried out
 
@@ -47,7 +47,7 @@ known_item items.Wait e = tt
 known_item items.List e = tt
 known_item (items.Clone source name indices) e = absurd cc
 known_item (items.Delete names) e = absurd cc
-known_item (items.Restore name place) e = absurd cc
+known_item (items.Restore name place) e = tt
 known_item items.Cleanup e = absurd cc
 known_item items.Failover e = absurd cc
 known_item items.Check e = absurd cc
@@ -256,6 +256,8 @@ of_line moment (line ∷ lines) step h = ⊎_elim
 no_election : (moment : ℕ) (item : Item) → Has (steps_of_item moment item) ElectStep → ⊥
 no_election moment (items.Snapshot name indices) (inl e) = cc
 no_election moment (items.Snapshot name indices) (inr h) = h
+no_election moment (items.Restore name place) (inl e) = cc
+no_election moment (items.Restore name place) (inr h) = h
 no_election moment items.List (inl e) = cc
 no_election moment items.List (inr h) = h
 no_election moment item h = h
@@ -263,6 +265,8 @@ no_election moment item h = h
 no_test : (moment : ℕ) (item : Item) (read : Read) → Has (steps_of_item moment item) (ReadStep read) → ⊥
 no_test moment (items.Snapshot name indices) read (inl e) = cc
 no_test moment (items.Snapshot name indices) read (inr h) = h
+no_test moment (items.Restore name place) read (inl e) = cc
+no_test moment (items.Restore name place) read (inr h) = h
 no_test moment items.List read (inl e) = cc
 no_test moment items.List read (inr h) = h
 no_test moment item read h = h
@@ -277,9 +281,44 @@ record OfSnapshot (item : Item) (indices : List AskedIndex) : Type 0 where
 of_snapshot : (moment : ℕ) (item : Item) (name : Bytes) (indices : List AskedIndex) (when : ℕ) → Has (steps_of_item moment item) (AskStep (Snapshot name indices when)) → OfSnapshot item indices
 of_snapshot moment (items.Snapshot called of) name indices when (inl e) = let same : map index_of_line of ≡ indices = cc in record { name = called; line_indices = of; item_is = refl; indices_are = sym same }
 of_snapshot moment (items.Snapshot called of) name indices when (inr h) = absurd h
+of_snapshot moment (items.Restore called place) name indices when (inl e) = absurd cc
+of_snapshot moment (items.Restore called place) name indices when (inr h) = absurd h
 of_snapshot moment items.List name indices when (inl e) = absurd cc
 of_snapshot moment items.List name indices when (inr h) = absurd h
 of_snapshot moment item name indices when h = absurd h
+
+-- a restore that was asked is that of a restore line
+of_restore : (moment : ℕ) (item : Item) (name place : Bytes) → Has (steps_of_item moment item) (AskStep (Restore name place)) → (called : Bytes) × (below : Bytes) × (item ≡ items.Restore called below)
+of_restore moment (items.Restore called below) name place h = (called, below, refl)
+of_restore moment (items.Snapshot called of) name place (inl e) = absurd cc
+of_restore moment (items.Snapshot called of) name place (inr h) = absurd h
+of_restore moment items.List name place (inl e) = absurd cc
+of_restore moment items.List name place (inr h) = absurd h
+of_restore moment item name place h = absurd h
+
+-- whether some line asks for a restore
+restore_or_not : (item : Item) → ((name : Bytes) × (place : Bytes) × (item ≡ items.Restore name place)) ⊎ ((name place : Bytes) → item ≡ items.Restore name place → ⊥)
+restore_or_not (items.Restore name place) = inl (name, place, refl)
+restore_or_not (items.Snapshot name indices) = inr (λ n p e. cc)
+restore_or_not (items.Clone source name indices) = inr (λ n p e. cc)
+restore_or_not (items.Delete names) = inr (λ n p e. cc)
+restore_or_not items.Cleanup = inr (λ n p e. cc)
+restore_or_not items.Failover = inr (λ n p e. cc)
+restore_or_not items.Wait = inr (λ n p e. cc)
+restore_or_not items.List = inr (λ n p e. cc)
+restore_or_not items.Check = inr (λ n p e. cc)
+restore_or_not items.Verify = inr (λ n p e. cc)
+
+find_restore : (lines : List ScriptLine) → AsksRestore lines ⊎ ((line : ScriptLine) (name place : Bytes) → Has lines line → line.item ≡ items.Restore name place → ⊥)
+find_restore [] = inr (λ line name place h e. h)
+find_restore (x ∷ lines) = ⊎_elim
+    (λ (it : (name : Bytes) × (place : Bytes) × (x.item ≡ items.Restore name place)). inl (x, it.0, it.1, inl refl, it.2))
+    (λ (no_restore : (name place : Bytes) → x.item ≡ items.Restore name place → ⊥). ⊎_elim
+    (λ (more : AsksRestore lines). inl (more.0, more.1, more.2, inr more.3, more.4))
+    (λ (none : (line : ScriptLine) (name place : Bytes) → Has lines line → line.item ≡ items.Restore name place → ⊥).
+    inr (λ line name place h e. ⊎_elim (λ is. no_restore name place (ap (λ (l : ScriptLine). l.item) is ∙ e)) (λ has. none line name place has e) h))
+    (find_restore lines))
+    (restore_or_not x.item)
 
 in_map : (l : List LineIndex) (a : AskedIndex) → Has (map index_of_line l) a → (b : LineIndex) × Has l b × (index_of_line b ≡ a)
 in_map [] a h = absurd h
@@ -372,6 +411,20 @@ module _ {S F H T : Type 0} (laws : QuietLaws S F H T) (count : Counts S F H T) 
     none_failed : NoneFailed log
     none_failed = laws.fails (unit_counts count) s log faults smooth shown.units
 
+    -- no line asks for a restore
+    unasked : ((line : ScriptLine) (name place : Bytes) → Has lines line → line.item ≡ items.Restore name place → ⊥) → NoneAsked log
+    unasked none m name place h is =
+        let who : m.entry.who ≡ 0 = subst (IsNobodys m.entry.who) is (nobody m h) in
+        let from = wanted m h who (ap is_take is) in
+        let it = of_restore moment from.line.item name place (subst (λ (step : Step). Has (steps_of_item moment from.line.item) step) is from.step_is) in
+        none from.line it.0 it.1 from.there it.2
+
+    none_unrestored : NoneUnrestored log
+    none_unrestored = ⊎_elim
+        (λ (asks : AsksRestore lines). laws.restores (read_counts count) s log faults smooth (quiet_for.targets asks) shown.restores)
+        (λ none. laws.unasked s log smooth (unasked none))
+        (find_restore lines)
+
     rules : AreByRule log
     rules = laws.rules s log smooth none_failed
 
@@ -393,8 +446,8 @@ module _ {S F H T : Type 0} (laws : QuietLaws S F H T) (count : Counts S F H T) 
     well known done =
         let asked : asked_steps log ≡ steps_of moment lines = ap asked_steps done.grew.is ∙ done.grew.asked refl in
         record {
-          answered = subst (λ (es : List Entry). AreAnswered lines (replies lines es)) entries (laws.answered s log lines moment smooth none_failed rules done.idle known asked);
-          ends = subst (λ (es : List Entry). EndsWell lines es) entries (laws.ends s log lines moment smooth none_failed rules done.idle known asked);
+          answered = subst (λ (es : List Entry). AreAnswered lines (replies lines es)) entries (laws.answered s log lines moment smooth none_failed none_unrestored rules done.idle known asked);
+          ends = subst (λ (es : List Entry). EndsWell lines es) entries (laws.ends s log lines moment smooth none_failed none_unrestored rules done.idle known asked);
           waits = done.waits;
         }
 

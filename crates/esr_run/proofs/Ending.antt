@@ -1,5 +1,5 @@
 -- How a run ends.
-use Rattle.std.proofs.Common.{◌≡◌, ◌⊎◌, ℕ, ◌<◌, ◌≤◌, ◌^◌, Bool, true, false, List, [], ◌∷◌, ◌++◌, Option, Some, None, is_some, inl, inr, refl, sym, ap, ◌∙◌, subst}
+use Rattle.std.proofs.Common.{◌≡◌, ◌⊎◌, ℕ, ◌≤◌, ◌^◌, Bool, true, false, List, [], ◌++◌, Option, Some, None, is_some, inl, inr, refl, sym, ap, ◌∙◌, subst}
 use Rattle.std.specs.Prelude.{unwrap_or, ◌&&◌}
 use Rattle.std.specs.Io.KnownBytes.{Appends}
 use Rattle.esr_model.specs.Values.{Bytes}
@@ -28,12 +28,12 @@ use Rattle.esr_run.specs.Counts.{Counts, AreShown}
 use Rattle.esr_repo.specs.Log.{log_of}
 use Rattle.esr_run.specs.Asked.{wanted_of, part_size_of}
 use Rattle.esr_run.specs.Ends.{RunEnd, BadWords, Unreadable, BadScript, BadLine, OpenFault, Damaged, NoTerm, Carried}
-use Rattle.esr_run.specs.Faults.{of_opening, listed, fetch_of, HasFetch}
+use Rattle.esr_run.specs.Faults.{listed, fetch_of, HasFetch}
 use Rattle.esr_run.specs.Start.{Telling, formats_by, start_of, LegalRun}
 use Rattle.esr_run.specs.Laws.{Laws}
 use Rattle.esr_run.specs.Stops.{StoppedBy}
 use Rattle.esr_run.specs.Causes.{Given, IsScript, IsOpenedRun, IsUntouched, IsUnopened, IsRunOf, IsCauseOf, IsOpenCause, IsVerdict, IsTold, IsPrinted, IsEndOf, end_of_refusal}
-use Rattle.esr_run.proofs.Worlds.{begun_world, begun_is, start_is}
+use Rattle.esr_run.proofs.Worlds.{begun_world, start_is}
 use Rattle.esr_run.proofs.Keeping.{untouched_kept, refused_kept, every_image_kept, answers_stay}
 
 -- ---- what is told at the start
@@ -180,9 +180,10 @@ run_opened count given files size lines before after old_faults new_faults histo
 
 pub printed : (status wanted : ℕ) (text : Bytes) (old new : Option Bytes) (old_faults new_faults : ℕ) (Cause : RunEnd → Type 0)
     → IsVerdict wanted text Cause → IsPrinted status wanted text old new old_faults new_faults → IsEndOf status old new old_faults new_faults Cause
-printed status wanted text old new old_faults new_faults Cause verdict (inl failed) = inr (inl failed)
-printed status wanted text old new old_faults new_faults Cause (inl wanting) (inr done) = inl (done.0 ∙ wanting)
-printed status wanted text old new old_faults new_faults Cause (inr v) (inr done) =
+printed status wanted text old new old_faults new_faults Cause verdict (inl wanting) = inl wanting.0
+printed status wanted text old new old_faults new_faults Cause verdict (inr (inl failed)) = inr (inl failed)
+printed status wanted text old new old_faults new_faults Cause (inl wanting) (inr (inr done)) = inl (done.0 ∙ wanting)
+printed status wanted text old new old_faults new_faults Cause (inr v) (inr (inr done)) =
     inr (inr (record { end = v.end; status_is = done.0 ∙ v.status_is; text_is = subst (Appends old new) v.text_is done.1; cause = v.cause }))
 
 -- ---- the objects that failed

@@ -1,5 +1,5 @@
 -- The images of a run.
-use Rattle.std.proofs.Common.{◌≡◌, ◌⊎◌, ℕ, suc, ◌≤◌, Bool, true, List, [], ◌∷◌, ◌++◌, Option, Some, None, is_some, inl, inr, ⊎_elim, refl, sym, ap, ◌∙◌, subst, append_assoc}
+use Rattle.std.proofs.Common.{◌≡◌, ◌⊎◌, ℕ, Bool, List, [], ◌∷◌, ◌++◌, Option, Some, is_some, inl, inr, ⊎_elim, refl, sym, ap, ◌∙◌, subst, append_assoc}
 use Rattle.esr_model.specs.Values.{Formats, ReadsBack}
 use Rattle.esr_model.specs.Image.{Image}
 use Rattle.esr_model.specs.Shelf.{Shelved, shelf_after}
@@ -12,12 +12,11 @@ use Rattle.esr_core.specs.History.{IsLegal, AllKnown, AreTold, AreHonest, commit
 use Rattle.esr_core.specs.Left.{Leaves, safe_of, safe_by, safe_in}
 use Rattle.esr_depot.specs.Image.{Image as Held}
 use Rattle.esr_depot.specs.Look.{Look, now}
-use Rattle.esr_depot.specs.Moments.{LeavesOnly}
 use Rattle.esr_root.specs.Root.{Root}
 use Rattle.esr_record.specs.Record.{Record}
 use Rattle.esr_formats.specs.Formats.{formats}
 use Rattle.esr_formats.specs.Clusters.{cluster_kind}
-use Rattle.esr_desk.specs.Start.{Start, formats_of, world_of}
+use Rattle.esr_desk.specs.Start.{Start, world_of}
 use Rattle.esr_opening.specs.Opening.{image_of, Kept, world_in, IsLeftOf, IsOpening, IsAsBefore, SwapFailed, IsOpenRefused}
 use Rattle.esr_opening.specs.declared.refusal.OpenRefusal.{OpenRefusal}
 use Rattle.esr_opening.specs.declared.refusal.OpenRefusal.TheVariants as refusals
@@ -25,7 +24,7 @@ use Rattle.esr_repo.specs.Log.{image_at, tick, ticks, log_from, log_of}
 use Rattle.esr_repo.specs.Grown.{world_step}
 use Rattle.esr_repo.specs.Past.{IsPast}
 use Rattle.esr_run.specs.Start.{Telling, known_by, told_by, formats_by, start_of, LegalRun}
-use Rattle.esr_run.specs.Images.{Holds, TellsAll, StaysKept, EveryImageKept, Settles, AnsweredStay}
+use Rattle.esr_run.specs.Images.{Holds, TellsAll, StaysKept, EveryImageKept, AnsweredStay}
 use Rattle.esr_run.specs.Laws.{Laws}
 use Rattle.esr_run.proofs.Worlds.{opened_image}
 

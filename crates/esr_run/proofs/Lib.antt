@@ -1,10 +1,13 @@
+pub mod Filling
 pub mod Making
 pub mod Reading
 pub mod Asking
 pub mod Scripts
+pub mod Numbering
 pub mod Worlds
 pub mod Keeping
 pub mod Ending
+pub mod Restoring
 pub mod Counting
 pub mod Completing
 pub mod Smoothly

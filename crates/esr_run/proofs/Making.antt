@@ -2,9 +2,12 @@
 use Rattle.std.proofs.Common.{◌≡◌, ◌≢◌, ◌⊎◌, ℕ, zero, suc, ◌+◌, ◌-◌, ◌^◌, ◌≤◌, take, take_all, true, false, List, [], ◌∷◌, ◌++◌, drop, ◌<◌, Bool, Some, slice_index_or, if◌then◌else◌, length, length-append, None, Option, Result, Ok, Err, OnOk, IfErr, IsErr, nat_cmp, append-nil, append_assoc, refl, sym, ap, ◌∙◌, subst, inl, inr, ⊎_elim, arith}
 use Rattle.std.specs.FinMap.{FinMap}
 use Rattle.std.specs.FinMap as fin
-use Rattle.esr_model.specs.Values.{Has}
-use Rattle.esr_core.specs.World.{Ticket}
-use Rattle.esr_core.specs.Entry.{Given, Gave, Step, TakeStep, NothingReady, Reply, Refusal, Refused, Moment}
+use Rattle.esr_model.specs.Values.{Has, IndexRef, RootSnap, Formats}
+use Rattle.esr_core.specs.World.{World, Ticket, Reader}
+use Rattle.esr_core.specs.After.{after}
+use Rattle.esr_core.specs.History.{world_from, IsLegal}
+use Rattle.esr_core.specs.Tracked.{Tracked}
+use Rattle.esr_core.specs.Entry.{Given, Gave, Step, TakeStep, NothingReady, Reply, Accepted, AcceptedRestore, Looked, Refusal, Refused, Moment}
 use Rattle.esr_script.specs.declared.item.Item.{Item}
 use Rattle.esr_script.specs.declared.item.Item.TheVariants as items
 use Rattle.esr_script.specs.declared.item.ScriptLine.{ScriptLine}
@@ -12,19 +15,24 @@ use Rattle.esr_desk.specs.declared.refusal.StepRefusal.{StepRefusal}
 use Rattle.esr_desk.specs.declared.refusal.StepRefusal.TheVariants as steps
 use Rattle.esr_desk.specs.declared.refusal.EntryRefusal.{EntryRefusal}
 use Rattle.esr_desk.specs.Refusals.{refusal_of}
-use Rattle.esr_desk.specs.Start.{Start, Legal, or_no_ticket, ticket_of}
+use Rattle.esr_desk.specs.Start.{Start, Legal, formats_of, world_of, or_no_ticket, ticket_of}
 use Rattle.esr_desk.specs.Outcome.{Stepped, Outcome}
 use Rattle.esr_desk.specs.Last.{IsLast}
 use Rattle.esr_desk.specs.Grew.{NoneOut}
+use Rattle.esr_desk.specs.Readers.{or_no_reader, reader_of}
 use Rattle.esr_quiet.specs.Asked.{GrewAsking}
 use Rattle.esr_quiet.specs.Asking.{asking_none, asking_on}
 use Rattle.esr_quiet.specs.Numbers.{HasNoTickets}
 use Rattle.esr_drive.specs.Stopped.{IsStopped}
 use Rattle.esr_complete.specs.Lines.{steps_of_item, steps_of}
-use Rattle.esr_complete.specs.Answers.{IsIdle}
+use Rattle.esr_complete.specs.Answers.{NoReaderOut, IsIdle}
 use Rattle.esr_run.specs.Script.{is_carried, first_bad}
 use Rattle.esr_run.specs.Laws.{StepsStay}
-use Rattle.esr_run.specs.Made.{MadeFirst, WasStopped, HasStopped, LineMade, LineRests, WaitEnds, WaitEnded, WaitsEnded, AreMade, AreDone}
+use Rattle.esr_run.proofs.Filling.{AsksLine}
+use Rattle.esr_run.specs.Made.{MadeFirst, HasStopped, HasNoReaders, AreIn, LineMade, LineRests, WaitEnds, WaitEnded, WaitsEnded, AreMade, AreDone}
+
+abbrev Readers : Type 0
+Readers = FinMap nat_cmp Reader
 
 -- ---- a step of who 0 that takes no unit
 
@@ -35,11 +43,30 @@ GivesNone reply = (ticket op : ℕ) (unit : Given) → reply ≢ Gave ticket op 
 refused_none : (refusal : Refusal) → GivesNone (Refused refusal)
 refused_none refusal ticket op unit e = cc
 
+pub accepted_none : (op : ℕ) → GivesNone (Accepted op)
+accepted_none op ticket o unit e = cc
+
+pub restore_none : (op uuid : ℕ) (indices : List IndexRef) → GivesNone (AcceptedRestore op uuid indices)
+restore_none op uuid indices ticket o unit e = cc
+
+pub looked_none : (snapshots : List RootSnap) (safe : ℕ) → GivesNone (Looked snapshots safe)
+looked_none snapshots safe ticket o unit e = cc
+
 same_or_not : (k : ℕ) → (k ≡ 0) ⊎ (k ≢ 0)
 same_or_not zero = inl refl
 same_or_not (suc k) = inr (λ (e : suc k ≡ zero). omega (arith, e))
 
-module _ (laws : StepsStay) (s : Start) (numbered : HasNoTickets s) (alone : s.alone ≡ true) where
+-- ---- one more moment
+
+world_one : (f : Formats) (w : World) (log : List Moment) (m : Moment) → world_from f w (log ++ m ∷ []) ≡ after f (world_from f w log) m
+world_one f w [] m = refl
+world_one f w (n ∷ log) m = world_one f (after f w n) log m
+
+legal_one : (f : Formats) (size : ℕ) (w : World) (log : List Moment) (m : Moment) → IsLegal f size w (log ++ m ∷ []) → IsLegal f size w log × IsLegal f size (world_from f w log) (m ∷ [])
+legal_one f size w [] m legal = (tt, legal)
+legal_one f size w (n ∷ log) m legal = let h = legal_one f size (after f w n) log m legal.1 in ((legal.0, h.0), h.1)
+
+module _ (laws : StepsStay) (s : Start) (numbered : HasNoTickets s) (ops : Tracked s.world) (alone : s.alone ≡ true) where
   stepped_rests : (old new : List Moment) (step : Step) (reply : Reply) → GivesNone reply → Stepped s old new 0 step reply → NoneOut s old → NoneOut s new
   stepped_rests old new step reply none h rest k =
       let m : Moment = record { entry = record { who = 0; step = step; reply = reply }; image = h.image } in
@@ -52,11 +79,32 @@ module _ (laws : StepsStay) (s : Start) (numbered : HasNoTickets s) (alone : s.a
       ap (λ (t : Ticket). t.out) same ∙ rest k)
       (same_or_not k)
 
-  pub rests_by : {X : Type 0} (old new : List Moment) (step : Step) (ok : X → Reply) (result : Result X StepRefusal) → ((x : X) → GivesNone (ok x)) → Outcome s old new 0 step ok result → NoneOut s old → LineRests s new result
-  rests_by old new step ok (Ok x) none h rest = stepped_rests old new step (ok x) (none x) h rest
-  rests_by old new step ok (Err steps.Memory) none h rest = tt
-  rests_by old new step ok (Err steps.TurnsSpent) none h rest = h.1 alone
-  rests_by old new step ok (Err (steps.Refused refusal)) none h rest = inl (stepped_rests old new step (Refused (refusal_of refusal)) (refused_none (refusal_of refusal)) h.0 rest)
+  -- no ticket of a restore is given
+  same_readers : (old : List Moment) (m : Moment) → AsksLine m.entry.step → Legal s (old ++ m ∷ []) → (world_of s (old ++ m ∷ [])).readers ≡ (world_of s old).readers
+  same_readers old m asks legal =
+      let f = formats_of s in
+      let both = legal_one f s.part_size s.world old m legal in
+      let tracked : Tracked (world_of s old) = laws.tracked f s.part_size s.world old ops both.0 in
+      ap (λ (w : World). w.readers) (world_one f s.world old m)
+      ∙ ⊎_elim (λ a. laws.asks f s.part_size (world_of s old) m a.0 tracked both.1.0 a.1) (λ l. laws.looks f s.part_size (world_of s old) m tracked both.1.0 l) asks
+
+  stepped_readers : (old new : List Moment) (step : Step) (reply : Reply) → AsksLine step → Stepped s old new 0 step reply → NoReaderOut s old → NoReaderOut s new
+  stepped_readers old new step reply asks h rest k =
+      let m : Moment = record { entry = record { who = 0; step = step; reply = reply }; image = h.image } in
+      let front : h.front ≡ old = h.waited.grew ∙ ap (λ (l : List Moment). old ++ l) (h.waited.nobody alone) ∙ append-nil old in
+      let is : new ≡ old ++ m ∷ [] = h.is ∙ ap (λ (l : List Moment). l ++ m ∷ []) front in
+      ap (λ (l : List Moment). (reader_of s l k).out) is
+      ∙ ap (λ (x : Readers). (or_no_reader (fin.get x k)).out) (same_readers old m asks (subst (Legal s) is h.legal))
+      ∙ rest k
+
+  stepped_in : (old new : List Moment) (step : Step) (reply : Reply) → AsksLine step → GivesNone reply → Stepped s old new 0 step reply → AreIn s old → AreIn s new
+  stepped_in old new step reply asks none h rest = record { tickets = stepped_rests old new step reply none h rest.tickets; readers = stepped_readers old new step reply asks h rest.readers }
+
+  pub rests_by : {X : Type 0} (old new : List Moment) (step : Step) (ok : X → Reply) (result : Result X StepRefusal) → AsksLine step → ((x : X) → GivesNone (ok x)) → Outcome s old new 0 step ok result → AreIn s old → LineRests s new result
+  rests_by old new step ok (Ok x) asks none h rest = stepped_in old new step (ok x) asks (none x) h rest
+  rests_by old new step ok (Err steps.Memory) asks none h rest = tt
+  rests_by old new step ok (Err steps.TurnsSpent) asks none h rest = h.1 alone
+  rests_by old new step ok (Err (steps.Refused refusal)) asks none h rest = inl (stepped_in old new step (Refused (refusal_of refusal)) asks (refused_none (refusal_of refusal)) h.0 rest)
 
 -- ---- a wait
 
@@ -77,7 +125,7 @@ was_stopped s new (steps.Refused refusal) alone h some =
       step = h.3;
     })
 
-pub rests_waiting : (s : Start) (old new : List Moment) (result : Result Unit StepRefusal) → OnOk result (s.alone ≡ true → NoneOut s old → NoneOut s new) → IfErr result (IsStopped s new) → s.alone ≡ true → NoneOut s old → LineRests s new result
+pub rests_waiting : (s : Start) (old new : List Moment) (result : Result Unit StepRefusal) → OnOk result (s.alone ≡ true → AreIn s old → AreIn s new) → IfErr result (IsStopped s new) → s.alone ≡ true → AreIn s old → LineRests s new result
 rests_waiting s old new (Ok x) ok stopped alone rest = ok alone rest
 rests_waiting s old new (Err steps.Memory) ok stopped alone rest = tt
 rests_waiting s old new (Err steps.TurnsSpent) ok stopped alone rest = stopped alone
@@ -126,13 +174,13 @@ wait_or_not items.Verify = inr (λ e. cc)
 
 -- no ticket is out after a line, and after a wait no unit is ready, unless the work was stopped
 abbrev pub LineEnded : Start → Item → List Moment → Type 0
-LineEnded s item new = (NoneOut s new × (item ≡ items.Wait → IsLast new 0 TakeStep NothingReady)) ⊎ HasStopped new
+LineEnded s item new = (AreIn s new × (item ≡ items.Wait → IsLast new 0 TakeStep NothingReady)) ⊎ HasStopped new
 
-pub refused_line : (s : Start) (item : Item) (new : List Moment) → NoneOut s new ⊎ HasStopped new → (item ≡ items.Wait → HasStopped new) → LineEnded s item new
+pub refused_line : (s : Start) (item : Item) (new : List Moment) → AreIn s new ⊎ HasStopped new → (item ≡ items.Wait → HasStopped new) → LineEnded s item new
 refused_line s item new rests stopped =
     ⊎_elim
     (λ (wait : item ≡ items.Wait). inr (stopped wait))
-    (λ (other : item ≢ items.Wait). ⊎_elim (λ (none : NoneOut s new). inl (none, λ wait. absurd (other wait))) (λ (was : HasStopped new). inr was) rests)
+    (λ (other : item ≢ items.Wait). ⊎_elim (λ (none : AreIn s new). inl (none, λ wait. absurd (other wait))) (λ (was : HasStopped new). inr was) rests)
     (wait_or_not item)
 
 pub ended_refused : (new : List Moment) (e : StepRefusal) (refusal : EntryRefusal) → e ≡ steps.Refused refusal → WaitEnds {X = Unit} new (Err e) → HasStopped new
@@ -147,13 +195,13 @@ wait_on s moment before asked old mid new g w = record {
   idle = w.idle;
 }
 
-wait_here : (s : Start) (moment : ℕ) (done : List ScriptLine) (item : Item) (old mid new : List Moment) → item ≡ items.Wait → GrewAsking s (steps_of moment done) old mid → GrewAsking s (steps_of_item moment item) mid new → NoneOut s new → IsLast new 0 TakeStep NothingReady → WaitEnded s moment done old new
+wait_here : (s : Start) (moment : ℕ) (done : List ScriptLine) (item : Item) (old mid new : List Moment) → item ≡ items.Wait → GrewAsking s (steps_of moment done) old mid → GrewAsking s (steps_of_item moment item) mid new → AreIn s new → IsLast new 0 TakeStep NothingReady → WaitEnded s moment done old new
 wait_here s moment done item old mid new wait f g none last = record {
   front = new;
   back = [];
   is = sym (append-nil new);
   grew = subst (λ (l : List Step). GrewAsking s l old new) (ap (λ (i : Item). steps_of moment done ++ steps_of_item moment i) wait ∙ append-nil (steps_of moment done)) (asking_on s (steps_of moment done) (steps_of_item moment item) old mid new f g);
-  idle = record { none_out = none; none_ready = last };
+  idle = record { none_out = none.tickets; no_reader = none.readers; none_ready = last };
 }
 
 -- where a line stands among these and one more: it is the last, or stands before it
@@ -179,7 +227,7 @@ no_waits s moment old new [] after line e wait = absurd cc
 no_waits s moment old new (b ∷ before) after line e wait = absurd cc
 
 waits_next : (s : Start) (moment : ℕ) (done : List ScriptLine) (line : ScriptLine) (old mid new : List Moment) → GrewAsking s (steps_of moment done) old mid → GrewAsking s (steps_of_item moment line.item) mid new → WaitsEnded s moment done old mid
-    → NoneOut s new → (line.item ≡ items.Wait → IsLast new 0 TakeStep NothingReady) → WaitsEnded s moment (done ++ line ∷ []) old new
+    → AreIn s new → (line.item ≡ items.Wait → IsLast new 0 TakeStep NothingReady) → WaitsEnded s moment (done ++ line ∷ []) old new
 waits_next s moment done line old mid new f g waits none last before after l is wait =
     ⊎_elim
     (λ (here : (before ≡ done) × (l ≡ line)).
@@ -196,20 +244,20 @@ steps_append moment (line ∷ a) b = ap (λ (l : List Step). steps_of_item momen
 
 -- no ticket is out, and each wait among them has ended
 pub record Rested (s : Start) (moment : ℕ) (done : List ScriptLine) (old new : List Moment) : Type 0 where
-  pub none_out : NoneOut s new
+  pub none_out : AreIn s new
   pub waits : WaitsEnded s moment done old new
 
 pub record Front (s : Start) (moment : ℕ) (left lines : List ScriptLine) (old new : List Moment) : Type 0 where
   pub done : List ScriptLine
   pub is : done ++ left ≡ lines
   pub grew : GrewAsking s (steps_of moment done) old new
-  pub rests : s.alone ≡ true → NoneOut s old → Rested s moment done old new ⊎ HasStopped new
+  pub rests : s.alone ≡ true → AreIn s old → Rested s moment done old new ⊎ HasStopped new
 
 pub front_none : (s : Start) (moment : ℕ) (lines : List ScriptLine) (log : List Moment) → Front s moment lines lines log log
 front_none s moment lines log = record { done = []; is = refl; grew = asking_none s log; rests = λ alone none. inl (record { none_out = none; waits = no_waits s moment log log }) }
 
 pub front_next : (s : Start) (moment : ℕ) (line : ScriptLine) (rest lines : List ScriptLine) (old mid new : List Moment) → Front s moment (line ∷ rest) lines old mid → GrewAsking s (steps_of_item moment line.item) mid new
-    → (s.alone ≡ true → NoneOut s mid → LineEnded s line.item new) → Front s moment rest lines old new
+    → (s.alone ≡ true → AreIn s mid → LineEnded s line.item new) → Front s moment rest lines old new
 front_next s moment line rest lines old mid new f g ended =
     let same : steps_of moment (f.done ++ line ∷ []) ≡ steps_of moment f.done ++ steps_of_item moment line.item =
     steps_append moment f.done (line ∷ []) ∙ ap (λ (l : List Step). steps_of moment f.done ++ l) (append-nil (steps_of_item moment line.item)) in
@@ -219,7 +267,7 @@ front_next s moment line rest lines old mid new f g ended =
       grew = subst (λ (l : List Step). GrewAsking s l old new) (sym same) (asking_on s (steps_of moment f.done) (steps_of_item moment line.item) old mid new f.grew g);
       rests = λ alone none. ⊎_elim
           (λ (r : Rested s moment f.done old mid). ⊎_elim
-          (λ (e : NoneOut s new × (line.item ≡ items.Wait → IsLast new 0 TakeStep NothingReady)). inl (record { none_out = e.0; waits = waits_next s moment f.done line old mid new f.grew g r.waits e.0 e.1 }))
+          (λ (e : AreIn s new × (line.item ≡ items.Wait → IsLast new 0 TakeStep NothingReady)). inl (record { none_out = e.0; waits = waits_next s moment f.done line old mid new f.grew g r.waits e.0 e.1 }))
           (λ (was : HasStopped new). inr was)
           (ended alone r.none_out))
           (λ (was : HasStopped mid). inr (stopped_stays s (steps_of_item moment line.item) mid new g was))
@@ -242,7 +290,7 @@ pub front_made : (s : Start) (moment : ℕ) (left lines : List ScriptLine) (old 
 front_made s moment left lines old new f = record { first = steps_of moment f.done; rest = steps_of moment left; grew = f.grew; is = front_steps s moment left lines old new f }
 
 -- all of them
-pub front_all : (s : Start) (moment : ℕ) (left lines : List ScriptLine) (old new : List Moment) → left ≡ [] → Front s moment left lines old new → s.alone ≡ true → NoneOut s old → AreMade s moment lines old new ⊎ HasStopped new
+pub front_all : (s : Start) (moment : ℕ) (left lines : List ScriptLine) (old new : List Moment) → left ≡ [] → Front s moment left lines old new → s.alone ≡ true → AreIn s old → AreMade s moment lines old new ⊎ HasStopped new
 front_all s moment left lines old new none f alone out =
     let all : f.done ≡ lines = sym (append-nil f.done) ∙ ap (λ (l : List ScriptLine). f.done ++ l) (sym none) ∙ f.is in
     ⊎_elim
@@ -264,8 +312,8 @@ made_then s wanted old mid new f g = record {
   is = ap (λ (l : List Step). l ++ f.rest) (append-nil f.first) ∙ f.is;
 }
 
-pub done_then : (s : Start) (moment : ℕ) (lines : List ScriptLine) (old mid new : List Moment) → (s.alone ≡ true → NoneOut s old → AreMade s moment lines old mid ⊎ HasStopped mid) → GrewAsking s [] mid new → (s.alone ≡ true → NoneOut s mid → IsIdle s new ⊎ HasStopped new)
-    → s.alone ≡ true → NoneOut s old → AreDone s moment lines old new ⊎ HasStopped new
+pub done_then : (s : Start) (moment : ℕ) (lines : List ScriptLine) (old mid new : List Moment) → (s.alone ≡ true → AreIn s old → AreMade s moment lines old mid ⊎ HasStopped mid) → GrewAsking s [] mid new → (s.alone ≡ true → AreIn s mid → IsIdle s new ⊎ HasStopped new)
+    → s.alone ≡ true → AreIn s old → AreDone s moment lines old new ⊎ HasStopped new
 done_then s moment lines old mid new made g done alone none =
     ⊎_elim
     (λ all. ⊎_elim
@@ -301,19 +349,22 @@ made_stopped s moment left lines wanted old mid new (steps.Refused refusal) f ma
     no_turns refusal e = cc
 
 -- all turns were taken
-pub turns_stopped : (s : Start) (moment : ℕ) (wanted : List Step) (left lines : List ScriptLine) (old mid new : List Moment) → Front s moment left lines old mid → LineMade {X = Unit} s wanted mid new (Err steps.TurnsSpent) → (s.alone ≡ true → NoneOut s mid → LineRests {X = Unit} s new (Err steps.TurnsSpent))
-    → s.alone ≡ true → NoneOut s old → AreMade s moment lines old new ⊎ HasStopped new
+pub turns_stopped : (s : Start) (moment : ℕ) (wanted : List Step) (left lines : List ScriptLine) (old mid new : List Moment) → Front s moment left lines old mid → LineMade {X = Unit} s wanted mid new (Err steps.TurnsSpent) → (s.alone ≡ true → AreIn s mid → LineRests {X = Unit} s new (Err steps.TurnsSpent))
+    → s.alone ≡ true → AreIn s old → AreMade s moment lines old new ⊎ HasStopped new
 turns_stopped s moment wanted left lines old mid new f made line alone none =
     ⊎_elim (λ (r : Rested s moment f.done old mid). inr (inr (line alone r.none_out))) (λ (was : HasStopped mid). inr (stopped_stays s [] mid new made was)) (f.rests alone none)
 
 -- on the history of a repository, from its beginning on
-pub done_on : {X E : Type 0} (s : Start) (moment : ℕ) (lines : List ScriptLine) (old new same : List Moment) (r : Result X E) → OnOk r (s.alone ≡ true → NoneOut s old → AreDone s moment lines old new ⊎ HasStopped new) → same ≡ new → old ≡ [] → s.alone ≡ true → HasNoTickets s
+pub done_on : {X E : Type 0} (s : Start) (moment : ℕ) (lines : List ScriptLine) (old new same : List Moment) (r : Result X E) → OnOk r (s.alone ≡ true → AreIn s old → AreDone s moment lines old new ⊎ HasStopped new) → same ≡ new → old ≡ [] → s.alone ≡ true → HasNoTickets s → HasNoReaders s
     → OnOk r (AreDone s moment lines [] same ⊎ HasStopped same)
-done_on {X} {E} s moment lines old new same (Err e) done is begun alone numbered = tt
-done_on {X} {E} s moment lines old new same (Ok x) done is begun alone numbered =
-    let none : NoneOut s [] = λ k. ap (λ (m : FinMap nat_cmp Ticket). (or_no_ticket (fin.get m k)).out) numbered.none ∙ ap (λ (o : Option Ticket). (or_no_ticket o).out) (fin.get-empty nat_cmp k) in
+done_on {X} {E} s moment lines old new same (Err e) done is begun alone numbered unread = tt
+done_on {X} {E} s moment lines old new same (Ok x) done is begun alone numbered unread =
+    let none : AreIn s [] = record {
+      tickets = λ k. ap (λ (m : FinMap nat_cmp Ticket). (or_no_ticket (fin.get m k)).out) numbered.none ∙ ap (λ (o : Option Ticket). (or_no_ticket o).out) (fin.get-empty nat_cmp k);
+      readers = λ k. ap (λ (m : Readers). (or_no_reader (fin.get m k)).out) unread ∙ ap (λ (o : Option Reader). (or_no_reader o).out) (fin.get-empty nat_cmp k);
+    } in
     subst (λ (l : List Moment). AreDone s moment lines [] l ⊎ HasStopped l) (sym is)
-    (subst (λ (l : List Moment). AreDone s moment lines l new ⊎ HasStopped new) begun (done alone (subst (NoneOut s) (sym begun) none)))
+    (subst (λ (l : List Moment). AreDone s moment lines l new ⊎ HasStopped new) begun (done alone (subst (AreIn s) (sym begun) none)))
 
 pub done_or : {X E : Type 0} (P : Type 0) (status : ℕ) (r : Result X E) → OnOk r P → (IsErr r → status ≡ 8) → (status ≡ 8) ⊎ P
 done_or {X} {E} P status (Ok x) h wanting = inr h
@@ -330,13 +381,13 @@ take_rest [] = take_all (length (drop 1 none) - 1) (drop 1 none) (let few : 0 �
 take_rest (x ∷ rest) = take_all (length (x ∷ rest) - 1) rest (let le : length rest ≤ suc (length rest) - 1 = omega arith in le)
 
 step_front : (s : Start) (moment : ℕ) (line : ScriptLine) (left lines : List ScriptLine) (old mid new : List Moment) → 1 ≤ length left → line ≡ slice_index_or left 0 line → Front s moment left lines old mid → GrewAsking s (steps_of_item moment line.item) mid new
-    → (s.alone ≡ true → NoneOut s mid → LineEnded s line.item new) → Front s moment (drop 1 left) lines old new
+    → (s.alone ≡ true → AreIn s mid → LineEnded s line.item new) → Front s moment (drop 1 left) lines old new
 step_front s moment line [] lines old mid new some is f g ended = absurd (let none : List ScriptLine = [] in let le : 1 ≤ length none = some in omega (arith, le))
 step_front s moment line (x ∷ rest) lines old mid new some is f g ended =
-    front_next s moment x rest lines old mid new f (subst (λ (l : ScriptLine). GrewAsking s (steps_of_item moment l.item) mid new) is g) (subst (λ (l : ScriptLine). s.alone ≡ true → NoneOut s mid → LineEnded s l.item new) is ended)
+    front_next s moment x rest lines old mid new f (subst (λ (l : ScriptLine). GrewAsking s (steps_of_item moment l.item) mid new) is g) (subst (λ (l : ScriptLine). s.alone ≡ true → AreIn s mid → LineEnded s l.item new) is ended)
 
 pub front_step : (s : Start) (moment : ℕ) (line : ScriptLine) (left lines : List ScriptLine) (old mid new : List Moment) → 1 ≤ length left → line ≡ slice_index_or left 0 line → Front s moment left lines old mid → GrewAsking s (steps_of_item moment line.item) mid new
-    → (s.alone ≡ true → NoneOut s mid → LineEnded s line.item new) → Front s moment (take (length left - 1) (drop 1 left)) lines old new
+    → (s.alone ≡ true → AreIn s mid → LineEnded s line.item new) → Front s moment (take (length left - 1) (drop 1 left)) lines old new
 front_step s moment line left lines old mid new some is f g ended = subst (λ (l : List ScriptLine). Front s moment l lines old new) (sym (take_rest left)) (step_front s moment line left lines old mid new some is f g ended)
 
 when_good : (b : Bool) (number : ℕ) (o : Option ℕ) → (if b then o else Some number) ≡ None → o ≡ None
@@ -357,7 +408,7 @@ none_left (x ∷ rest) less = absurd (let few : suc (length rest) < 1 = less in 
 pub as_refused : (s : Start) (wanted : List Step) (mid new : List Moment) (e : StepRefusal) (refusal : EntryRefusal) → e ≡ steps.Refused refusal → LineMade {X = Unit} s wanted mid new (Err e) → GrewAsking s wanted mid new
 as_refused s wanted mid new e refusal is h = subst (λ (x : StepRefusal). LineMade {X = Unit} s wanted mid new (Err x)) is h
 
-pub rests_refused : (s : Start) (new : List Moment) (e : StepRefusal) (refusal : EntryRefusal) → e ≡ steps.Refused refusal → LineRests {X = Unit} s new (Err e) → NoneOut s new ⊎ HasStopped new
+pub rests_refused : (s : Start) (new : List Moment) (e : StepRefusal) (refusal : EntryRefusal) → e ≡ steps.Refused refusal → LineRests {X = Unit} s new (Err e) → AreIn s new ⊎ HasStopped new
 rests_refused s new e refusal is h = subst (λ (x : StepRefusal). LineRests {X = Unit} s new (Err x)) is h
 
 pub as_spent : (s : Start) (wanted : List Step) (mid new : List Moment) (e : StepRefusal) → e ≡ steps.TurnsSpent → LineMade {X = Unit} s wanted mid new (Err e) → LineMade {X = Unit} s wanted mid new (Err steps.TurnsSpent)

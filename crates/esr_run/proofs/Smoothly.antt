@@ -1,20 +1,15 @@
 -- Completeness, from the end of a run to its words.
-use Rattle.std.proofs.Common.{◌≡◌, ◌≢◌, ◌⊎◌, ℕ, ◌+◌, ◌^◌, ◌<◌, ◌≤◌, Bool, true, false, not, nat_lt, List, [], ◌∷◌, Option, Some, None, Result, Ok, Err, IsErr, refl, sym, ap, ◌∙◌, subst, inl, inr, ⊎_elim, arith}
+use Rattle.std.proofs.Common.{◌≡◌, ◌⊎◌, ℕ, ◌+◌, ◌^◌, ◌<◌, ◌≤◌, Bool, true, false, not, nat_lt, List, [], Option, Some, None, Result, Ok, Err, refl, sym, ap, ◌∙◌, subst, inl, inr, ⊎_elim, arith}
 use Rattle.std.proofs.lemmas.Bool.{ltb-true, ltb-false}
-use Rattle.std.specs.Io.KnownBytes.{Appends}
 use Rattle.esr_model.specs.Values.{Bytes}
 use Rattle.esr_core.specs.World.{World}
-use Rattle.esr_core.specs.Entry.{Step, Entry, Moment}
-use Rattle.esr_depot.specs.Image.{Image as Held}
+use Rattle.esr_core.specs.Entry.{Entry}
 use Rattle.esr_depot.specs.Look.{Look, now}
 use Rattle.esr_depot.specs.Calls.{HasCause}
-use Rattle.esr_formats.specs.Clusters.{cluster_of}
-use Rattle.esr_formats.specs.Roots.{root_of}
 use Rattle.esr_script.specs.Jobs.{job_of}
 use Rattle.esr_script.specs.Script.{script_of}
 use Rattle.esr_script.specs.declared.item.ScriptLine.{ScriptLine}
 use Rattle.esr_report.specs.Status.{ending, status_of}
-use Rattle.esr_opening.specs.Found.{found}
 use Rattle.esr_opening.specs.Opening.{Kept, world_in, IsOpening, IsOpenRefused}
 use Rattle.esr_opening.specs.declared.refusal.OpenRefusal.{OpenRefusal}
 use Rattle.esr_opening.specs.declared.refusal.OpenRefusal.TheVariants as refusals
@@ -30,12 +25,12 @@ use Rattle.esr_complete.specs.Lines.{steps_of}
 use Rattle.esr_run.specs.Asked.{Wanted, ReadScript, OneCommand, NoRun, wanted_of, part_size_of}
 use Rattle.esr_run.specs.Script.{AreBytes, first_bad, bad_line}
 use Rattle.esr_run.specs.Ends.{RunEnd, BadWords, Unreadable, BadScript, BadLine, OpenFault, Damaged, NoTerm, Carried}
-use Rattle.esr_run.specs.Start.{Telling, formats_by, is_calm_by, start_of, LegalRun}
-use Rattle.esr_run.specs.Complete.{IsQuietFor, IsLastTerm, Completes}
+use Rattle.esr_run.specs.Start.{Telling, is_calm_by, start_of, LegalRun}
+use Rattle.esr_run.specs.Complete.{IsQuietFor, IsLastTerm}
 use Rattle.esr_run.specs.Laws.{Laws, QuietLaws}
 use Rattle.esr_run.specs.Made.{MadeFirst, HasStopped, AreDone}
 use Rattle.esr_run.specs.Stops.{StoppedBy}
-use Rattle.esr_run.specs.Causes.{Given, AreRead, AreWanted, IsScriptFor, IsScript, IsStoppedFor, IsOpenedRun, IsCarried, OpensWell, IsSmoothFor, IsComplete, IsTold, IsPrinted, end_of_refusal}
+use Rattle.esr_run.specs.Causes.{Given, AreWanted, IsScriptFor, IsScript, IsStoppedFor, OpensWell, IsComplete, IsTold, IsPrinted, end_of_refusal}
 use Rattle.esr_run.proofs.Worlds.{start_is}
 use Rattle.esr_run.proofs.Ending.{Begun, opened_run}
 use Rattle.esr_run.proofs.Completing.{are_known, completes}
@@ -191,6 +186,7 @@ complete_wanting count given files reader before after old_out new_out history f
 
 pub complete_printed : {S F H T : Type 0} (count : Counts S F H T) (given : Given) (files : Telling) (reader : ℕ) (before after : Look) (old_out new_out : ℕ) (history : List Entry) (faults : List (Fault S F H T)) (status wanted : ℕ) (text : Bytes) (old new : Option Bytes)
     → IsComplete count given files reader before after old_out new_out history faults wanted → IsPrinted status wanted text old new old_out new_out → IsComplete count given files reader before after old_out new_out history faults status
-complete_printed count given files reader before after old_out new_out history faults status wanted text old new complete (inl failed) lines smooth = absurd (smooth.printed failed.1)
-complete_printed {S} {F} {H} {T} count given files reader before after old_out new_out history faults status wanted text old new complete (inr done) lines smooth =
+complete_printed count given files reader before after old_out new_out history faults status wanted text old new complete (inl wanting) lines smooth = inl wanting.0
+complete_printed count given files reader before after old_out new_out history faults status wanted text old new complete (inr (inl failed)) lines smooth = absurd (smooth.printed failed.1)
+complete_printed {S} {F} {H} {T} count given files reader before after old_out new_out history faults status wanted text old new complete (inr (inr done)) lines smooth =
     subst (λ (n : ℕ). IsComplete {S = S} {F = F} {H = H} {T = T} count given files reader before after old_out new_out history faults n) (sym done.0) complete lines smooth

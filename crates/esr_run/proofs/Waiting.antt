@@ -1,19 +1,16 @@
 -- What a wait says by the refusal that stopped its work, if one did.
-use Rattle.std.proofs.Common.{◌≡◌, ℕ, List, Option, Some, None, IfSome, Result, Ok, Err, OnOk, IfErr, true, refl, sym, subst}
-use Rattle.esr_core.specs.Entry.{Step, TakeStep, NothingReady, Moment}
+use Rattle.std.proofs.Common.{◌≡◌, List, Option, Some, None, IfSome, Result, Ok, Err, true, refl, sym, subst}
+use Rattle.esr_core.specs.Entry.{TakeStep, NothingReady, Moment}
 use Rattle.esr_desk.specs.declared.refusal.StepRefusal.{StepRefusal}
-use Rattle.esr_desk.specs.declared.refusal.StepRefusal.TheVariants as steps
 use Rattle.esr_desk.specs.Start.{Start}
-use Rattle.esr_desk.specs.Grew.{NoneOut}
 use Rattle.esr_desk.specs.Last.{IsLast}
 use Rattle.esr_drive.specs.Stopped.{IsStopped}
-use Rattle.esr_quiet.specs.Asked.{GrewAsking}
-use Rattle.esr_run.specs.Made.{LineMade, LineRests, WaitEnds}
+use Rattle.esr_run.specs.Made.{AreIn, LineRests, WaitEnds}
 use Rattle.esr_run.specs.Stop.{result_of}
 use Rattle.esr_run.proofs.Making.{rests_waiting, wait_ends}
 
-pub rests_by : (s : Start) (old new : List Moment) (stop : Option StepRefusal) (result : Result Unit StepRefusal) → result ≡ result_of stop → (stop ≡ None → s.alone ≡ true → NoneOut s old → NoneOut s new) → IfSome stop (IsStopped s new)
-    → s.alone ≡ true → NoneOut s old → LineRests s new result
+pub rests_by : (s : Start) (old new : List Moment) (stop : Option StepRefusal) (result : Result Unit StepRefusal) → result ≡ result_of stop → (stop ≡ None → s.alone ≡ true → AreIn s old → AreIn s new) → IfSome stop (IsStopped s new)
+    → s.alone ≡ true → AreIn s old → LineRests s new result
 rests_by s old new None result is rest stopped alone none = subst (λ (r : Result Unit StepRefusal). LineRests s new r) (sym is) (rests_waiting s old new (Ok tt) (rest refl) tt alone none)
 rests_by s old new (Some e) result is rest stopped alone none = subst (λ (r : Result Unit StepRefusal). LineRests s new r) (sym is) (rests_waiting s old new (Err e) tt stopped alone none)
 

@@ -1,10 +1,10 @@
 -- The world of a container that was opened, by the record that it got.
-use Rattle.std.proofs.Common.{◌≡◌, ℕ, suc, ◌≤◌, ◌-◌, ◌^◌, Bool, true, false, List, [], ◌∷◌, length, Option, Some, None, is_some, cond, refl, sym, ap, ◌∙◌, subst, arith, nat_cmp}
+use Rattle.std.proofs.Common.{◌≡◌, ℕ, suc, Bool, false, List, [], ◌∷◌, length, Option, Some, None, is_some, cond, refl, sym, ap, ◌∙◌, subst, arith, nat_cmp}
 use Rattle.std.specs.FinMap.{FinMap}
 use Rattle.std.specs.FinMap as fin
 use Rattle.std.specs.Cmp.{nat_cmp_total, eq_by_cmp_equiv}
 use Rattle.esr_model.specs.Values.{ClusterRecord, RootData}
-use Rattle.esr_model.specs.Image.{Blobs, Image}
+use Rattle.esr_model.specs.Image.{Blobs}
 use Rattle.esr_model.specs.Kept.{first_id}
 use Rattle.esr_core.specs.World.{World, Deletion, no_caller, record_of, opened, kept_deletes, numbered_deletes}
 use Rattle.esr_core.specs.World as core
@@ -17,7 +17,7 @@ use Rattle.esr_formats.specs.Roots.{root_of}
 use Rattle.esr_formats.specs.Formats.{formats}
 use Rattle.esr_formats.specs.Clusters.{cluster_of}
 use Rattle.esr_progress.specs.Infos.{AreInfosOf}
-use Rattle.esr_desk.specs.Start.{Start, formats_of}
+use Rattle.esr_desk.specs.Start.{Start}
 use Rattle.esr_opening.specs.Listed.{AreListed}
 use Rattle.esr_opening.specs.Opening.{image_of, Kept, IsKeptOf, IsInOrder, known_blobs, is_told, world_in, opened_text, IsOpening}
 use Rattle.esr_repo.specs.Repo.{TellsSo}

@@ -206,9 +206,10 @@ IsVerdict status text Cause = (status ≡ 8) ⊎ IsTextOf status text Cause
 abbrev pub IsTold : ℕ → Bytes → Option RunEnd → Type 0
 IsTold status text end = (status ≡ 8) ⊎ ((status ≡ exit_at end) × (text ≡ text_at end))
 
--- it was printed, or a write failed
+-- memory was wanting, or it was printed, or a write failed
 abbrev pub IsPrinted : ℕ → ℕ → Bytes → Option Bytes → Option Bytes → ℕ → ℕ → Type 0
-IsPrinted status wanted text old new old_faults new_faults = ((status ≡ 5) × HasCause old_faults new_faults true) ⊎ ((status ≡ wanted) × Appends old new text)
+IsPrinted status wanted text old new old_faults new_faults =
+    ((status ≡ 8) × (wanted ≡ 8)) ⊎ (((status ≡ 5) × HasCause old_faults new_faults true) ⊎ ((status ≡ wanted) × Appends old new text))
 
 -- the same as why a run ended so, from the opening of the container on
 abbrev pub IsOpenCause : {S F H T : Type 0} → Counts S F H T → Telling → ℕ → ℕ → Look → Look → ℕ → ℕ → List ScriptLine → List Entry → List (Fault S F H T) → RunEnd → Type 0

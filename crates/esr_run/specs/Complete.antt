@@ -1,5 +1,5 @@
 -- Completeness: what a run ends with where nothing fails.
-use Rattle.std.specs.Prelude.{◌≡◌, ◌≢◌, ◌⊎◌, ℕ, ◌^◌, ◌<◌, ◌≤◌, true, List, [], length, Option, Some, Err}
+use Rattle.std.specs.Prelude.{◌≡◌, ◌≢◌, ◌⊎◌, ℕ, ◌^◌, ◌<◌, ◌≤◌, true, List, [], length, Some, Err}
 use Rattle.esr_model.specs.Values.{Bytes, Has}
 use Rattle.esr_model.specs.Shelf.{Shelved}
 use Rattle.esr_core.specs.World.{World}
@@ -27,8 +27,12 @@ abbrev pub AreThere : Telling → List ScriptLine → Type 0
 AreThere telling lines = (line : ScriptLine) (name : Bytes) (indices : List AskedIndex) (a : AskedIndex) (number : ℕ) → Has lines line → line.item ≡ items.Snapshot name indices → Has indices a → number < a.shards
     → telling.is_there a.place a.name number ≡ Some true
 
+-- some line asks for a restore
+abbrev pub AsksRestore : List ScriptLine → Type 0
+AsksRestore lines = (line : ScriptLine) × (name : Bytes) × (place : Bytes) × Has lines line × (line.item ≡ items.Restore name place)
+
 -- The container tells its image, which is kept and in which no delete is open, and it is sure to serve 2^62 calls; the sources
--- are quiet, and each shard for which the lines ask is there.
+-- are quiet, and each shard for which the lines ask is there; the targets are quiet, if some line asks for a restore.
 pub record IsQuietFor (telling : Telling) (before : Look) (lines : List ScriptLine) : Type 0 where
   pub sure : 2 ^ 62 ≤ before.sure
   pub shelf : List Shelved
@@ -36,6 +40,7 @@ pub record IsQuietFor (telling : Telling) (before : Look) (lines : List ScriptLi
   pub undeleted : (name : Bytes) (why : Why) → IsOpenDelete name why → found holds.image ≢ Err (Damage name why)
   pub sources : telling.is_quiet ≡ true
   pub there : AreThere telling lines
+  pub targets : AsksRestore lines → telling.targets_quiet ≡ true
 
 -- a number was spent: a step was refused for that, or all turns were taken
 abbrev pub HasSpent : List Entry → Type 0

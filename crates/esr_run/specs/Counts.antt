@@ -1,5 +1,6 @@
 -- How often the objects of a run have failed.
-use Rattle.std.specs.Prelude.{ℕ, List}
+use Rattle.std.specs.Prelude.{ℕ, Bool, List, Option}
+use Rattle.esr_model.specs.Values.{Bytes}
 use Rattle.esr_core.specs.Entry.{Moment}
 use Rattle.esr_source.specs.declared.address.Address.{Address}
 use Rattle.esr_desk.specs.declared.fault.Fault.{Fault}
@@ -8,7 +9,8 @@ use Rattle.esr_desk.specs.Shown as desk
 use Rattle.esr_reading.specs.Shown as reading
 use Rattle.esr_reading.specs.AllShown.{AreAllShown}
 
--- how often a stage, a fetch, a shard or a target has failed, and for which address a shard or a target was made
+-- How often a stage, a fetch, a shard or a target has failed, and for which address a shard or a target was made; the files that a
+-- target tells, and whether it tells that it never fails.
 pub record Counts (S F H T : Type 0) : Type 0 where
   pub stage : S → ℕ
   pub fetch : F → ℕ
@@ -16,6 +18,8 @@ pub record Counts (S F H T : Type 0) : Type 0 where
   pub target : T → ℕ
   pub made_for : H → Address
   pub target_for : T → Address
+  pub held : T → Option (List (Bytes × Bytes))
+  pub is_sure : T → Bool
 
 -- as the units of snapshots count, and as those of restores do
 abbrev pub unit_counts : {S F H T : Type 0} → Counts S F H T → desk.Counts S F H T

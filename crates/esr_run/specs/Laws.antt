@@ -1,15 +1,17 @@
 -- The laws of the core on which a run rests.
-use Rattle.std.specs.Prelude.{◌≡◌, ◌≢◌, ℕ, suc, ◌≤◌, List, [], ◌∷◌, ◌++◌, Some}
+use Rattle.std.specs.Prelude.{◌≡◌, ◌≢◌, ℕ, suc, ◌≤◌, List, [], ◌∷◌, ◌++◌, Some, true}
 use Rattle.std.specs.FinMap as fin
 use Rattle.esr_model.specs.Values.{Formats, ReadsBack, RootData, ClusterRecord}
 use Rattle.esr_model.specs.Image.{Image, Blobs}
 use Rattle.esr_model.specs.Kept.{Kept}
 use Rattle.esr_model.specs.Shelf.{Shelved, shelf_after}
 use Rattle.esr_core.specs.World.{World, Ticket, image_of, record_of, opened, Opened}
-use Rattle.esr_core.specs.Entry.{Given, Gave, Moment, SettleStep, WasSettled}
+use Rattle.esr_core.specs.Entry.{Asked, AskStep, LookStep, Given, Gave, Moment, SettleStep, WasSettled}
 use Rattle.esr_core.specs.After.{after}
 use Rattle.esr_core.specs.History.{world_from, IsLegal, AllKnown, AreTold, AreHonest, committed}
 use Rattle.esr_core.specs.Ids.{Law}
+use Rattle.esr_core.specs.Allowed.{Allowed}
+use Rattle.esr_core.specs.Tracked.{Tracked}
 use Rattle.esr_core.specs.ReadTracked.{ReadTracked}
 use Rattle.esr_core.specs.Left.{Leaves, safe_in}
 use Rattle.esr_desk.specs.Start.{Start, Legal, no_ticket, ticket_of}
@@ -17,10 +19,11 @@ use Rattle.esr_desk.specs.declared.fault.Fault.{Fault}
 use Rattle.esr_desk.specs.Shown.{Counts}
 use Rattle.esr_script.specs.declared.item.ScriptLine.{ScriptLine}
 use Rattle.esr_report.specs.Replies.{replies}
-use Rattle.esr_quiet.specs.Caused.{AreCaused}
+use Rattle.esr_reading.specs.Shown as reading
+use Rattle.esr_quiet.specs.Caused.{AreCaused, AreReadCaused}
 use Rattle.esr_quiet.specs.Numbers.{HasNoTickets}
 use Rattle.esr_quiet.specs.Asked.{asked_steps}
-use Rattle.esr_quiet.specs.Smooth.{IsSmooth, NoneFailed}
+use Rattle.esr_quiet.specs.Smooth.{IsSmooth, NoneFailed, NoneUnrestored, NoneAsked}
 use Rattle.esr_quiet.specs.Refusals.{AreByRule}
 use Rattle.esr_complete.specs.Lines.{steps_of, AreKnown, entries_of}
 use Rattle.esr_complete.specs.Answers.{IsIdle, AreAnswered, EndsWell}
@@ -40,12 +43,17 @@ pub record Laws : Type 0 where
 pub record StepsStay : Type 0 where
   pub nothing : (s : Start) (log : List Moment) (m : Moment) (k : ℕ) → Legal s (log ++ m ∷ []) → m.entry.who ≡ 0 → ((ticket op : ℕ) (unit : Given) → m.entry.reply ≢ Gave ticket op unit) → k ≢ 0 → ticket_of s (log ++ m ∷ []) k ≡ ticket_of s log k
   pub none : (s : Start) (log : List Moment) → HasNoTickets s → ticket_of s log 0 ≡ no_ticket
+  pub tracked : (f : Formats) (part_size : ℕ) (w : World) (log : List Moment) → Tracked w → IsLegal f part_size w log → Tracked (world_from f w log)
+  pub asks : (f : Formats) (part_size : ℕ) (w : World) (m : Moment) (command : Asked) → Tracked w → Allowed f part_size w m → m.entry.step ≡ AskStep command → (after f w m).readers ≡ w.readers
+  pub looks : (f : Formats) (part_size : ℕ) (w : World) (m : Moment) → Tracked w → Allowed f part_size w m → m.entry.step ≡ LookStep → (after f w m).readers ≡ w.readers
 
 -- the laws of histories in which nothing fails
 pub record QuietLaws (S F H T : Type 0) : Type 0 where
   pub fails : (c : Counts S F H T) (s : Start) (log : List Moment) (faults : List (Fault S F H T)) → IsSmooth s log → AreCaused c s log faults → NoneFailed log
+  pub restores : (c : reading.Counts F T) (s : Start) (log : List Moment) (faults : List (Fault S F H T)) → IsSmooth s log → s.sure_targets ≡ true → AreReadCaused c s log faults → NoneUnrestored log
+  pub unasked : (s : Start) (log : List Moment) → IsSmooth s log → NoneAsked log → NoneUnrestored log
   pub rules : (s : Start) (log : List Moment) → IsSmooth s log → NoneFailed log → AreByRule log
-  pub answered : (s : Start) (log : List Moment) (lines : List ScriptLine) (moment : ℕ) → IsSmooth s log → NoneFailed log → AreByRule log → IsIdle s log → AreKnown lines → asked_steps log ≡ steps_of moment lines
+  pub answered : (s : Start) (log : List Moment) (lines : List ScriptLine) (moment : ℕ) → IsSmooth s log → NoneFailed log → NoneUnrestored log → AreByRule log → IsIdle s log → AreKnown lines → asked_steps log ≡ steps_of moment lines
       → AreAnswered lines (replies lines (entries_of log))
-  pub ends : (s : Start) (log : List Moment) (lines : List ScriptLine) (moment : ℕ) → IsSmooth s log → NoneFailed log → AreByRule log → IsIdle s log → AreKnown lines → asked_steps log ≡ steps_of moment lines
+  pub ends : (s : Start) (log : List Moment) (lines : List ScriptLine) (moment : ℕ) → IsSmooth s log → NoneFailed log → NoneUnrestored log → AreByRule log → IsIdle s log → AreKnown lines → asked_steps log ≡ steps_of moment lines
       → EndsWell lines (entries_of log)

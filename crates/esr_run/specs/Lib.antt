@@ -6,8 +6,10 @@ pub mod Counts
 pub mod Start
 pub mod Images
 pub mod Made
+pub mod Filled
 pub mod Complete
 pub mod Laws
 pub mod Causes
+pub mod Restored
 pub mod Stops
 pub mod Stop

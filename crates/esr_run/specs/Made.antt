@@ -1,5 +1,6 @@
 -- How far lines were carried out.
 use Rattle.std.specs.Prelude.{◌≡◌, ◌≢◌, ◌⊎◌, ℕ, ◌^◌, ◌≤◌, List, [], ◌∷◌, ◌++◌, length, Result, Ok, Err}
+use Rattle.std.specs.FinMap as fin
 use Rattle.esr_model.specs.Values.{Has}
 use Rattle.esr_core.specs.Entry.{Step, TakeStep, NothingReady, Refused, Refusal, Moment}
 use Rattle.esr_script.specs.declared.item.Item.TheVariants as items
@@ -11,7 +12,7 @@ use Rattle.esr_desk.specs.Grew.{NoneOut}
 use Rattle.esr_desk.specs.Last.{IsLast}
 use Rattle.esr_quiet.specs.Asked.{GrewAsking}
 use Rattle.esr_complete.specs.Lines.{steps_of}
-use Rattle.esr_complete.specs.Answers.{IsIdle}
+use Rattle.esr_complete.specs.Answers.{NoReaderOut, IsIdle}
 
 -- the first of these steps were asked
 pub record MadeFirst (s : Start) (wanted : List Step) (old new : List Moment) : Type 0 where
@@ -32,6 +33,15 @@ pub record WasStopped (log : List Moment) : Type 0 where
 abbrev pub HasStopped : List Moment → Type 0
 HasStopped log = WasStopped log ⊎ (2 ^ 40 ≤ length log)
 
+-- no ticket of a restore was given when the history began
+abbrev pub HasNoReaders : Start → Type 0
+HasNoReaders s = s.world.readers ≡ fin.empty
+
+-- no ticket is out, nor one of a restore
+pub record AreIn (s : Start) (log : List Moment) : Type 0 where
+  pub tickets : NoneOut s log
+  pub readers : NoReaderOut s log
+
 -- what the line asks for was asked, if the history tells the answer
 abbrev pub LineMade : {X : Type 0} → Start → List Step → List Moment → List Moment → Result X StepRefusal → Type 0
 LineMade s wanted old new (Ok x) = GrewAsking s wanted old new
@@ -41,10 +51,10 @@ LineMade s wanted old new (Err (steps.Refused refusal)) = GrewAsking s wanted ol
 
 -- no ticket is out after it, unless the work was stopped
 abbrev pub LineRests : {X : Type 0} → Start → List Moment → Result X StepRefusal → Type 0
-LineRests s new (Ok x) = NoneOut s new
+LineRests s new (Ok x) = AreIn s new
 LineRests s new (Err steps.Memory) = Unit {0}
 LineRests s new (Err steps.TurnsSpent) = 2 ^ 40 ≤ length new
-LineRests s new (Err (steps.Refused refusal)) = NoneOut s new ⊎ HasStopped new
+LineRests s new (Err (steps.Refused refusal)) = AreIn s new ⊎ HasStopped new
 
 -- after a wait no unit is ready, unless the work was stopped
 abbrev pub WaitEnds : {X : Type 0} → List Moment → Result X StepRefusal → Type 0
@@ -70,7 +80,7 @@ WaitsEnded s moment lines old log = (before after : List ScriptLine) (line : Scr
 pub record AreMade (s : Start) (moment : ℕ) (lines : List ScriptLine) (old new : List Moment) : Type 0 where
   pub grew : GrewAsking s (steps_of moment lines) old new
   pub waits : WaitsEnded s moment lines old new
-  pub rests : NoneOut s new
+  pub rests : AreIn s new
 
 -- and no unit is ready
 pub record AreDone (s : Start) (moment : ℕ) (lines : List ScriptLine) (old new : List Moment) : Type 0 where

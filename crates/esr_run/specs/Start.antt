@@ -11,12 +11,13 @@ use Rattle.esr_desk.specs.Start.{Start, formats_of, world_of, Legal}
 use Rattle.esr_repo.specs.Log.{image_of, ticks, log_of}
 
 -- What sources tell: of the files of a place, an index name and a number, whether that place exists, and that no shard whose
--- place exists ever fails; and what targets tell: that none ever fails.
+-- place exists ever fails; and what targets tell: that none ever fails, and that they tell their files.
 pub record Telling : Type 0 where
   pub files : Bytes → Bytes → ℕ → Option (List (Bytes × Bytes))
   pub is_there : Bytes → Bytes → ℕ → Option Bool
   pub is_quiet : Bool
   pub targets_quiet : Bool
+  pub targets_told : Bool
 
 -- whether they tell them, and which they are
 abbrev pub known_by : Telling → Bytes → Bytes → ℕ → Bool

@@ -1,27 +1,29 @@
 //! The lines of a script are carried out, in order.
-ghost use Rattle.std.specs.Prelude.{◌≡◌, ◌⊎◌, ◌≤◌, ◌^◌, ◌∷◌, [], true, None, OnOk};
+ghost use Rattle.std.specs.Prelude.{◌≡◌, ◌⊎◌, ◌≤◌, ◌^◌, ◌∷◌, ◌++◌, [], true, None, OnOk};
 ghost use Rattle.esr_script.specs.declared.item.Item.TheVariants.{Wait};
-ghost use Rattle.esr_core.specs.Entry.{AskStep, LookStep};
+ghost use Rattle.esr_core.specs.Entry.{Restore, AskStep, LookStep};
 ghost use Rattle.esr_core.specs.Tracked.{Tracked};
 ghost use Rattle.esr_core.specs.ReadTracked.{ReadTracked};
 ghost use Rattle.esr_desk.specs.Sources.{AreSources};
-ghost use Rattle.esr_desk.specs.Grew.{NoneOut};
 ghost use Rattle.esr_quiet.specs.Asked.{GrewAsking};
 ghost use Rattle.esr_quiet.specs.Numbers.{HasNoTickets};
+ghost use Rattle.esr_drive.specs.Restored.{Telling, AreTargetsOf, RestoresNone};
 ghost use Rattle.esr_complete.specs.Answers.{IsIdle};
 ghost use Rattle.esr_complete.specs.Lines.{command_of_line, steps_of_item, steps_of};
-ghost use Rattle.esr_run.specs.Made.{MadeFirst, HasStopped, LineMade, LineRests, WaitEnds, AreMade, AreDone};
+ghost use Rattle.esr_run.specs.Made.{MadeFirst, HasStopped, AreIn, LineMade, LineRests, WaitEnds, AreMade, AreDone};
+ghost use Rattle.esr_run.specs.Filled.{Fills, LineFills};
 ghost use Rattle.esr_run.specs.Stop.{result_of};
 ghost use Rattle.esr_run.specs.Script.{is_askable, is_carried, first_bad};
 
 use crate::command::command_of;
 use crate::law::steps_stay;
 use esr_desk::{Desk, StepRefusal};
-use esr_drive::work;
+use esr_drive::{RestoredTarget, RestoredTargets, work};
 use esr_names::SnapName;
 use esr_reading::RestoreDesk;
 use esr_script::{AskedIndex, Item, ScriptLine};
-use esr_source::{Gate, Sources, Targets};
+use esr_seq::Text;
+use esr_source::{Gate, Sources, Target, Targets};
 use std::alloc::{AllocError, Global};
 
 /// Asks for a snapshot.
@@ -34,8 +36,10 @@ fn ask<Q: Desk>(
 ) -> Result<(), StepRefusal>
     requires askable { is_askable indices.now ≡ true }
     requires numbered { HasNoTickets Q.start }
+    requires ops { Tracked Q.start.world }
     ensures made { LineMade Q.start (AskStep (command_of_line name.now indices.now moment) ∷ []) (Q.seen desk.old) (Q.seen desk.new) result }
-    ensures rests { Q.start.alone ≡ true → NoneOut Q.start (Q.seen desk.old) → LineRests Q.start (Q.seen desk.new) result }
+    ensures rests { Q.start.alone ≡ true → AreIn Q.start (Q.seen desk.old) → LineRests Q.start (Q.seen desk.new) result }
+    ensures none { Q.start.alone ≡ true → RestoresNone (Q.seen desk.old) (Q.seen desk.new) }
 {
     steps_stay();
     let Ok(command) = command_of(alloc, name, indices, moment) else {
@@ -47,17 +51,39 @@ fn ask<Q: Desk>(
     }
 }
 
+/// Asks for a restore.
+fn restore<Q: RestoreDesk>(
+    alloc: Global,
+    desk: &mut Q,
+    name: &SnapName,
+    place: &Text,
+) -> Result<(), StepRefusal>
+    requires numbered { HasNoTickets Q.start }
+    requires ops { Tracked Q.start.world }
+    ensures made { LineMade Q.start (AskStep (Restore name.now place.now) ∷ []) (Q.seen desk.old) (Q.seen desk.new) result }
+    ensures rests { Q.start.alone ≡ true → AreIn Q.start (Q.seen desk.old) → LineRests Q.start (Q.seen desk.new) result }
+    ensures none { Q.start.alone ≡ true → RestoresNone (Q.seen desk.old) (Q.seen desk.new) }
+{
+    steps_stay();
+    if let Err(refusal) = desk.restore(alloc, name, place) {
+        return Err(refusal);
+    }
+    Ok(())
+}
+
 /// Asks for the snapshots of the safe root.
 fn list<Q: Desk>(alloc: Global, desk: &mut Q) -> Result<(), StepRefusal>
     requires numbered { HasNoTickets Q.start }
+    requires ops { Tracked Q.start.world }
     ensures made { LineMade Q.start (LookStep ∷ []) (Q.seen desk.old) (Q.seen desk.new) result }
-    ensures rests { Q.start.alone ≡ true → NoneOut Q.start (Q.seen desk.old) → LineRests Q.start (Q.seen desk.new) result }
+    ensures rests { Q.start.alone ≡ true → AreIn Q.start (Q.seen desk.old) → LineRests Q.start (Q.seen desk.new) result }
+    ensures none { Q.start.alone ≡ true → RestoresNone (Q.seen desk.old) (Q.seen desk.new) }
 {
     steps_stay();
-    match desk.look(alloc) {
-        Ok(_) => Ok(()),
-        Err(refusal) => Err(refusal),
+    if let Err(refusal) = desk.look(alloc) {
+        return Err(refusal);
     }
+    Ok(())
 }
 
 /// The refusal that stopped the work, as a result.
@@ -70,7 +96,17 @@ fn answer(stop: Option<StepRefusal>) -> Result<(), StepRefusal>
     }
 }
 
-/// Works all units that are ready.
+/// Puts targets to those that were filled before.
+fn keep<T: Drop>(
+    filled: &mut Vec<RestoredTarget<T>>,
+    more: RestoredTargets<T>,
+) -> Result<(), AllocError>
+    ensures { OnOk result (filled.new.items ≡ filled.old.items ++ more) }
+{
+    filled.append(&mut more.into_vec())
+}
+
+/// Works all units that are ready, and puts the targets that they fill to those that were filled before.
 fn wait<Q: RestoreDesk<Shard = S::Shard, Target = T::Target>, S: Sources, T: Targets, G: Gate>(
     alloc: Global,
     desk: &mut Q,
@@ -78,6 +114,7 @@ fn wait<Q: RestoreDesk<Shard = S::Shard, Target = T::Target>, S: Sources, T: Tar
     targets: &T,
     gate: &G,
     part_size: u64,
+    filled: &mut Vec<RestoredTarget<T::Target>>,
 ) -> Result<(), StepRefusal>
     requires sources { AreSources Q.start (S.files sources.now) (S.is_there sources.now) (S.is_quiet sources.now) }
     requires sure { Q.start.sure_targets ≡ T.is_quiet targets.now }
@@ -87,10 +124,15 @@ fn wait<Q: RestoreDesk<Shard = S::Shard, Target = T::Target>, S: Sources, T: Tar
     requires tracked { ReadTracked Q.start.world }
     requires ops { Tracked Q.start.world }
     ensures made { LineMade Q.start [] (Q.seen desk.old) (Q.seen desk.new) result }
-    ensures rests { Q.start.alone ≡ true → NoneOut Q.start (Q.seen desk.old) → LineRests Q.start (Q.seen desk.new) result }
+    ensures rests { Q.start.alone ≡ true → AreIn Q.start (Q.seen desk.old) → LineRests Q.start (Q.seen desk.new) result }
     ensures ended { Q.start.alone ≡ true → WaitEnds (Q.seen desk.new) result }
+    ensures filled { Q.start.alone ≡ true → LineFills (record { made_for = T.Target.made_for; files = T.Target.files; is_sure = T.Target.is_sure; are_told = T.is_told targets.now; are_quiet = T.is_quiet targets.now })
+        Q.start (Q.seen desk.old) (Q.seen desk.new) filled.old.items filled.new.items result }
 {
     let worked = work(alloc, desk, sources, targets, gate, part_size);
+    if keep(filled, worked.restored).is_err() {
+        return Err(StepRefusal::Memory);
+    }
     answer(worked.stop)
 }
 
@@ -108,6 +150,7 @@ fn carry_line<
     gate: &G,
     part_size: u64,
     moment: u64,
+    filled: &mut Vec<RestoredTarget<T::Target>>,
 ) -> Result<(), StepRefusal>
     requires carried { is_carried item.now ≡ true }
     requires sources { AreSources Q.start (S.files sources.now) (S.is_there sources.now) (S.is_quiet sources.now) }
@@ -118,12 +161,15 @@ fn carry_line<
     requires tracked { ReadTracked Q.start.world }
     requires ops { Tracked Q.start.world }
     ensures made { LineMade Q.start (steps_of_item moment item.now) (Q.seen desk.old) (Q.seen desk.new) result }
-    ensures rests { Q.start.alone ≡ true → NoneOut Q.start (Q.seen desk.old) → LineRests Q.start (Q.seen desk.new) result }
+    ensures rests { Q.start.alone ≡ true → AreIn Q.start (Q.seen desk.old) → LineRests Q.start (Q.seen desk.new) result }
     ensures ended { item.now ≡ Wait → Q.start.alone ≡ true → WaitEnds (Q.seen desk.new) result }
+    ensures filled { Q.start.alone ≡ true → LineFills (record { made_for = T.Target.made_for; files = T.Target.files; is_sure = T.Target.is_sure; are_told = T.is_told targets.now; are_quiet = T.is_quiet targets.now })
+        Q.start (Q.seen desk.old) (Q.seen desk.new) filled.old.items filled.new.items result }
 {
     match item {
         Item::Snapshot { name, indices } => ask(alloc, desk, name, indices.as_slice(), moment),
-        Item::Wait => wait(alloc, desk, sources, targets, gate, part_size),
+        Item::Restore { name, place } => restore(alloc, desk, name, place),
+        Item::Wait => wait(alloc, desk, sources, targets, gate, part_size, filled),
         Item::List => list(alloc, desk),
         _ => Ok(()),
     }
@@ -145,6 +191,7 @@ fn carry_lines<
     gate: &G,
     part_size: u64,
     moment: u64,
+    filled: &mut Vec<RestoredTarget<T::Target>>,
 ) -> Result<(), AllocError>
     requires carried { first_bad lines.now ≡ None }
     requires sources { AreSources Q.start (S.files sources.now) (S.is_there sources.now) (S.is_quiet sources.now) }
@@ -155,12 +202,14 @@ fn carry_lines<
     requires tracked { ReadTracked Q.start.world }
     requires ops { Tracked Q.start.world }
     ensures made { MadeFirst Q.start (steps_of moment lines.now) (Q.seen desk.old) (Q.seen desk.new) }
-    ensures rests { OnOk result (Q.start.alone ≡ true → NoneOut Q.start (Q.seen desk.old) → AreMade Q.start moment lines.now (Q.seen desk.old) (Q.seen desk.new) ⊎ HasStopped (Q.seen desk.new)) }
+    ensures rests { OnOk result (Q.start.alone ≡ true → AreIn Q.start (Q.seen desk.old) → AreMade Q.start moment lines.now (Q.seen desk.old) (Q.seen desk.new) ⊎ HasStopped (Q.seen desk.new)) }
+    ensures filled { OnOk result (Q.start.alone ≡ true → Fills (record { made_for = T.Target.made_for; files = T.Target.files; is_sure = T.Target.is_sure; are_told = T.is_told targets.now; are_quiet = T.is_quiet targets.now })
+        Q.start (Q.seen desk.old) (Q.seen desk.new) filled.old.items filled.new.items) }
 {
     let mut left = lines;
     while let [line, rest @ ..] = left {
         match carry_line(
-            alloc, desk, &line.item, sources, targets, gate, part_size, moment,
+            alloc, desk, &line.item, sources, targets, gate, part_size, moment, filled,
         ) {
             Ok(()) => {}
             Err(StepRefusal::Refused(_)) => {}
@@ -180,6 +229,7 @@ fn work_out<Q: RestoreDesk<Shard = S::Shard, Target = T::Target>, S: Sources, T:
     targets: &T,
     gate: &G,
     part_size: u64,
+    filled: &mut Vec<RestoredTarget<T::Target>>,
 ) -> Result<(), AllocError>
     requires sources { AreSources Q.start (S.files sources.now) (S.is_there sources.now) (S.is_quiet sources.now) }
     requires sure { Q.start.sure_targets ≡ T.is_quiet targets.now }
@@ -189,10 +239,11 @@ fn work_out<Q: RestoreDesk<Shard = S::Shard, Target = T::Target>, S: Sources, T:
     requires tracked { ReadTracked Q.start.world }
     requires ops { Tracked Q.start.world }
     ensures grew { GrewAsking Q.start [] (Q.seen desk.old) (Q.seen desk.new) }
-    ensures done { OnOk result (Q.start.alone ≡ true → NoneOut Q.start (Q.seen desk.old) → IsIdle Q.start (Q.seen desk.new) ⊎ HasStopped (Q.seen desk.new)) }
+    ensures done { OnOk result (Q.start.alone ≡ true → AreIn Q.start (Q.seen desk.old) → IsIdle Q.start (Q.seen desk.new) ⊎ HasStopped (Q.seen desk.new)) }
+    ensures filled { OnOk result (Q.start.alone ≡ true → Fills (record { made_for = T.Target.made_for; files = T.Target.files; is_sure = T.Target.is_sure; are_told = T.is_told targets.now; are_quiet = T.is_quiet targets.now })
+        Q.start (Q.seen desk.old) (Q.seen desk.new) filled.old.items filled.new.items) }
 {
-    let worked = work(alloc, desk, sources, targets, gate, part_size);
-    match answer(worked.stop) {
+    match wait(alloc, desk, sources, targets, gate, part_size, filled) {
         Ok(()) => Ok(()),
         Err(StepRefusal::Memory) => Err(AllocError),
         Err(StepRefusal::TurnsSpent) => Ok(()),
@@ -200,7 +251,8 @@ fn work_out<Q: RestoreDesk<Shard = S::Shard, Target = T::Target>, S: Sources, T:
     }
 }
 
-/// Carries out the lines, and works all units that are ready then.
+/// Carries out the lines, and works all units that are ready then. The targets that restores filled are put to those that are
+/// given.
 pub(crate) fn carry<
     Q: RestoreDesk<Shard = S::Shard, Target = T::Target>,
     S: Sources,
@@ -215,6 +267,7 @@ pub(crate) fn carry<
     gate: &G,
     part_size: u64,
     moment: u64,
+    filled: &mut Vec<RestoredTarget<T::Target>>,
 ) -> Result<(), AllocError>
     requires carried { first_bad lines.now ≡ None }
     requires sources { AreSources Q.start (S.files sources.now) (S.is_there sources.now) (S.is_quiet sources.now) }
@@ -225,12 +278,14 @@ pub(crate) fn carry<
     requires tracked { ReadTracked Q.start.world }
     requires ops { Tracked Q.start.world }
     ensures made { MadeFirst Q.start (steps_of moment lines.now) (Q.seen desk.old) (Q.seen desk.new) }
-    ensures done { OnOk result (Q.start.alone ≡ true → NoneOut Q.start (Q.seen desk.old) → AreDone Q.start moment lines.now (Q.seen desk.old) (Q.seen desk.new) ⊎ HasStopped (Q.seen desk.new)) }
+    ensures done { OnOk result (Q.start.alone ≡ true → AreIn Q.start (Q.seen desk.old) → AreDone Q.start moment lines.now (Q.seen desk.old) (Q.seen desk.new) ⊎ HasStopped (Q.seen desk.new)) }
+    ensures filled { OnOk result (Q.start.alone ≡ true → Fills (record { made_for = T.Target.made_for; files = T.Target.files; is_sure = T.Target.is_sure; are_told = T.is_told targets.now; are_quiet = T.is_quiet targets.now })
+        Q.start (Q.seen desk.old) (Q.seen desk.new) filled.old.items filled.new.items) }
 {
     match carry_lines(
-        alloc, desk, lines, sources, targets, gate, part_size, moment,
+        alloc, desk, lines, sources, targets, gate, part_size, moment, filled,
     ) {
-        Ok(()) => work_out(alloc, desk, sources, targets, gate, part_size),
+        Ok(()) => work_out(alloc, desk, sources, targets, gate, part_size, filled),
         Err(AllocError) => Err(AllocError),
     }
 }

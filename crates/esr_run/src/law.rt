@@ -24,6 +24,8 @@ pub(crate) fn steps_stay()
 {
     esr_quiet::other_tickets_stay();
     esr_quiet::tickets_are_numbered();
+    esr_core::each_history_is_tracked();
+    esr_readers::lines_leave_readers();
 }
 
 /// The laws of histories in which nothing fails, for the objects of a run.
@@ -31,6 +33,8 @@ pub(crate) fn quiet_laws<S, F, H, T>()
     ensures { QuietLaws S F H T }
 {
     esr_quiet::no_unit_fails::<S, F, H, T>();
+    esr_quiet::no_restore_fails::<S, F, H, T>();
+    esr_quiet::no_unasked_restore_fails();
     esr_quiet::only_rules_refuse();
     esr_complete::smooth_runs_are_answered();
 }

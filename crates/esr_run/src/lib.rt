@@ -14,5 +14,5 @@ mod unopened;
 mod verdict;
 mod whole;
 
-pub use ended::{Ended, Restored, TargetList};
+pub use ended::Ended;
 pub use whole::run;

@@ -10,6 +10,7 @@ use crate::whole::Done;
 use esr_depot::Depot;
 use esr_desk::History;
 use esr_opening::OpenRefusal;
+use esr_targets::TargetList;
 use std::alloc::Global;
 
 /// Why a run ends whose container wasn't opened, and the fetch whose reading failed.
@@ -26,14 +27,16 @@ pub(crate) fn stop_of<F: Drop>(refusal: OpenRefusal<F>) -> (Stop, Option<F>)
 }
 
 /// A run without a step.
-pub(crate) fn ended_at<D: Depot>(alloc: Global, depot: D, stop: &Stop) -> Done<D>
+pub(crate) fn ended_at<D: Depot, T: Drop>(alloc: Global, depot: D, stop: &Stop) -> Done<D, T>
     ensures depot { result.depot ≡ depot }
     ensures history { result.history ≡ [] }
+    ensures targets { result.targets ≡ [] }
     ensures told { IsTold result.verdict.status result.verdict.text (end_of stop.now) }
 {
     Done {
         verdict: stopped(alloc, stop),
         depot,
+        targets: TargetList::new(alloc),
         history: History::new(alloc),
     }
 }

@@ -81,12 +81,15 @@ fn print<O: Out>(out: &mut O, text: &[u8]) -> bool
     true
 }
 
-/// Prints the text of a verdict, and answers the exit status.
+/// Prints the text of a verdict, and answers the exit status. That of a run for which there was no memory stays.
 pub(crate) fn print_verdict<O: Out>(out: &mut O, verdict: &Verdict) -> u8
-    ensures { IsPrinted result verdict.now.status verdict.now.text (O.contents out.old) (O.contents out.new) (O.faults out.old) (O.faults out.new) }
+    ensures printed { IsPrinted result verdict.now.status verdict.now.text (O.contents out.old) (O.contents out.new) (O.faults out.old) (O.faults out.new) }
+    ensures wanting { verdict.now.status ≡ 8 → result ≡ 8 }
 {
     if print(out, verdict.text.as_slice()) {
         verdict.status
+    } else if verdict.status == 8 {
+        8
     } else {
         5
     }

@@ -1,5 +1,12 @@
 //! A whole run.
-ghost use Rattle.std.specs.Prelude.{◌≡◌, ◌⊎◌, ◌<◌, ◌≤◌, ◌^◌, ℕ, true, [], Some, None, OnOk, IsErr, vec_len, vec_capacity};
+ghost use Rattle.std.specs.Prelude.{◌≡◌, ◌⊎◌, ◌<◌, ◌≤◌, ◌^◌, ℕ, true, [], Some, None, OnOk, IfOk, IsErr, vec_len, vec_capacity};
+ghost use Rattle.esr_model.specs.Places.{sorted_by};
+ghost use Rattle.esr_drive.specs.Restored.{Telling, AreTargetsOf};
+ghost use Rattle.esr_targets.specs.Lines.{AreNumbered, ops_of_lines};
+ghost use Rattle.esr_targets.specs.Listed.{target_first, listed};
+ghost use Rattle.esr_targets.specs.Targets.{AreTargetsOfLines};
+ghost use Rattle.esr_run.specs.Restored.{OpensRestored, HasRestored};
+ghost use Rattle.esr_run.specs.Filled.{unless_wanting};
 ghost use Rattle.esr_desk.specs.Sources.{AreSources};
 ghost use Rattle.esr_repo.specs.Begun.{IsBegun};
 ghost use Rattle.esr_desk.specs.Once.{AreOnce, NoneTwice};
@@ -19,7 +26,7 @@ ghost use Rattle.esr_run.specs.Ends.{Carried};
 ghost use Rattle.esr_run.specs.Script.{first_bad};
 ghost use Rattle.esr_run.specs.Start.{LegalRun};
 ghost use Rattle.esr_run.specs.Causes.{Given, IsReadFor, IsTold, IsVerdict, IsUnopened, IsOpenedRun, IsOpenCause, IsRunOf, IsCauseOf, IsEndOf, OpensWell, IsComplete};
-ghost use Rattle.esr_run.specs.Made.{MadeFirst, HasStopped, AreDone};
+ghost use Rattle.esr_run.specs.Made.{MadeFirst, HasStopped, HasNoReaders, AreDone};
 
 use crate::asked::{Asked, asked_for};
 use crate::carry::carry;
@@ -31,37 +38,75 @@ use crate::unopened::{ended_at, stop_of};
 use crate::verdict::{Verdict, print_verdict, reported, wanting};
 use esr_depot::Depot;
 use esr_desk::{Fault, Faults, History};
+use esr_drive::{RestoredTarget, RestoredTargets};
 use esr_opening::{Opening, open_container};
 use esr_repo::{Repo, Told};
 use esr_script::{Script, Words};
 use esr_seq::Seq;
 use esr_solo::Solo;
-use esr_source::{Gate, Lines, Out, Sources, Targets};
+use esr_source::{Gate, Lines, Out, Sources, Target, Targets};
+use esr_targets::{TargetList, each_target_is_of_its_line, targets_of};
 use std::alloc::{AllocError, Global};
 use std::marker::Brand;
 use std::sync::Wait;
 
 /// A run that is not printed yet.
 #[derive(Drop)]
-pub(crate) struct Done<D: Depot> {
+pub(crate) struct Done<D: Depot, T> {
     pub verdict: Verdict,
     pub depot: D,
+    pub targets: TargetList<T>,
     pub history: History,
 }
 
-/// The verdict of a run whose script was carried out, unless memory was wanting.
-fn verdict_after(
-    alloc: Global,
+/// What was carried out on a repository: the targets that restores filled, unless memory was wanting.
+#[derive(Drop)]
+struct Work<R, F, T> {
+    repo: R,
+    faults: F,
+    filled: Result<RestoredTargets<T>, AllocError>,
+}
+
+/// The targets that were filled, unless memory was wanting.
+fn unless_wanting<T: Drop>(
     carried: Result<(), AllocError>,
-    script: &Script,
-    history: &History,
-) -> Verdict
-    ensures told { IsTold result.status result.text (Some (Carried script.now history.now)) }
-    ensures wanting { IsErr carried → result.status ≡ 8 }
+    filled: Vec<RestoredTarget<T>>,
+) -> Result<RestoredTargets<T>, AllocError>
+    ensures { result ≡ unless_wanting carried filled.items }
 {
     match carried {
-        Ok(()) => reported(alloc, script, history),
-        Err(AllocError) => wanting(alloc),
+        Ok(()) => Ok(Seq::from_vec(filled)),
+        Err(AllocError) => Err(AllocError),
+    }
+}
+
+/// The targets by their lines, unless memory was wanting.
+fn targets_by_lines<T: Drop>(
+    alloc: Global,
+    filled: Result<RestoredTargets<T>, AllocError>,
+    script: &Script,
+    history: &History,
+) -> Result<TargetList<T>, AllocError>
+    ensures listed { IfOk result (λ targets. IfOk filled (λ restored. targets ≡ sorted_by target_first (listed (ops_of_lines script.now history.now) restored))) }
+    ensures wanting { IsErr filled → IsErr result }
+{
+    targets_of(alloc, script.as_slice(), history.as_slice(), filled?)
+}
+
+/// The verdict of a run whose script was carried out, and its targets, unless memory was wanting.
+fn verdict_after<T: Drop>(
+    alloc: Global,
+    listed: Result<TargetList<T>, AllocError>,
+    script: &Script,
+    history: &History,
+) -> (Verdict, TargetList<T>)
+    ensures told { IsTold result.0.status result.0.text (Some (Carried script.now history.now)) }
+    ensures wanting { IsErr listed → result.0.status ≡ 8 }
+    ensures targets { IfOk listed (λ targets. result.1 ≡ targets) }
+{
+    match listed {
+        Ok(targets) => (reported(alloc, script, history), targets),
+        Err(AllocError) => (wanting(alloc), Seq::new(alloc)),
     }
 }
 
@@ -74,11 +119,7 @@ fn carry_on<D: Depot, S: Sources, T: Targets, G: Gate, K: Told>(
     targets: &T,
     gate: &G,
     moment: u64,
-) -> (
-    Repo<D, K>,
-    Faults<D::Stage, D::Fetch, S::Shard, T::Target>,
-    Result<(), AllocError>,
-)
+) -> Work<Repo<D, K>, Faults<D::Stage, D::Fetch, S::Shard, T::Target>, T::Target>
     requires fresh { repo ≡ [] }
     requires sources { AreSources K.start (S.files sources.now) (S.is_there sources.now) (S.is_quiet sources.now) }
     requires sure { K.start.sure_targets ≡ T.is_quiet targets.now }
@@ -86,16 +127,20 @@ fn carry_on<D: Depot, S: Sources, T: Targets, G: Gate, K: Told>(
     requires sized { (1 ≤ asked.now.part_size) × (asked.now.part_size ≤ 2 ^ 30) }
     requires good { first_bad asked.now.script ≡ None }
     requires numbered { HasNoTickets K.start }
+    requires readers { HasNoReaders K.start }
     requires tracked { ReadTracked K.start.world }
     requires ops { Tracked K.start.world }
     requires alone { K.start.alone ≡ true }
-    ensures shown { AreShown (record { stage = D.Stage.faults; fetch = D.Fetch.faults; shard = S.Shard.faults; target = T.Target.faults; made_for = λ h. (S.Shard.origin h).address; target_for = T.Target.made_for }) K.start result.0 result.1 }
-    ensures once { AreOnce K.start result.0 }
-    ensures single { NoneTwice result.0 }
-    ensures made { MadeFirst K.start (steps_of moment asked.now.script) [] result.0 }
-    ensures done { OnOk result.2 (AreDone K.start moment asked.now.script [] result.0 ⊎ HasStopped result.0) }
+    ensures shown { AreShown (record { stage = D.Stage.faults; fetch = D.Fetch.faults; shard = S.Shard.faults; target = T.Target.faults; made_for = λ h. (S.Shard.origin h).address; target_for = T.Target.made_for; held = T.Target.files; is_sure = T.Target.is_sure }) K.start result.repo result.faults }
+    ensures once { AreOnce K.start result.repo }
+    ensures single { NoneTwice result.repo }
+    ensures made { MadeFirst K.start (steps_of moment asked.now.script) [] result.repo }
+    ensures done { OnOk result.filled (AreDone K.start moment asked.now.script [] result.repo ⊎ HasStopped result.repo) }
+    ensures filled { IfOk result.filled (AreTargetsOf (record { made_for = T.Target.made_for; files = T.Target.files; is_sure = T.Target.is_sure; are_told = T.is_told targets.now; are_quiet = T.is_quiet targets.now })
+        K.start [] result.repo) }
 {
     let mut desk = Solo::<D, K, S::Shard, T::Target>::new(alloc, repo);
+    let mut filled = Vec::new(alloc);
     let lines = asked.script.as_slice();
     let carried = carry(
         alloc,
@@ -106,9 +151,14 @@ fn carry_on<D: Depot, S: Sources, T: Targets, G: Gate, K: Told>(
         gate,
         asked.part_size,
         moment,
+        &mut filled,
     );
     let (repo, faults) = desk.into_parts();
-    (repo, faults, carried)
+    Work {
+        repo,
+        faults,
+        filled: unless_wanting(carried, filled),
+    }
 }
 
 /// Carries out the script on a container that was opened.
@@ -120,20 +170,25 @@ fn run_told<D: Depot, S: Sources, T: Targets, G: Gate, K: Told>(
     targets: &T,
     gate: &G,
     moment: u64,
-) -> (Done<D>, Faults<D::Stage, D::Fetch, S::Shard, T::Target>)
+) -> (
+    Done<D, T::Target>,
+    Faults<D::Stage, D::Fetch, S::Shard, T::Target>,
+)
     requires begun { IsBegun K.start K.clock K.past (D.look opening.depot)
         (record { cluster = opening.cluster; root = opening.root; infos = opening.infos; plan = opening.progress; next = opening.next.number }) }
     requires counted { K.faults ≤ D.faults opening.depot }
     requires calm { K.start.quiet ≡ true → 2 ^ 41 ≤ (D.look opening.depot).sure }
     requires alone { K.start.alone ≡ true }
+    requires readers { HasNoReaders K.start }
     requires sources { AreSources K.start (S.files sources.now) (S.is_there sources.now) (S.is_quiet sources.now) }
     requires sure { K.start.sure_targets ≡ T.is_quiet targets.now }
     requires size { asked.now.part_size ≡ K.start.part_size }
     requires sized { (1 ≤ asked.now.part_size) × (asked.now.part_size ≤ 2 ^ 30) }
     requires good { first_bad asked.now.script ≡ None }
+    requires lines { AreNumbered asked.now.script }
     ensures legal { LegalRun K.start K.clock (D.look result.0.depot) result.0.history }
     ensures past { IsPast K.start K.clock K.past (D.look result.0.depot) result.0.history }
-    ensures shown { AreShown (record { stage = D.Stage.faults; fetch = D.Fetch.faults; shard = S.Shard.faults; target = T.Target.faults; made_for = λ h. (S.Shard.origin h).address; target_for = T.Target.made_for })
+    ensures shown { AreShown (record { stage = D.Stage.faults; fetch = D.Fetch.faults; shard = S.Shard.faults; target = T.Target.faults; made_for = λ h. (S.Shard.origin h).address; target_for = T.Target.made_for; held = T.Target.files; is_sure = T.Target.is_sure })
         K.start (log_of (D.look result.0.depot) K.clock result.0.history) result.1 }
     ensures counted { IsCounted K.faults (D.faults result.0.depot) result.0.history }
     ensures named { AreDeposedSo result.0.history }
@@ -143,16 +198,24 @@ fn run_told<D: Depot, S: Sources, T: Targets, G: Gate, K: Told>(
     ensures made { MadeFirst K.start (steps_of moment asked.now.script) [] (log_of (D.look result.0.depot) K.clock result.0.history) }
     ensures done { (result.0.verdict.status ≡ 8) ⊎ (AreDone K.start moment asked.now.script [] (log_of (D.look result.0.depot) K.clock result.0.history) ⊎ HasStopped (log_of (D.look result.0.depot) K.clock result.0.history)) }
     ensures told { IsTold result.0.verdict.status result.0.verdict.text (Some (Carried asked.now.script result.0.history)) }
+    ensures restored { (result.0.verdict.status ≡ 8) ⊎ AreTargetsOfLines (record { made_for = T.Target.made_for; files = T.Target.files; is_sure = T.Target.is_sure; are_told = T.is_told targets.now; are_quiet = T.is_quiet targets.now })
+        K.start moment asked.now.script (log_of (D.look result.0.depot) K.clock result.0.history) result.0.targets }
 {
+    each_target_is_of_its_line::<T::Target>();
     let repo = Repo::<D, K>::from_opening(alloc, opening);
-    let (repo, faults, carried) = carry_on::<D, S, T, G, K>(
-        alloc, repo, asked, sources, targets, gate, moment,
-    );
+    let worked = carry_on::<D, S, T, G, K>(alloc, repo, asked, sources, targets, gate, moment);
+    let Work {
+        repo,
+        faults,
+        filled,
+    } = worked;
     let (depot, history) = repo.into_parts();
-    let verdict = verdict_after(alloc, carried, &asked.script, &history);
+    let listed = targets_by_lines(alloc, filled, &asked.script, &history);
+    let (verdict, targets) = verdict_after(alloc, listed, &asked.script, &history);
     let done = Done {
         verdict,
         depot,
+        targets,
         history,
     };
     (done, faults)
@@ -168,18 +231,23 @@ fn open_and_carry<D: Depot, S: Sources, T: Targets, G: Gate>(
     targets: &T,
     gate: &G,
     moment: u64,
-) -> (Done<D>, Faults<D::Stage, D::Fetch, S::Shard, T::Target>)
+) -> (
+    Done<D, T::Target>,
+    Faults<D::Stage, D::Fetch, S::Shard, T::Target>,
+)
     requires empty { room.items ≡ [] }
     requires room { vec_len room < vec_capacity room }
     requires sized { (1 ≤ asked.now.part_size) × (asked.now.part_size ≤ 2 ^ 30) }
     requires good { first_bad asked.now.script ≡ None }
-    ensures run { IsUnopened (record { stage = D.Stage.faults; fetch = D.Fetch.faults; shard = S.Shard.faults; target = T.Target.faults; made_for = λ h. (S.Shard.origin h).address; target_for = T.Target.made_for }) (record { files = S.files sources.now; is_there = S.is_there sources.now; is_quiet = S.is_quiet sources.now; targets_quiet = T.is_quiet targets.now }) (D.look depot) (D.look result.0.depot) (D.faults depot) (D.faults result.0.depot) result.0.history result.1
-        ⊎ IsOpenedRun (record { stage = D.Stage.faults; fetch = D.Fetch.faults; shard = S.Shard.faults; target = T.Target.faults; made_for = λ h. (S.Shard.origin h).address; target_for = T.Target.made_for }) (record { files = S.files sources.now; is_there = S.is_there sources.now; is_quiet = S.is_quiet sources.now; targets_quiet = T.is_quiet targets.now }) asked.now.part_size moment asked.now.script (D.look depot) (D.look result.0.depot) result.0.history result.1 }
-    ensures complete { OpensWell (record { stage = D.Stage.faults; fetch = D.Fetch.faults; shard = S.Shard.faults; target = T.Target.faults; made_for = λ h. (S.Shard.origin h).address; target_for = T.Target.made_for }) (record { files = S.files sources.now; is_there = S.is_there sources.now; is_quiet = S.is_quiet sources.now; targets_quiet = T.is_quiet targets.now }) asked.now.part_size moment asked.now.script (D.look depot) (D.look result.0.depot) result.0.history result.1 result.0.verdict.status }
+    requires lines { AreNumbered asked.now.script }
+    ensures run { IsUnopened (record { stage = D.Stage.faults; fetch = D.Fetch.faults; shard = S.Shard.faults; target = T.Target.faults; made_for = λ h. (S.Shard.origin h).address; target_for = T.Target.made_for; held = T.Target.files; is_sure = T.Target.is_sure }) (record { files = S.files sources.now; is_there = S.is_there sources.now; is_quiet = S.is_quiet sources.now; targets_quiet = T.is_quiet targets.now; targets_told = T.is_told targets.now }) (D.look depot) (D.look result.0.depot) (D.faults depot) (D.faults result.0.depot) result.0.history result.1
+        ⊎ IsOpenedRun (record { stage = D.Stage.faults; fetch = D.Fetch.faults; shard = S.Shard.faults; target = T.Target.faults; made_for = λ h. (S.Shard.origin h).address; target_for = T.Target.made_for; held = T.Target.files; is_sure = T.Target.is_sure }) (record { files = S.files sources.now; is_there = S.is_there sources.now; is_quiet = S.is_quiet sources.now; targets_quiet = T.is_quiet targets.now; targets_told = T.is_told targets.now }) asked.now.part_size moment asked.now.script (D.look depot) (D.look result.0.depot) result.0.history result.1 }
+    ensures complete { OpensWell (record { stage = D.Stage.faults; fetch = D.Fetch.faults; shard = S.Shard.faults; target = T.Target.faults; made_for = λ h. (S.Shard.origin h).address; target_for = T.Target.made_for; held = T.Target.files; is_sure = T.Target.is_sure }) (record { files = S.files sources.now; is_there = S.is_there sources.now; is_quiet = S.is_quiet sources.now; targets_quiet = T.is_quiet targets.now; targets_told = T.is_told targets.now }) asked.now.part_size moment asked.now.script (D.look depot) (D.look result.0.depot) result.0.history result.1 result.0.verdict.status }
     ensures told { IsVerdict result.0.verdict.status result.0.verdict.text
-        (IsOpenCause (record { stage = D.Stage.faults; fetch = D.Fetch.faults; shard = S.Shard.faults; target = T.Target.faults; made_for = λ h. (S.Shard.origin h).address; target_for = T.Target.made_for }) (record { files = S.files sources.now; is_there = S.is_there sources.now; is_quiet = S.is_quiet sources.now; targets_quiet = T.is_quiet targets.now }) asked.now.part_size moment (D.look depot) (D.look result.0.depot) (D.faults depot) (D.faults result.0.depot) asked.now.script result.0.history result.1) }
+        (IsOpenCause (record { stage = D.Stage.faults; fetch = D.Fetch.faults; shard = S.Shard.faults; target = T.Target.faults; made_for = λ h. (S.Shard.origin h).address; target_for = T.Target.made_for; held = T.Target.files; is_sure = T.Target.is_sure }) (record { files = S.files sources.now; is_there = S.is_there sources.now; is_quiet = S.is_quiet sources.now; targets_quiet = T.is_quiet targets.now; targets_told = T.is_told targets.now }) asked.now.part_size moment (D.look depot) (D.look result.0.depot) (D.faults depot) (D.faults result.0.depot) asked.now.script result.0.history result.1) }
     ensures counted { IsCounted (D.faults depot) (D.faults result.0.depot) result.0.history }
     ensures named { AreDeposedSo result.0.history }
+    ensures restored { OpensRestored (record { stage = D.Stage.faults; fetch = D.Fetch.faults; shard = S.Shard.faults; target = T.Target.faults; made_for = λ h. (S.Shard.origin h).address; target_for = T.Target.made_for; held = T.Target.files; is_sure = T.Target.is_sure }) (record { files = S.files sources.now; is_there = S.is_there sources.now; is_quiet = S.is_quiet sources.now; targets_quiet = T.is_quiet targets.now; targets_told = T.is_told targets.now }) asked.now.part_size moment asked.now.script (D.look depot) (D.look result.0.depot) result.0.history result.1 result.0.targets result.0.verdict.status }
 {
     laws();
     quiet_laws::<D::Stage, D::Fetch, S::Shard, T::Target>();
@@ -205,16 +273,20 @@ fn carry_out<D: Depot, S: Sources, T: Targets, G: Gate, I: Lines>(
     targets: &T,
     gate: &G,
     moment: u64,
-) -> (Done<D>, Faults<D::Stage, D::Fetch, S::Shard, T::Target>)
-    ensures run { IsRunOf (record { stage = D.Stage.faults; fetch = D.Fetch.faults; shard = S.Shard.faults; target = T.Target.faults; made_for = λ h. (S.Shard.origin h).address; target_for = T.Target.made_for }) (record { words = words.now; script = I.left script.old; faults = I.faults script.old; moment = moment }) (record { files = S.files sources.now; is_there = S.is_there sources.now; is_quiet = S.is_quiet sources.now; targets_quiet = T.is_quiet targets.now })
+) -> (
+    Done<D, T::Target>,
+    Faults<D::Stage, D::Fetch, S::Shard, T::Target>,
+)
+    ensures run { IsRunOf (record { stage = D.Stage.faults; fetch = D.Fetch.faults; shard = S.Shard.faults; target = T.Target.faults; made_for = λ h. (S.Shard.origin h).address; target_for = T.Target.made_for; held = T.Target.files; is_sure = T.Target.is_sure }) (record { words = words.now; script = I.left script.old; faults = I.faults script.old; moment = moment }) (record { files = S.files sources.now; is_there = S.is_there sources.now; is_quiet = S.is_quiet sources.now; targets_quiet = T.is_quiet targets.now; targets_told = T.is_told targets.now })
         (D.look depot) (D.look result.0.depot) (D.faults depot) (D.faults result.0.depot) result.0.history result.1 }
     ensures told { IsVerdict result.0.verdict.status result.0.verdict.text
-        (IsCauseOf (record { stage = D.Stage.faults; fetch = D.Fetch.faults; shard = S.Shard.faults; target = T.Target.faults; made_for = λ h. (S.Shard.origin h).address; target_for = T.Target.made_for }) (record { words = words.now; script = I.left script.old; faults = I.faults script.old; moment = moment }) (record { files = S.files sources.now; is_there = S.is_there sources.now; is_quiet = S.is_quiet sources.now; targets_quiet = T.is_quiet targets.now }) (I.faults script.new)
+        (IsCauseOf (record { stage = D.Stage.faults; fetch = D.Fetch.faults; shard = S.Shard.faults; target = T.Target.faults; made_for = λ h. (S.Shard.origin h).address; target_for = T.Target.made_for; held = T.Target.files; is_sure = T.Target.is_sure }) (record { words = words.now; script = I.left script.old; faults = I.faults script.old; moment = moment }) (record { files = S.files sources.now; is_there = S.is_there sources.now; is_quiet = S.is_quiet sources.now; targets_quiet = T.is_quiet targets.now; targets_told = T.is_told targets.now }) (I.faults script.new)
         (D.look depot) (D.look result.0.depot) (D.faults depot) (D.faults result.0.depot) result.0.history result.1) }
-    ensures complete { (old new : ℕ) → IsComplete (record { stage = D.Stage.faults; fetch = D.Fetch.faults; shard = S.Shard.faults; target = T.Target.faults; made_for = λ h. (S.Shard.origin h).address; target_for = T.Target.made_for }) (record { words = words.now; script = I.left script.old; faults = I.faults script.old; moment = moment }) (record { files = S.files sources.now; is_there = S.is_there sources.now; is_quiet = S.is_quiet sources.now; targets_quiet = T.is_quiet targets.now }) (I.faults script.new) (D.look depot) (D.look result.0.depot) old new result.0.history result.1 result.0.verdict.status }
+    ensures complete { (old new : ℕ) → IsComplete (record { stage = D.Stage.faults; fetch = D.Fetch.faults; shard = S.Shard.faults; target = T.Target.faults; made_for = λ h. (S.Shard.origin h).address; target_for = T.Target.made_for; held = T.Target.files; is_sure = T.Target.is_sure }) (record { words = words.now; script = I.left script.old; faults = I.faults script.old; moment = moment }) (record { files = S.files sources.now; is_there = S.is_there sources.now; is_quiet = S.is_quiet sources.now; targets_quiet = T.is_quiet targets.now; targets_told = T.is_told targets.now }) (I.faults script.new) (D.look depot) (D.look result.0.depot) old new result.0.history result.1 result.0.verdict.status }
     ensures reader { IsReadFor (wanted_of (job_of words.now)) (I.left script.old) (I.left script.new) (I.faults script.old) (I.faults script.new) }
     ensures counted { IsCounted (D.faults depot) (D.faults result.0.depot) result.0.history }
     ensures named { AreDeposedSo result.0.history }
+    ensures restored { HasRestored (record { stage = D.Stage.faults; fetch = D.Fetch.faults; shard = S.Shard.faults; target = T.Target.faults; made_for = λ h. (S.Shard.origin h).address; target_for = T.Target.made_for; held = T.Target.files; is_sure = T.Target.is_sure }) (record { words = words.now; script = I.left script.old; faults = I.faults script.old; moment = moment }) (record { files = S.files sources.now; is_there = S.is_there sources.now; is_quiet = S.is_quiet sources.now; targets_quiet = T.is_quiet targets.now; targets_told = T.is_told targets.now }) (D.look depot) (D.look result.0.depot) result.0.history result.1 result.0.targets result.0.verdict.status }
 {
     only_now(&depot);
     let asked = match asked_for(alloc, words, script) {
@@ -231,8 +303,9 @@ fn carry_out<D: Depot, S: Sources, T: Targets, G: Gate, I: Lines>(
 
 /// Carries out the script for which the words ask, or the one command, as a script of that line, on a container into which
 /// nothing was written, or one that an earlier run left, and prints what each line was answered. The script is read to its
-/// end where the words ask for one, and else not at all. `moment` is the time of the snapshots, in milliseconds. `targets`
-/// is for restores, and `rt` for workers that wait for one another, which come later.
+/// end where the words ask for one, and else not at all. `moment` is the time of the snapshots, in milliseconds. The files of
+/// restores go into `targets`; the shards that were restored come back in the result, by line, index and shard. `rt` is for
+/// workers that wait for one another, which come later.
 pub fn run<R: Wait, D: Depot, S: Sources, T: Targets, G: Gate, I: Lines, O: Out>(
     _rt: &R,
     alloc: Global,
@@ -245,16 +318,16 @@ pub fn run<R: Wait, D: Depot, S: Sources, T: Targets, G: Gate, I: Lines, O: Out>
     moment: u64,
     out: &mut O,
 ) -> Ended<D, S::Shard, T::Target>
-    ensures legal { IsRunOf (record { stage = D.Stage.faults; fetch = D.Fetch.faults; shard = S.Shard.faults; target = T.Target.faults; made_for = λ h. (S.Shard.origin h).address; target_for = T.Target.made_for }) (record { words = words.now; script = I.left script.old; faults = I.faults script.old; moment = moment }) (record { files = S.files sources.now; is_there = S.is_there sources.now; is_quiet = S.is_quiet sources.now; targets_quiet = T.is_quiet targets.now })
+    ensures legal { IsRunOf (record { stage = D.Stage.faults; fetch = D.Fetch.faults; shard = S.Shard.faults; target = T.Target.faults; made_for = λ h. (S.Shard.origin h).address; target_for = T.Target.made_for; held = T.Target.files; is_sure = T.Target.is_sure }) (record { words = words.now; script = I.left script.old; faults = I.faults script.old; moment = moment }) (record { files = S.files sources.now; is_there = S.is_there sources.now; is_quiet = S.is_quiet sources.now; targets_quiet = T.is_quiet targets.now; targets_told = T.is_told targets.now })
         (D.look depot) (D.look result.depot) (D.faults depot) (D.faults result.depot) result.history result.faults }
     ensures end { IsEndOf result.status (O.contents out.old) (O.contents out.new) (O.faults out.old) (O.faults out.new)
-        (IsCauseOf (record { stage = D.Stage.faults; fetch = D.Fetch.faults; shard = S.Shard.faults; target = T.Target.faults; made_for = λ h. (S.Shard.origin h).address; target_for = T.Target.made_for }) (record { words = words.now; script = I.left script.old; faults = I.faults script.old; moment = moment }) (record { files = S.files sources.now; is_there = S.is_there sources.now; is_quiet = S.is_quiet sources.now; targets_quiet = T.is_quiet targets.now }) (I.faults script.new)
+        (IsCauseOf (record { stage = D.Stage.faults; fetch = D.Fetch.faults; shard = S.Shard.faults; target = T.Target.faults; made_for = λ h. (S.Shard.origin h).address; target_for = T.Target.made_for; held = T.Target.files; is_sure = T.Target.is_sure }) (record { words = words.now; script = I.left script.old; faults = I.faults script.old; moment = moment }) (record { files = S.files sources.now; is_there = S.is_there sources.now; is_quiet = S.is_quiet sources.now; targets_quiet = T.is_quiet targets.now; targets_told = T.is_told targets.now }) (I.faults script.new)
         (D.look depot) (D.look result.depot) (D.faults depot) (D.faults result.depot) result.history result.faults) }
-    ensures complete { IsComplete (record { stage = D.Stage.faults; fetch = D.Fetch.faults; shard = S.Shard.faults; target = T.Target.faults; made_for = λ h. (S.Shard.origin h).address; target_for = T.Target.made_for }) (record { words = words.now; script = I.left script.old; faults = I.faults script.old; moment = moment }) (record { files = S.files sources.now; is_there = S.is_there sources.now; is_quiet = S.is_quiet sources.now; targets_quiet = T.is_quiet targets.now }) (I.faults script.new) (D.look depot) (D.look result.depot) (O.faults out.old) (O.faults out.new) result.history result.faults result.status }
+    ensures complete { IsComplete (record { stage = D.Stage.faults; fetch = D.Fetch.faults; shard = S.Shard.faults; target = T.Target.faults; made_for = λ h. (S.Shard.origin h).address; target_for = T.Target.made_for; held = T.Target.files; is_sure = T.Target.is_sure }) (record { words = words.now; script = I.left script.old; faults = I.faults script.old; moment = moment }) (record { files = S.files sources.now; is_there = S.is_there sources.now; is_quiet = S.is_quiet sources.now; targets_quiet = T.is_quiet targets.now; targets_told = T.is_told targets.now }) (I.faults script.new) (D.look depot) (D.look result.depot) (O.faults out.old) (O.faults out.new) result.history result.faults result.status }
     ensures reader { IsReadFor (wanted_of (job_of words.now)) (I.left script.old) (I.left script.new) (I.faults script.old) (I.faults script.new) }
     ensures counted { IsCounted (D.faults depot) (D.faults result.depot) result.history }
     ensures named { AreDeposedSo result.history }
-    ensures targets { result.targets ≡ [] }
+    ensures restored { HasRestored (record { stage = D.Stage.faults; fetch = D.Fetch.faults; shard = S.Shard.faults; target = T.Target.faults; made_for = λ h. (S.Shard.origin h).address; target_for = T.Target.made_for; held = T.Target.files; is_sure = T.Target.is_sure }) (record { words = words.now; script = I.left script.old; faults = I.faults script.old; moment = moment }) (record { files = S.files sources.now; is_there = S.is_there sources.now; is_quiet = S.is_quiet sources.now; targets_quiet = T.is_quiet targets.now; targets_told = T.is_told targets.now }) (D.look depot) (D.look result.depot) result.history result.faults result.targets result.status }
 {
     let (done, faults) = carry_out::<D, S, T, G, I>(
         alloc, words, script, depot, sources, targets, gate, moment,
@@ -263,7 +336,7 @@ pub fn run<R: Wait, D: Depot, S: Sources, T: Targets, G: Gate, I: Lines, O: Out>
     Ended {
         status,
         depot: done.depot,
-        targets: Seq::new(alloc),
+        targets: done.targets,
         history: done.history,
         faults,
     }

@@ -16,6 +16,8 @@ mod refused;
 #[cfg(test)]
 mod reopened;
 #[cfg(test)]
+mod restored;
+#[cfg(test)]
 mod setting;
 #[cfg(test)]
 mod streams;

@@ -42,7 +42,6 @@ repeat snapshot s1 a/1/x b/1/x a/2/y";
 const LATER: &str = "clone s1 c1
 clone s1 c1 logs
 delete s1
-restore s1 out
 cleanup
 failover
 check

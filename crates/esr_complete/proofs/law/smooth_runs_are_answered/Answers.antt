@@ -4,7 +4,7 @@ use Rattle.esr_script.specs.declared.item.ScriptLine.{ScriptLine}
 use Rattle.std.proofs.Common.{ℕ, List, ◌≡◌}
 use Rattle.esr_report.specs.Replies.{replies}
 use Rattle.esr_quiet.specs.Asked.{asked_steps}
-use Rattle.esr_quiet.specs.Smooth.{IsSmooth, NoneFailed}
+use Rattle.esr_quiet.specs.Smooth.{IsSmooth, NoneFailed, NoneUnrestored}
 use Rattle.esr_quiet.specs.Refusals.{AreByRule}
 use Rattle.esr_complete.specs.Lines.{steps_of, AreKnown, entries_of}
 use Rattle.esr_complete.specs.Answers.{IsIdle, AreAnswered}
@@ -14,13 +14,26 @@ use Rattle.esr_complete.proofs.Walk.{answered_lines}
 use Rattle.esr_complete.proofs.Endings.{ends_well}
 use Rattle.esr_complete.proofs.law.smooth_runs_are_answered.Goals as goal
 
-answered : Laws → (s : Start) (log : List Moment) (lines : List ScriptLine) (moment : ℕ) → IsSmooth s log → NoneFailed log → AreByRule log → IsIdle s log → AreKnown lines → asked_steps log ≡ steps_of moment lines → AreAnswered lines (replies lines (entries_of log))
-answered laws s log lines moment smooth none by_rule idle known asked = answered_lines log lines moment known (facts laws s log smooth none by_rule idle) asked
+answered : Laws → (s : Start) (log : List Moment) (lines : List ScriptLine) (moment : ℕ) → IsSmooth s log → NoneFailed log → NoneUnrestored log → AreByRule log → IsIdle s log → AreKnown lines → asked_steps log ≡ steps_of moment lines → AreAnswered lines (replies lines (entries_of log))
+answered laws s log lines moment smooth none unrestored by_rule idle known asked = answered_lines log lines moment known (facts laws s log smooth none unrestored by_rule idle) asked
 
 pub returns-clause-answered : goal.returns-clause-answered
-returns-clause-answered c = answered (record { lawful = c.each_history_is_lawful.ensures; ready = c.some_unit_is_ready.ensures })
+returns-clause-answered c =
+    answered (record {
+      lawful = c.each_history_is_lawful.ensures;
+      ready = c.some_unit_is_ready.ensures;
+      opening = c.opening_is_lawful.ensures;
+      restores_open = c.opened_restores_are_lawful.ensures;
+      restores_kept = c.each_history_keeps_restores.ensures;
+    })
 
 pub returns-clause-ends : goal.returns-clause-ends
-returns-clause-ends c = λ s log lines moment smooth none by_rule idle known asked.
-    let laws : Laws = record { lawful = c.each_history_is_lawful.ensures; ready = c.some_unit_is_ready.ensures } in
-    ends_well lines (entries_of log) (facts laws s log smooth none by_rule idle) (answered laws s log lines moment smooth none by_rule idle known asked)
+returns-clause-ends c = λ s log lines moment smooth none unrestored by_rule idle known asked.
+    let laws : Laws = record {
+      lawful = c.each_history_is_lawful.ensures;
+      ready = c.some_unit_is_ready.ensures;
+      opening = c.opening_is_lawful.ensures;
+      restores_open = c.opened_restores_are_lawful.ensures;
+      restores_kept = c.each_history_keeps_restores.ensures;
+    } in
+    ends_well lines (entries_of log) (facts laws s log smooth none unrestored by_rule idle) (answered laws s log lines moment smooth none unrestored by_rule idle known asked)

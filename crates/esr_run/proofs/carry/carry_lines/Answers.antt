@@ -1,10 +1,11 @@
-use Rattle.std.proofs.Common.{inl, inr, refl}
+use Rattle.std.proofs.Common.{inl, inr}
 use Rattle.esr_complete.specs.Lines.{steps_of_item}
+use Rattle.esr_run.proofs.Filling.{fills_same, fills_on, fills_spent, fills_refused}
 use Rattle.esr_run.proofs.Making.{front_none, front_made, front_all, front_step, good_next, none_left, made_stopped, turns_stopped, refused_line, ended_refused, as_refused, rests_refused, as_spent, rests_spent}
 use Rattle.esr_run.proofs.carry.carry_lines.Goals as goal
 
 pub loop-left-init : goal.loop-left-init
-loop-left-init g c = record { front = front_none g.Q.Desk.start c.args.moment c.args.lines.now (g.Q.Desk.seen c.args.desk.now); good = c.requires.carried }
+loop-left-init g c = record { front = front_none g.Q.Desk.start c.args.moment c.args.lines.now (g.Q.Desk.seen c.args.desk.now); good = c.requires.carried; filled = λ alone. fills_same _ g.Q.Desk.start (g.Q.Desk.seen c.args.desk.now) c.args.filled.now.items }
 
 pub loop-left-preserved-in-Ok : goal.loop-left-preserved-in-Ok
 loop-left-preserved-in-Ok g c =
@@ -17,6 +18,7 @@ loop-left-preserved-in-Ok g c =
       front = front_step s c.args.moment c.line-item.result c.loop-left.left.now c.args.lines.now old mid new c.in-len1-up.len_at_least c.line-item.is inv.front c.in-Ok.ensures.made
           (λ alone none. inl (c.in-Ok.ensures.rests alone none, λ wait. c.in-Ok.ensures.ended wait alone));
       good = good_next c.loop-left.left.now inv.good;
+      filled = λ alone. fills_on _ s old mid new c.args.filled.now.items c.loop-left.filled.items c.carry_line.new.filled.items (inv.filled alone) (c.in-Ok.ensures.filled alone);
     }
 
 pub loop-left-preserved : goal.loop-left-preserved
@@ -34,6 +36,8 @@ loop-left-preserved g c =
           (rests_refused s new c.in-Err-Refused.field-0 c.in-Err-Refused.field-0-0 c.in-Err-Refused.field-0-is (c.in-Err-Refused.ensures.rests alone none))
           (λ wait. ended_refused new c.in-Err-Refused.field-0 c.in-Err-Refused.field-0-0 c.in-Err-Refused.field-0-is (c.in-Err-Refused.ensures.ended wait alone)));
       good = good_next c.loop-left.left.now inv.good;
+      filled = λ alone. fills_on _ s old mid new c.args.filled.now.items c.loop-left.filled.items c.carry_line.new.filled.items (inv.filled alone)
+          (fills_refused _ s mid new c.loop-left.filled.items c.carry_line.new.filled.items c.in-Err-Refused.field-0 c.in-Err-Refused.field-0-0 c.in-Err-Refused.field-0-is (c.in-Err-Refused.ensures.filled alone));
     }
 
 pub returns-in-Err-Memory-clause-made : goal.returns-in-Err-Memory-clause-made
@@ -63,3 +67,9 @@ pub returns-clause-rests : goal.returns-clause-rests
 returns-clause-rests g c alone none =
     front_all g.Q.Desk.start c.args.moment c.loop-left.left.now c.args.lines.now (g.Q.Desk.seen c.args.desk.now) (g.Q.Desk.seen c.loop-left.desk) (none_left c.loop-left.left.now c.in_default.len_below)
     c.loop-left.invariant.front alone none
+
+pub returns-in-Err-TurnsSpent-clause-filled : goal.returns-in-Err-TurnsSpent-clause-filled
+returns-in-Err-TurnsSpent-clause-filled g c alone =
+    let s = g.Q.Desk.start in
+    fills_on _ s (g.Q.Desk.seen c.args.desk.now) (g.Q.Desk.seen c.loop-left.desk) (g.Q.Desk.seen c.carry_line.new.desk) c.args.filled.now.items c.loop-left.filled.items c.carry_line.new.filled.items (c.loop-left.invariant.filled alone)
+    (fills_spent _ s (g.Q.Desk.seen c.loop-left.desk) (g.Q.Desk.seen c.carry_line.new.desk) c.loop-left.filled.items c.carry_line.new.filled.items c.in-Err-TurnsSpent.field-0 c.in-Err-TurnsSpent.field-0-is (c.in-Err-TurnsSpent.ensures.filled alone))

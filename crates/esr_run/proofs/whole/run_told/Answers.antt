@@ -3,21 +3,35 @@ use Rattle.esr_core.specs.Entry.{Moment}
 use Rattle.esr_desk.specs.Once.{AreOnce, NoneTwice}
 use Rattle.esr_run.specs.Made.{HasStopped, AreDone}
 use Rattle.esr_run.proofs.Making.{done_or}
-use Rattle.esr_repo.specs.Log.{log_of}
+use Rattle.esr_repo.specs.Log.{image_at, log_of}
 use Rattle.esr_run.proofs.Ending.{logged}
+use Rattle.esr_run.proofs.Completing.{entries_are}
+use Rattle.esr_run.proofs.Restoring.{by_lines}
 use Rattle.esr_run.proofs.whole.run_told.Goals as goal
 
 pub returns-clause-shown : goal.returns-clause-shown
-returns-clause-shown g c = logged _ g.K.Told.start c.carry_on-repo.result.0 (log_of (g.D.Depot.look c.into_parts-depot.result.0) g.K.Told.clock c.into_parts-depot.result.1) c.carry_on-repo.result.1 c.into_parts-depot.ensures.log c.carry_on-repo.ensures.shown
+returns-clause-shown g c = logged (record { stage = g.D.Stage.Counted.faults; fetch = g.D.Fetch.Counted.faults; shard = g.S.Shard.Counted.faults; target = g.T.Target.Counted.faults; made_for = λ h. (g.S.Shard.Shard.origin h).address; target_for = g.T.Target.Target.made_for; held = g.T.Target.Target.files; is_sure = g.T.Target.Target.is_sure }) g.K.Told.start c.carry_on-worked.result.repo (log_of (g.D.Depot.look c.into_parts-depot.result.0) g.K.Told.clock c.into_parts-depot.result.1) c.carry_on-worked.result.faults c.into_parts-depot.ensures.log c.carry_on-worked.ensures.shown
 
 pub returns-clause-once : goal.returns-clause-once
-returns-clause-once g c = subst (λ (l : List Moment). AreOnce g.K.Told.start l) (sym c.into_parts-depot.ensures.log) c.carry_on-repo.ensures.once
+returns-clause-once g c = subst (λ (l : List Moment). AreOnce g.K.Told.start l) (sym c.into_parts-depot.ensures.log) c.carry_on-worked.ensures.once
 
 pub returns-clause-single : goal.returns-clause-single
-returns-clause-single g c = subst NoneTwice (sym c.into_parts-depot.ensures.log) c.carry_on-repo.ensures.single
+returns-clause-single g c = subst NoneTwice (sym c.into_parts-depot.ensures.log) c.carry_on-worked.ensures.single
 
 pub returns-clause-done : goal.returns-clause-done
 returns-clause-done g c =
-    let log = log_of (g.D.Depot.look c.into_parts-depot.result.0) g.K.Told.clock c.into_parts-depot.result.1 in
-    subst (λ (l : List Moment). (c.verdict_after-verdict.result.status ≡ 8) ⊎ (AreDone g.K.Told.start c.args.moment c.args.asked.now.script [] l ⊎ HasStopped l)) (sym c.into_parts-depot.ensures.log)
-    (done_or (AreDone g.K.Told.start c.args.moment c.args.asked.now.script [] c.carry_on-repo.result.0 ⊎ HasStopped c.carry_on-repo.result.0) c.verdict_after-verdict.result.status c.carry_on-repo.result.2 c.carry_on-repo.ensures.done c.verdict_after-verdict.ensures.wanting)
+    subst (λ (l : List Moment). (c.verdict_after-verdict.result.0.status ≡ 8) ⊎ (AreDone g.K.Told.start c.args.moment c.args.asked.now.script [] l ⊎ HasStopped l)) (sym c.into_parts-depot.ensures.log)
+    (done_or (AreDone g.K.Told.start c.args.moment c.args.asked.now.script [] c.carry_on-worked.result.repo ⊎ HasStopped c.carry_on-worked.result.repo) c.verdict_after-verdict.result.0.status c.carry_on-worked.result.filled c.carry_on-worked.ensures.done
+    (λ lost. c.verdict_after-verdict.ensures.wanting (c.targets_by_lines-listed.ensures.wanting lost)))
+
+pub returns-clause-restored : goal.returns-clause-restored
+returns-clause-restored g c =
+    let look = g.D.Depot.look c.into_parts-depot.result.0 in
+    by_lines c.each_target_is_of_its_line.ensures (record { made_for = g.T.Target.Target.made_for; files = g.T.Target.Target.files; is_sure = g.T.Target.Target.is_sure; are_told = g.T.Targets.is_told c.args.targets.now; are_quiet = g.T.Targets.is_quiet c.args.targets.now }) g.K.Told.start c.args.moment c.args.asked.now.script c.carry_on-worked.result.repo (log_of look g.K.Told.clock c.into_parts-depot.result.1) c.into_parts-depot.result.1
+    c.requires.begun.order.tracked c.requires.begun.read_tracked c.into_parts-depot.ensures.repo.2.steady.legal c.requires.lines c.carry_on-worked.ensures.made c.requires.alone c.into_parts-depot.ensures.log (entries_are (image_at look) g.K.Told.clock c.into_parts-depot.result.1)
+    c.carry_on-worked.result.filled c.targets_by_lines-listed.result c.verdict_after-verdict.result.1 c.verdict_after-verdict.result.0.status c.carry_on-worked.ensures.filled c.targets_by_lines-listed.ensures.listed c.targets_by_lines-listed.ensures.wanting c.verdict_after-verdict.ensures.wanting c.verdict_after-verdict.ensures.targets
+
+pub returns-clause-legal : goal.returns-clause-legal
+returns-clause-legal g c =
+    let is = c.into_parts-depot.ensures.repo.2 in
+    record { clock_is = is.clock_is; legal = is.steady.legal; image = is.steady.image }

@@ -1,0 +1,133 @@
+-- What the whole history tells of restores, and that none is open where no unit is ready and no ticket is out.
+use Rattle.std.proofs.Common.{◌≡◌, ℕ, suc, ◌<◌, ◌≤◌, true, false, true≢false, List, [], ◌∷◌, ◌++◌, Option, Some, append_assoc, append-nil, refl, sym, ap, ◌∙◌, subst, inl, inr, arith}
+use Rattle.std.specs.FinMap as fin
+use Rattle.esr_model.specs.Values.{Has, RootData, ClusterRecord, IndexRef, Formats}
+use Rattle.esr_model.specs.Places.{places}
+use Rattle.esr_model.specs.Kept.{first_id, Kept}
+use Rattle.esr_model.specs.Shelf.{Shelved}
+use Rattle.esr_model.specs.Image.{Blobs, Image}
+use Rattle.esr_core.specs.World.{World, ReadState, Unread, BeingRead, Restored, NotRestored, RestoreShard, Restoring, Reader, opened, Opened, OpenedEmpty, OpenedRecord, no_record, no_root}
+use Rattle.esr_core.specs.Restores.{waits}
+use Rattle.esr_core.specs.ReadTracked.{RestoresTracked}
+use Rattle.esr_core.specs.ReadLaw.{ReadLaw}
+use Rattle.esr_core.specs.Ready.{AnyReady, ARestore}
+use Rattle.esr_core.specs.Entry.{Entry, Moment}
+use Rattle.esr_core.specs.After.{after}
+use Rattle.esr_core.specs.History.{world_from, IsLegal, AllKnown, AreTold, AreHonest}
+use Rattle.esr_core.proofs.Histories.{legal_parts, told_parts, honest_parts}
+use Rattle.esr_core.proofs.Opening.{nothing}
+use Rattle.esr_core.proofs.Restoring.{one_waits}
+use Rattle.esr_desk.specs.Start.{Start, formats_of, world_of, Legal}
+use Rattle.esr_desk.specs.Readers.{or_no_reader}
+use Rattle.esr_report.specs.Replies.{read_shard}
+use Rattle.esr_quiet.specs.Refusals.{AreByRule}
+use Rattle.esr_quiet.specs.Smooth.{IsSmooth, NoneFailed, NoneUnrestored}
+use Rattle.esr_complete.specs.Lines.{entries_of}
+use Rattle.esr_complete.specs.Answers.{IsIdle}
+use Rattle.esr_complete.proofs.Following.{FollowsIn}
+use Rattle.esr_complete.proofs.Steps.{follows_step}
+use Rattle.esr_complete.proofs.RestoreTickets.{IsRestored}
+use Rattle.esr_complete.proofs.FollowingRestores.{AskedRestore, opens, RestoresIn}
+use Rattle.esr_complete.proofs.RestoreSteps.{IsOrdered, restores_step}
+use Rattle.esr_complete.proofs.Histories.{Laws, AreCalm, all_calm, follows_start, none_ready, world_append, nothing_ready}
+
+-- ---- each world of the history is in order
+
+read_opened : Laws → (f : Formats) (image : Image) (w : World) → Opened f image w → ReadLaw f w
+read_opened laws f image w (OpenedEmpty none) = laws.restores_open f image.blobs no_record no_root
+read_opened laws f image w (OpenedRecord cluster text root is reads root_is) = laws.restores_open f image.blobs cluster root
+
+below_or_same : (a b : ℕ) → a < b → a ≤ b
+below_or_same a b less = omega (arith, less)
+
+ordered_by : Laws → (f : Formats) (size : ℕ) (first : Image) (shelf : List Shelved) (w : World) (log : List Moment) → AllKnown f → Kept f first shelf → Opened f first w → IsLegal f size w log → AreTold log → AreHonest f w log → IsOrdered (world_from f w log)
+ordered_by laws f size first shelf w log known kept start legal told honest =
+    let law = laws.lawful f size first shelf w log known kept start legal told honest in
+    let reads = laws.restores_kept f size shelf w log known (laws.opening f first shelf w kept start) (read_opened laws f first w start) legal told honest in
+    record { tracked = reads.tracked; below = below_or_same (world_from f w log).next_id (first_id (suc (world_from f w log).term)) law.in_term.below }
+
+-- and so is each that a history passes
+abbrev AreOrdered : Formats → World → List Moment → Type 0
+AreOrdered f w log = (front back : List Moment) → log ≡ front ++ back → IsOrdered (world_from f w front)
+
+all_ordered : Laws → (f : Formats) (size : ℕ) (first : Image) (shelf : List Shelved) (w : World) (log : List Moment) → AllKnown f → Kept f first shelf → Opened f first w → IsLegal f size w log → AreTold log → AreHonest f w log → AreOrdered f w log
+all_ordered laws f size first shelf w log known kept start legal told honest front back is =
+    ordered_by laws f size first shelf w front known kept start (legal_parts f size front back w (subst (IsLegal f size w) is legal)).0 (told_parts front back (subst AreTold is told)).0 (honest_parts f front back w (subst (AreHonest f w) is honest)).0
+
+-- ---- from the opened world on
+
+restores_opened : (blobs : Blobs) (cluster : ClusterRecord) (root : RootData) → RestoresIn (opened blobs cluster root) []
+restores_opened blobs cluster root =
+    record {
+      unended = λ k q e out. refl;
+      fresh = λ k le. refl;
+      untaken = λ y le. refl;
+      shards = λ o r s e m. absurd (nothing o r e);
+      asked = λ e a has opened p m. absurd has;
+    }
+
+restores_start : (f : Formats) (image : Image) (w : World) → Opened f image w → RestoresIn w []
+restores_start f image w (OpenedEmpty none) = restores_opened image.blobs no_record no_root
+restores_start f image w (OpenedRecord cluster text root is reads root_is) = restores_opened image.blobs cluster root
+
+restores_history : (f : Formats) (size : ℕ) (log : List Moment) (w : World) (es : List Entry) → FollowsIn w es → RestoresIn w es → IsLegal f size w log → AreCalm log → NoneUnrestored log → AreOrdered f w log → RestoresIn (world_from f w log) (es ++ entries_of log)
+restores_history f size [] w es h r legal calm none ordered = subst (RestoresIn w) (sym (append-nil es)) r
+restores_history f size (m ∷ log) w es h r legal calm none ordered =
+    subst (RestoresIn (world_from f (after f w m) log)) (append_assoc es (m.entry ∷ []) (entries_of log))
+    (restores_history f size log (after f w m) (es ++ m.entry ∷ []) (follows_step f size w es h m legal.0 (calm m (inl refl)))
+    (restores_step f size w es r (ordered [] (m ∷ log) refl) h.live m legal.0 (λ why from is. none m why (inl refl) from is)) legal.1 (λ n has. calm n (inr has)) (λ n why has. none n why (inr has))
+    (λ front back is. ordered (m ∷ front) back (ap (λ (l : List Moment). m ∷ l) is)))
+
+smooth_ordered : Laws → (s : Start) (log : List Moment) → IsSmooth s log → AreOrdered (formats_of s) s.world log
+smooth_ordered laws s log smooth = all_ordered laws (formats_of s) s.part_size smooth.image smooth.shelf s.world log smooth.known smooth.kept smooth.opened smooth.legal smooth.told smooth.honest
+
+-- what the whole history tells
+restores_all : Laws → (s : Start) (log : List Moment) → IsSmooth s log → NoneFailed log → NoneUnrestored log → AreByRule log → RestoresIn (world_of s log) (entries_of log)
+restores_all laws s log smooth none unrestored by_rule =
+    restores_history (formats_of s) s.part_size log s.world [] (follows_start (formats_of s) smooth.image s.world smooth.opened smooth.no_deletes) (restores_start (formats_of s) smooth.image s.world smooth.opened) smooth.legal
+    (all_calm log none by_rule) unrestored (smooth_ordered laws s log smooth)
+
+-- ---- no restore is open at the end
+
+-- a restore with no ticket out has a shard that is ready
+restore_ready : (w : World) (o : ℕ) (r : Restoring) → RestoresTracked w.next_op w.next_ticket w.restores w.readers → fin.get w.restores o ≡ Some r → ((k : ℕ) (q : Reader) → fin.get w.readers k ≡ Some q → q.out ≡ true → ⊥) → AnyReady w
+restore_ready w o r t there none_out =
+    let (s, m, waiting) = one_waits r.shards (t.waiting o r there) in
+    ready s m s.state refl waiting
+  where
+    ready : (s : RestoreShard) → Has r.shards s → (state : ReadState) → s.state ≡ state → waits state ≡ true → AnyReady w
+    ready s m Unread is waiting = ARestore o r s (record { there = there; s_there = m; unread = is })
+    ready s m (BeingRead k) is waiting = let h = t.held o r s k there m is in absurd (none_out k h.q h.there h.out)
+    ready s m (Restored files bytes) is waiting = absurd (true≢false (sym waiting))
+    ready s m (NotRestored why) is waiting = absurd (true≢false (sym waiting))
+
+reader_out : (found : Option Reader) (q : Reader) → (or_no_reader found).out ≡ false → found ≡ Some q → q.out ≡ true → ⊥
+reader_out found q none is out = true≢false (sym out ∙ sym (ap (λ (o : Option Reader). (or_no_reader o).out) is) ∙ none)
+
+-- with a take that gives nothing at its end
+none_open : (f : Formats) (size : ℕ) (w : World) (front : List Moment) (image : Option Image) → IsLegal f size w (front ++ nothing_ready image ∷ []) → IsOrdered (world_from f w front)
+    → ((k : ℕ) (q : Reader) → fin.get (world_from f w (front ++ nothing_ready image ∷ [])).readers k ≡ Some q → q.out ≡ true → ⊥)
+    → (o : ℕ) (r : Restoring) → fin.get (world_from f w (front ++ nothing_ready image ∷ [])).restores o ≡ Some r → ⊥
+none_open f size w front image legal ordered none_out o r there =
+    let m : Moment = nothing_ready image in
+    let last : World = world_from f w front in
+    let same : world_from f w (front ++ m ∷ []) ≡ after f last m = world_append f front w m in
+    none_ready f size last image (legal_parts f size front (m ∷ []) w legal).1.0
+    (restore_ready last o r ordered.tracked (ap (λ (x : World). fin.get x.restores o) (sym same) ∙ there) (λ k q e. none_out k q (ap (λ (x : World). fin.get x.readers k) same ∙ e)))
+
+none_open_at : Laws → (s : Start) (log : List Moment) → IsSmooth s log → IsIdle s log → (o : ℕ) (r : Restoring) → fin.get (world_of s log).restores o ≡ Some r → ⊥
+none_open_at laws s log smooth idle o r there =
+    let front = idle.none_ready.front in
+    let image = idle.none_ready.image in
+    let is : log ≡ front ++ nothing_ready image ∷ [] = idle.none_ready.is in
+    none_open (formats_of s) s.part_size s.world front image (subst (Legal s) is smooth.legal) (smooth_ordered laws s log smooth front (nothing_ready image ∷ []) is)
+    (λ k q e out. reader_out (fin.get (world_of s log).readers k) q (idle.no_reader k) (ap (λ (l : List Moment). fin.get (world_of s l).readers k) is ∙ e) out)
+    o r (ap (λ (l : List Moment). fin.get (world_of s l).restores o) (sym is) ∙ there)
+
+-- so each shard of each restore that was accepted was restored
+pub all_restored : Laws → (s : Start) (log : List Moment) → IsSmooth s log → NoneFailed log → NoneUnrestored log → AreByRule log → IsIdle s log → (e : Entry) (a : AskedRestore) → Has (entries_of log) e → opens e.reply ≡ Some a
+    → (p : IndexRef × ℕ) → Has (places a.indices) p → IsRestored (entries_of log) (read_shard a.op a.uuid p)
+all_restored laws s log smooth none unrestored by_rule idle e a has opened p m = elim ((restores_all laws s log smooth none unrestored by_rule).asked e a has opened p m) [
+  | inl stands ↦ absurd (none_open_at laws s log smooth idle a.op stands.r stands.there)
+  | inr restored ↦ restored
+]

@@ -1,0 +1,253 @@
+-- No shard of a restore fails where each world of the history is lawful and serves the tickets of restores.
+use Rattle.std.proofs.Common.{◌≡◌, ℕ, ◌≤◌, true, false, true≢false, List, [], ◌∷◌, ◌++◌, append_assoc, Option, Some, None, refl, sym, ap, ◌∙◌, subst, inl, inr, arith}
+use Rattle.std.specs.Prelude.{length}
+use Rattle.std.specs.List.{concat}
+use Rattle.std.specs.FinMap as fin
+use Rattle.esr_model.specs.Names.{BlobName, ShardSnap}
+use Rattle.esr_model.specs.Values.{Bytes, Has, FileEntry, ShardSnapshot, RootData, ClusterRecord, Kind, Formats}
+use Rattle.esr_model.specs.Shelf.{Shelved}
+use Rattle.esr_model.specs.Parts.{part_names}
+use Rattle.esr_model.specs.Image.{Blobs, Image, Reads, FileStands}
+use Rattle.esr_core.specs.World.{World, Reader, HeldIn, Opened, OpenedEmpty, OpenedRecord, opened, no_record, no_root}
+use Rattle.esr_core.specs.Restores.{IsReading, WasRead}
+use Rattle.esr_core.specs.Entry.{Why, OfDepot, OfSource, OfChange, OfDamage, OfTaken, OfIdsSpent, OfGenerationsSpent, OfTarget, OfPrint, OfDisagreement, Read, ReadBlob, ReadFails, Step, ReadStep, Reply, WasAbsent, HasEnded, Moment}
+use Rattle.esr_core.specs.Allowed as allowed
+use Rattle.esr_core.specs.Allowed.{Told, MayRead, Fetcher, ByReader, ByCheck, ByVerify, ReadAllows, ReadMissing, ReaderFailing, CheckFailing, VerifyAllows, VerifyFailing, Allows, Allowed}
+use Rattle.esr_core.specs.History.{world_from, IsLegal, AllKnown, AreTold, AreHonest}
+use Rattle.esr_core.specs.Ids.{Law}
+use Rattle.esr_core.specs.ReadLaw.{ReadLaw}
+use Rattle.esr_core.specs.Restored.{IsServed}
+use Rattle.esr_core.proofs.Reading.{reads_one, held_one}
+use Rattle.esr_core.proofs.TurningIds.{pairs_has}
+use Rattle.esr_core.proofs.Frames.{AllPairs-map}
+use Rattle.esr_formats.specs.Formats.{formats}
+use Rattle.esr_formats.specs.Shards.{shard_snap_kind}
+use Rattle.esr_desk.specs.declared.fault.FailedObject.TheVariants as objects
+use Rattle.esr_desk.specs.declared.fault.Fault.{Fault}
+use Rattle.esr_desk.specs.declared.fault.By.{By}
+use Rattle.esr_desk.specs.declared.fault.By.TheVariants as by
+use Rattle.esr_desk.specs.Start.{Start, formats_of, world_of}
+use Rattle.esr_desk.specs.Readers.{or_no_reader, reader_of}
+use Rattle.esr_reading.specs.Parts.{sized_parts, IsFront, AreFronts, AreExact}
+use Rattle.esr_reading.specs.Shown.{Counts, HadFault, WasMissing, DepotShown, TargetShown, ReadShown, IsDamaged, HasReadFile, IsMisprinted, IsMiscut, IsShown}
+use Rattle.esr_quiet.specs.Caused.{AreReadCaused}
+use Rattle.esr_quiet.specs.Smooth.{IsSmooth, NoneUnrestored}
+use Rattle.esr_quiet.specs.Prefixes.{Prefixes}
+use Rattle.esr_quiet.proofs.Maps.{some_none}
+use Rattle.esr_quiet.proofs.Prefixes.{told_at, place_of, has_front, has_at}
+use Rattle.esr_quiet.proofs.Passing.{quiet_at, legal_at, smooth_front}
+use Rattle.esr_quiet.proofs.Fronts.{file_whole}
+
+-- ---- what a step tells
+
+-- of a fetch that found nothing, and of a report
+abbrev Tells : Formats → World → ℕ → Step → Reply → Option Image → Type 0
+Tells f w who (ReadStep (ReadBlob name)) WasAbsent image = Fetcher f w name image who × Told image (λ blobs. fin.get w.blobs (f.names.text name) ≡ None)
+Tells f w who (ReadStep (ReadFails why)) HasEnded image = 1 ≤ who → (q : Reader) × IsReading w who q
+Tells f w who step reply image = Unit {0}
+
+read_tells : (f : Formats) (w : World) (who : ℕ) (read : Read) (reply : Reply) (image : Option Image) → ReadAllows f w who read reply image → Tells f w who (ReadStep read) reply image
+read_tells f w who read reply image (ReadMissing k name im stored by none) = (by, none)
+read_tells f w who read reply image (ReaderFailing k why im q out) = λ some. (q, out)
+read_tells f w who read reply image (CheckFailing why im looked) = λ some. absurd (omega (arith, some))
+read_tells f w who read reply image a = tt
+
+verify_tells : (f : Formats) (w : World) (read : Read) (reply : Reply) (image : Option Image) → VerifyAllows f w read reply image → Tells f w 0 (ReadStep read) reply image
+verify_tells f w read reply image (VerifyFailing why id im drawn same) = λ some. absurd (omega (arith, some))
+verify_tells f w read reply image a = tt
+
+tells : (f : Formats) (size : ℕ) (w : World) (who : ℕ) (step : Step) (reply : Reply) (image : Option Image) → Allows f size w who step reply image → Tells f w who step reply image
+tells f size w who step reply image (allowed.Reading k read rep im a same) = read_tells f w k read rep im a
+tells f size w who step reply image (allowed.Verifying read rep im a) = verify_tells f w read rep im a
+tells f size w who step reply image a = tt
+
+-- the answer is that of a world in which no record swap has failed
+told_by : (f : Formats) (size : ℕ) (w : World) (m : Moment) → w.deposed ≡ false → Allowed f size w m → Tells f w m.entry.who m.entry.step m.entry.reply m.image
+told_by f size w m present a = elim a.answered [ inl alive ↦ tells f size w m.entry.who m.entry.step m.entry.reply m.image alive.1 | inr dead ↦ absurd (true≢false (sym dead.deposed ∙ present)) ]
+
+-- a report is that of a ticket that is out
+pub reading_at : (f : Formats) (size : ℕ) (w : World) (m : Moment) (why : Why) → w.deposed ≡ false → Allowed f size w m → m.entry.step ≡ ReadStep (ReadFails why) → m.entry.reply ≡ HasEnded → 1 ≤ m.entry.who → (q : Reader) × IsReading w m.entry.who q
+reading_at f size w m why present a step reply = subst (λ st. Tells f w m.entry.who st HasEnded m.image) step (subst (λ r. Tells f w m.entry.who m.entry.step r m.image) reply (told_by f size w m present a))
+
+-- what a ticket may read that found nothing
+record Misses (f : Formats) (w : World) (who : ℕ) (name : BlobName) (image : Option Image) : Type 0 where
+  q : Reader
+  reading : IsReading w who q
+  may : MayRead f q name image
+  none : fin.get w.blobs (f.names.text name) ≡ None
+
+by_reader : (f : Formats) (w : World) (name : BlobName) (image : Option Image) (who : ℕ) → 1 ≤ who → fin.get w.blobs (f.names.text name) ≡ None → Fetcher f w name image who → Misses f w who name image
+by_reader f w name image who some none (ByReader k q reading may) = record { q = q; reading = reading; may = may; none = none }
+by_reader f w name image who some none (ByCheck may) = absurd (omega (arith, some))
+by_reader f w name image who some none (ByVerify may) = absurd (omega (arith, some))
+
+misses_at : (f : Formats) (size : ℕ) (w : World) (m : Moment) (name : BlobName) → w.deposed ≡ false → Allowed f size w m → m.entry.step ≡ ReadStep (ReadBlob name) → m.entry.reply ≡ WasAbsent → (image : Image) → m.image ≡ Some image → 1 ≤ m.entry.who
+    → Misses f w m.entry.who name (Some image)
+misses_at f size w m name present a step reply image is some =
+    let h = subst (λ im. Tells f w m.entry.who (ReadStep (ReadBlob name)) WasAbsent im) is
+    (subst (λ st. Tells f w m.entry.who st WasAbsent m.image) step (subst (λ r. Tells f w m.entry.who m.entry.step r m.image) reply (told_by f size w m present a))) in
+    by_reader f w name (Some image) m.entry.who some h.1 h.0
+
+-- ---- what a ticket may read stands
+
+-- a world is lawful of restores, and serves each ticket that is out
+pub record IsServing (f : Formats) (w : World) : Type 0 where
+  pub law : ReadLaw f w
+  pub served : (k : ℕ) (q : Reader) → IsReading w k q → IsServed f w q
+
+module _ (f : Formats) (w : World) (serving : IsServing f w) (k : ℕ) (q : Reader) (reading : IsReading w k q) where
+  served : IsServed f w q
+  served = serving.served k q reading
+
+  held : (name : BlobName) (bytes : Bytes) → WasRead q.read name bytes → HeldIn f w name bytes
+  held = (serving.law.readers k q reading.there reading.out).held
+
+  -- the snapshot that was read is the one that stands
+  snap_one : (snap : ShardSnapshot) → Reads (WasRead q.read) (ShardSnap q.index q.number q.uuid) f.shard_snap snap → served.snap ≡ snap
+  snap_one snap r =
+      reads_one (HeldIn f w) (held_one f w) (ShardSnap q.index q.number q.uuid) f.shard_snap served.snap snap served.snap_reads
+      (record { bytes = r.bytes; there = held (ShardSnap q.index q.number q.uuid) r.bytes r.there; reads = r.reads })
+
+  -- so each file that it lists stands
+  file_stands : (snap : ShardSnapshot) → Reads (WasRead q.read) (ShardSnap q.index q.number q.uuid) f.shard_snap snap → (e : FileEntry) → Has snap.files e → (bytes : Bytes) × FileStands f (HeldIn f w) q.index q.number e bytes
+  file_stands snap r e listed =
+      pairs_has (FileStands f (HeldIn f w) q.index q.number) served.snap.files served.contents e served.stand (subst (λ (z : ShardSnapshot). Has z.files e) (sym (snap_one snap r)) listed)
+
+  -- what it may read is there
+  is_there : (name : BlobName) (image : Image) → MayRead f q name (Some image) → fin.get w.blobs (f.names.text name) ≡ None → ⊥
+  is_there name image (inl is) none =
+      some_none served.snap_reads.bytes (sym served.snap_reads.there.0.0 ∙ ap (λ (n : BlobName). fin.get w.blobs (f.names.text n)) (sym is) ∙ none)
+  is_there name image (inr (piece, lists)) none =
+      let stands = file_stands lists.snap lists.snap_read lists.e lists.listed in
+      let part = pairs_has (HeldIn f w) (part_names q.index q.number lists.e) stands.1.parts name stands.1.there lists.part in
+      some_none part.0 (sym part.1.0.0 ∙ none)
+
+  -- and what was read as the snapshot reads
+  does_read : (bytes : Bytes) → WasRead q.read (ShardSnap q.index q.number q.uuid) bytes → f.shard_snap.read bytes ≡ None → ⊥
+  does_read bytes read none =
+      let same : bytes ≡ served.snap_reads.bytes = held_one f w (ShardSnap q.index q.number q.uuid) bytes served.snap_reads.bytes (held (ShardSnap q.index q.number q.uuid) bytes read) served.snap_reads.there in
+      some_none served.snap (sym served.snap_reads.reads ∙ ap f.shard_snap.read (sym same) ∙ none)
+
+  -- what was read of a file is the file
+  reads_whole : (snap : ShardSnapshot) → Reads (WasRead q.read) (ShardSnap q.index q.number q.uuid) f.shard_snap snap → (e : FileEntry) → Has snap.files e → (fronts : List Bytes) → AreFronts (WasRead q.read) q.index q.number e fronts
+      → (length (concat fronts) ≡ e.len) × (f.digest (concat fronts) ≡ e.digest) × AreExact q.index q.number e fronts
+  reads_whole snap r e listed fronts read =
+      let stands = file_stands snap r e listed in
+      let there : AreFronts (HeldIn f w) q.index q.number e fronts =
+      AllPairs-map {R = IsFront (WasRead q.read)} {S = IsFront (HeldIn f w)} (λ part front h. (h.0, held part.0 h.0 h.1, h.2)) (sized_parts q.index q.number e) fronts read in
+      let h = file_whole (HeldIn f w) (held_one f w) f q.index q.number e stands.0 fronts stands.1 there in
+      (ap (λ (l : Bytes). length l) h.0 ∙ stands.1.len, ap f.digest h.0 ∙ stands.1.digest, h.1)
+
+-- ---- each world serves
+
+-- what the laws of the core say of restores
+pub record ReadCoreLaws : Type 0 where
+  pub opened : (f : Formats) (blobs : Blobs) (cluster : ClusterRecord) (root : RootData) → ReadLaw f (opened blobs cluster root)
+  pub kept : (f : Formats) (part_size : ℕ) (shelf : List Shelved) (w : World) (log : List Moment) → AllKnown f → Law f w shelf → ReadLaw f w → IsLegal f part_size w log → AreTold log → AreHonest f w log → ReadLaw f (world_from f w log)
+  pub served : (f : Formats) (w : World) (shelf : List Shelved) (k : ℕ) (q : Reader) → Law f w shelf → ReadLaw f w → IsReading w k q → IsServed f w q
+
+module _ (laws : ReadCoreLaws) where
+  opened_law : (f : Formats) (image : Image) (w : World) → Opened f image w → ReadLaw f w
+  opened_law f image w (OpenedEmpty none) = laws.opened f image.blobs no_record no_root
+  opened_law f image w (OpenedRecord cluster text root there reads is) = laws.opened f image.blobs cluster root
+
+  pub serves : (s : Start) (log : List Moment) → IsSmooth s log → Prefixes s log → (front back : List Moment) → log ≡ front ++ back → IsServing (formats_of s) (world_of s front)
+  serves s log smooth prefixes front back is =
+      let h = smooth_front s log smooth front back is in
+      let first = prefixes.lawful [] log refl in
+      let here = prefixes.lawful front back is in
+      let law : ReadLaw (formats_of s) (world_of s front) = laws.kept (formats_of s) s.part_size first.0 s.world front h.known first.1 (opened_law (formats_of s) h.image s.world h.opened) h.legal h.told h.honest in
+      record { law = law; served = λ k q reading. laws.served (formats_of s) (world_of s front) here.0 k q here.1 law reading }
+
+-- ---- each cause
+
+snap_is : (s : Start) → (formats_of s).shard_snap ≡ shard_snap_kind
+unfolding formats
+snap_is s = refl
+
+read_shown : {S F H T : Type 0} (b : By S F H T) (shown : Type 0) → ReadShown b shown → shown
+read_shown (by.Object object) shown h = absurd h
+read_shown by.Entry shown h = absurd h
+read_shown by.Nothing shown h = h
+
+module _ (s : Start) (log : List Moment) (smooth : IsSmooth s log) (all_serve : (front back : List Moment) → log ≡ front ++ back → IsServing (formats_of s) (world_of s front)) (sure : s.sure_targets ≡ true) where
+  -- no object of the container fails
+  no_fault : (front back : List Moment) (who : ℕ) → log ≡ front ++ back → HadFault front who → ⊥
+  no_fault front back who is h =
+      smooth.calm h.moment (subst (λ (l : List Moment). Has l h.moment) (sym is) (has_front front back h.moment (subst (λ (l : List Moment). Has l h.moment) (sym h.is) (has_at h.front h.back h.moment)))) h.reply
+
+  depot : {S F H T : Type 0} (c : Counts F T) (front back : List Moment) (who : ℕ) → log ≡ front ++ back → (b : By S F H T) → DepotShown c s front who b → ⊥
+  depot c front back who is (by.Object (objects.Stage stage)) h = h
+  depot c front back who is (by.Object (objects.Fetch fetch)) h = true≢false (sym smooth.quiet ∙ h.1)
+  depot c front back who is (by.Object (objects.Shard shard)) h = h
+  depot c front back who is (by.Object (objects.Target target)) h = h
+  depot c front back who is by.Entry h = no_fault front back who is h
+  depot c front back who is by.Nothing h = h
+
+  -- nor a target
+  target_of : {S F H T : Type 0} (c : Counts F T) (q : Reader) (b : By S F H T) → TargetShown c s q b → ⊥
+  target_of c q (by.Object (objects.Stage stage)) h = h
+  target_of c q (by.Object (objects.Fetch fetch)) h = h
+  target_of c q (by.Object (objects.Shard shard)) h = h
+  target_of c q (by.Object (objects.Target target)) h = true≢false (sym sure ∙ h.1)
+  target_of c q by.Entry h = h
+  target_of c q by.Nothing h = h
+
+  -- each blob is there
+  found : (front rest : List Moment) (m : Moment) → log ≡ front ++ m ∷ rest → (name : BlobName) → m.entry.step ≡ ReadStep (ReadBlob name) → m.entry.reply ≡ WasAbsent → 1 ≤ m.entry.who → ⊥
+  found front rest m is name step reply some =
+      let told = told_at log m smooth.told (subst (λ (l : List Moment). Has l m) (sym is) (has_at front rest m)) in
+      let at = misses_at (formats_of s) s.part_size (world_of s front) m name (quiet_at s log smooth front (m ∷ rest) is).present (legal_at s log smooth front rest m is) step reply told.0 told.1 some in
+      is_there (formats_of s) (world_of s front) (all_serve front (m ∷ rest) is) m.entry.who at.q at.reading name told.0 at.may at.none
+
+  missing : (front back : List Moment) → log ≡ front ++ back → (who : ℕ) → 1 ≤ who → (name : BlobName) → WasMissing front who name → ⊥
+  missing front back is who some name h =
+      found h.front (h.back ++ back) h.moment (is ∙ ap (λ (l : List Moment). l ++ back) h.is ∙ append_assoc h.front (h.moment ∷ h.back) back) name h.step h.reply (subst (λ (k : ℕ). 1 ≤ k) (sym h.of) some)
+
+  -- and reads
+  damage : (front back : List Moment) → log ≡ front ++ back → (who : ℕ) → 1 ≤ who → IsReading (world_of s front) who (reader_of s front who) → (name : BlobName) → IsDamaged s front who name → ⊥
+  damage front back is who some reading name (inl h) = missing front back is who some name h
+  damage front back is who some reading name (inr h) =
+      let q : Reader = reader_of s front who in
+      does_read (formats_of s) (world_of s front) (all_serve front back is) who q reading h.1.0
+      (subst (λ (n : BlobName). WasRead q.read n h.1.0) h.0 (h.1.1 smooth.tells))
+      (ap (λ (kind : Kind ShardSnapshot). kind.read h.1.0) (snap_is s) ∙ h.1.2)
+
+  -- of each file all was read
+  file_of : (front back : List Moment) → log ≡ front ++ back → (who : ℕ) → IsReading (world_of s front) who (reader_of s front who) → (name : BlobName) (fronts : List Bytes) (h : HasReadFile s (reader_of s front who) name fronts)
+      → (length (concat fronts) ≡ h.e.len) × ((formats_of s).digest (concat fronts) ≡ h.e.digest) × AreExact (reader_of s front who).index (reader_of s front who).number h.e fronts
+  file_of front back is who reading name fronts h =
+      reads_whole (formats_of s) (world_of s front) (all_serve front back is) who (reader_of s front who) reading h.snap (h.snap_read smooth.tells) h.e h.listed fronts (h.read smooth.tells)
+
+  -- with the stated print
+  printed : (front back : List Moment) → log ≡ front ++ back → (who : ℕ) → IsReading (world_of s front) who (reader_of s front who) → (name : BlobName) (stated_len : ℕ) (stated_digest : Bytes) (found_len : ℕ) (found_digest : Bytes)
+      → IsMisprinted s (reader_of s front who) name stated_len stated_digest found_len found_digest → ⊥
+  printed front back is who reading name stated_len stated_digest found_len found_digest h =
+      let x = file_of front back is who reading name h.fronts h.file in
+      h.differ (h.stated_len_is ∙ sym x.0 ∙ sym h.found_len_is) (h.stated_digest_is ∙ sym x.1 ∙ sym h.found_digest_is)
+
+  -- and cut as stated
+  uncut : (front back : List Moment) → log ≡ front ++ back → (who : ℕ) → IsReading (world_of s front) who (reader_of s front who) → (name other : BlobName) → IsMiscut s (reader_of s front who) name other → ⊥
+  uncut front back is who reading name other h = let x = file_of front back is who reading name h.fronts h.file in h.cut x.2
+
+  -- no cause is shown
+  shows : {S F H T : Type 0} (c : Counts F T) (front back : List Moment) → log ≡ front ++ back → (who : ℕ) → 1 ≤ who → IsReading (world_of s front) who (reader_of s front who) → (why : Why) (b : By S F H T) → IsShown c s front who why b → ⊥
+  shows c front back is who some reading OfDepot b h = depot c front back who is b h
+  shows c front back is who some reading OfTarget b h = target_of c (reader_of s front who) b h
+  shows c front back is who some reading (OfDamage name) b h = damage front back is who some reading name (read_shown b _ h)
+  shows c front back is who some reading (OfPrint name stated_len stated_digest found_len found_digest) b h = printed front back is who reading name stated_len stated_digest found_len found_digest (read_shown b _ h)
+  shows c front back is who some reading (OfDisagreement name other) b h = uncut front back is who reading name other (read_shown b _ h)
+  shows c front back is who some reading OfSource b h = h
+  shows c front back is who some reading (OfChange first_len first_digest second_len second_digest) b h = h
+  shows c front back is who some reading (OfTaken name) b h = h
+  shows c front back is who some reading (OfIdsSpent next) b h = h
+  shows c front back is who some reading (OfGenerationsSpent pending) b h = h
+
+  pub none_unrestored : {S F H T : Type 0} (c : Counts F T) (faults : List (Fault S F H T)) → AreReadCaused c s log faults → NoneUnrestored log
+  none_unrestored c faults shown m why has some step reply =
+      let p = place_of log m has in
+      let w : World = world_of s p.front in
+      let at = reading_at (formats_of s) s.part_size w m why (quiet_at s log smooth p.front (m ∷ p.back) p.is).present (legal_at s log smooth p.front p.back m p.is) step reply some in
+      let same : at.0 ≡ reader_of s p.front m.entry.who = sym (ap or_no_reader at.1.there) in
+      let x = shown (length p.front) m.entry.who why (record { front = p.front; moment = m; back = p.back; is = p.is; place_is = refl; ticket = some; of = refl; step = step; reply = reply }) in
+      shows c p.front (m ∷ p.back) p.is m.entry.who some (subst (IsReading w m.entry.who) same at.1) why x.0 x.1

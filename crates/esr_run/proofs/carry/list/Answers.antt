@@ -1,0 +1,17 @@
+use Rattle.std.proofs.Common.{map, refl, Ok, Err, inr}
+use Rattle.esr_core.specs.Entry.{LookStep, Looked}
+use Rattle.esr_formats.specs.Roots.{root_snap_of}
+use Rattle.esr_formats.specs.Clusters.{count_of}
+use Rattle.esr_desk.specs.declared.unit.Look.{Look as Answer}
+use Rattle.esr_run.proofs.Making.{rests_by, looked_none}
+use Rattle.esr_run.proofs.carry.list.Goals as goal
+
+pub returns-in-Err-clause-rests : goal.returns-in-Err-clause-rests
+returns-in-Err-clause-rests g c alone was =
+    rests_by c.steps_stay.ensures g.Q.Desk.start c.requires.numbered c.requires.ops alone (g.Q.Desk.seen c.args.desk.now) (g.Q.Desk.seen c.look.new.self) LookStep (λ (l : Answer). Looked (map root_snap_of l.listing) (count_of l.safe)) (Err c.in-Err.refusal)
+    (inr refl) (λ l. looked_none (map root_snap_of l.listing) (count_of l.safe)) c.in-Err.ensures was
+
+pub returns-clause-rests : goal.returns-clause-rests
+returns-clause-rests g c alone was =
+    rests_by c.steps_stay.ensures g.Q.Desk.start c.requires.numbered c.requires.ops alone (g.Q.Desk.seen c.args.desk.now) (g.Q.Desk.seen c.look.new.self) LookStep (λ (l : Answer). Looked (map root_snap_of l.listing) (count_of l.safe)) (Ok c.in_default.field-0)
+    (inr refl) (λ l. looked_none (map root_snap_of l.listing) (count_of l.safe)) c.in_default.ensures was

@@ -1,0 +1,13 @@
+pub mod Splits
+pub mod Places
+pub mod Ops
+pub mod Asked
+pub mod Ended
+pub mod Laws
+pub mod Steps
+pub mod Histories
+pub mod Accepted
+pub mod Shelf
+pub mod Listing
+pub mod Targets
+pub mod Sorting

@@ -1,0 +1,30 @@
+use Rattle.std.proofs.Common.{[], List, sym, subst}
+use Rattle.esr_model.specs.Image.{AllPairs}
+use Rattle.esr_core.specs.Entry.{Moment}
+use Rattle.esr_drive.specs.Restored.{restorations_in, IsTargetOf}
+use Rattle.esr_targets.proofs.Laws.{ReaderLaws, ShelfLaws}
+use Rattle.esr_targets.proofs.Targets.{are_of_lines}
+use Rattle.esr_targets.proofs.law.each_target_is_of_its_line.Goals as goal
+
+pub returns : goal.returns
+returns g c = λ tells s moment lines log rest restored tracked reads legal numbered same targets.
+    let laws : ReaderLaws = record {
+      tracked = c.each_history_is_tracked.ensures;
+      read_tracked = c.each_history_tracks_restores.ensures;
+      given = c.readers_stay_as_given.ensures.given;
+      stay = c.readers_stay_as_given.ensures.stay;
+      of = c.readers_are_of_their_ask.ensures.of;
+      apart = c.readers_are_of_their_ask.ensures.apart;
+      one_id = c.readers_are_of_their_ask.ensures.one_id;
+      numbered = c.readers_are_of_their_ask.ensures.numbered;
+      rises = c.readers_are_of_their_ask.ensures.rises;
+      once = c.no_shard_is_restored_twice.ensures;
+    } in
+    let shelf_laws : ShelfLaws = record {
+      opening = c.opening_is_lawful.ensures;
+      opened_reads = c.opened_restores_are_lawful.ensures;
+      lawful = c.each_history_is_lawful.ensures;
+      gives = c.restores_give_the_shelf_of_their_ask.ensures;
+      asked = c.asked_snapshots_are_on_the_shelf.ensures;
+    } in
+    are_of_lines laws shelf_laws s tracked reads log legal tells moment lines rest numbered same restored (subst (λ (x : List Moment). AllPairs (IsTargetOf tells s) (restorations_in [] x) restored) (sym targets.is) targets.each)

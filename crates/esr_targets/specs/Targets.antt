@@ -1,0 +1,96 @@
+-- What the targets of a run are: of each shard that a line restored exactly one, with the files that the snapshot had on the
+-- shelf when the line was asked.
+use Rattle.std.specs.Prelude.{◌≡◌, ℕ, ◌-◌, ◌^◌, true, List, [], ◌∷◌, length, min, sum_by, Some, IsSome}
+use Rattle.esr_model.specs.Values.{Bytes, Has, IndexRef}
+use Rattle.esr_model.specs.Shelf.{Shelved, ShelfShard, shelf_after}
+use Rattle.esr_model.specs.Places.{places, sorted_by}
+use Rattle.esr_model.specs.Image.{Image}
+use Rattle.esr_model.specs.Kept.{Kept}
+use Rattle.esr_core.specs.World.{Opened}
+use Rattle.esr_core.specs.Entry.{Moment}
+use Rattle.esr_core.specs.History.{AllKnown, AreTold, AreHonest, committed}
+use Rattle.esr_core.specs.Restored.{IsShelvedAs}
+use Rattle.esr_source.specs.declared.address.Address.{Address}
+use Rattle.esr_script.specs.declared.item.ScriptLine.{ScriptLine}
+use Rattle.esr_desk.specs.Start.{Start, formats_of, world_of}
+use Rattle.esr_report.specs.Replies.{ShardRestored, read_shard, shard_end}
+use Rattle.esr_complete.specs.Lines.{entries_of}
+use Rattle.esr_drive.specs.Restored.{Telling}
+use Rattle.esr_targets.specs.declared.target.Restored.{Restored}
+use Rattle.esr_targets.specs.Lines.{AcceptedLine}
+use Rattle.esr_targets.specs.Listed.{target_first}
+
+-- The container told its image, which was kept for this shelf at the start, and the sources tell all files, honestly.
+pub record HasShelf (s : Start) (log : List Moment) (shelf : List Shelved) : Type 0 where
+  pub tells : s.tells ≡ true
+  pub image : Image
+  pub kept : Kept (formats_of s) image shelf
+  pub opened : Opened (formats_of s) image s.world
+  pub known : AllKnown (formats_of s)
+  pub told : AreTold log
+  pub honest : AreHonest (formats_of s) s.world log
+
+-- the shelf when the line was asked: the one at the start with the commands that counted by then
+abbrev pub shelf_at : Start → List Shelved → List Moment → List Shelved
+shelf_at s shelf before = shelf_after shelf (committed (formats_of s) (world_of s before).safe s.world before)
+
+-- the files are those of this shard, as the snapshot of that name and uuid had it on the shelf
+pub record IsOnShelfAs (shelf : List Shelved) (name : Bytes) (uuid : ℕ) (index : Bytes) (number : ℕ) (files : List (Bytes × Bytes)) : Type 0 where
+  pub shelved : Shelved
+  pub there : Has shelf shelved
+  pub name_is : shelved.name ≡ name
+  pub uuid_is : shelved.uuid ≡ uuid
+  pub shard : ShelfShard
+  pub shard_there : Has shelved.shards shard
+  pub index_is : shard.index ≡ index
+  pub number_is : shard.number ≡ number
+  pub files_are : files ≡ shard.files
+
+-- the target was made for the shard, below the place of its line
+pub record IsMadeFor (address : Address) (place index : Bytes) (number : ℕ) : Type 0 where
+  pub place_is : address.place ≡ place
+  pub index_is : address.index ≡ index
+  pub number_is : address.number ≡ number
+
+-- the counts of files and of bytes are theirs
+pub record AreCounts (held : List (Bytes × Bytes)) (files bytes : ℕ) : Type 0 where
+  pub files_is : files ≡ length held
+  pub bytes_is : bytes ≡ min (sum_by (λ (file : Bytes × Bytes). length file.1) held) (2 ^ 64 - 1)
+
+-- The target is that of this shard of the line, which was restored with so many files of so many bytes. Where it tells its
+-- files, and the container tells too, the counts are theirs, and they are the shard's on the shelf when the line was asked.
+pub record IsTargetOfShard {T : Type 0} (c : Telling T) (s : Start) (moment : ℕ) (lines : List ScriptLine) (log : List Moment) (a : AcceptedLine moment lines log) (p : IndexRef × ℕ) (files bytes : ℕ) (t : Restored T) : Type 0 where
+  pub line_is : t.line ≡ a.line.number
+  pub index_is : t.index ≡ p.0.name
+  pub shard_is : t.shard ≡ p.1
+  pub address : IsMadeFor (c.made_for t.target) a.place p.0.name p.1
+  pub told : c.are_told ≡ true → IsSome (c.files t.target)
+  pub counts : (held : List (Bytes × Bytes)) → c.files t.target ≡ Some held → s.tells ≡ true → AreCounts held files bytes
+  pub shelf : (held : List (Bytes × Bytes)) (shelf : List Shelved) → c.files t.target ≡ Some held → HasShelf s log shelf → IsOnShelfAs (shelf_at s shelf a.at.before) a.name a.uuid p.0.name p.1 held
+
+-- a shard that some line restored
+pub record IsTargetOfLine {T : Type 0} (c : Telling T) (s : Start) (moment : ℕ) (lines : List ScriptLine) (log : List Moment) (t : Restored T) : Type 0 where
+  pub a : AcceptedLine moment lines log
+  pub p : IndexRef × ℕ
+  pub there : Has (places a.indices) p
+  pub files : ℕ
+  pub bytes : ℕ
+  pub target : IsTargetOfShard c s moment lines log a p files bytes t
+
+-- one target for each line, index and shard
+abbrev pub AreSingle : {T : Type 0} → List (Restored T) → Type 0
+AreSingle [] = Unit {0}
+AreSingle {T} (t ∷ ts) = ((u : Restored T) → Has ts u → u.line ≡ t.line → u.index ≡ t.index → u.shard ≡ t.shard → ⊥) × AreSingle ts
+
+-- these are the targets of the lines that restored shards
+pub record AreTargetsOfLines {T : Type 0} (c : Telling T) (s : Start) (moment : ℕ) (lines : List ScriptLine) (log : List Moment) (targets : List (Restored T)) : Type 0 where
+  -- each is that of a shard of a line's restore
+  pub of : (t : Restored T) → Has targets t → IsTargetOfLine c s moment lines log t
+  -- each shard of a line's restore that ended well has one, with the counts that the history tells of it; so each shard of a restore that was answered ok
+  pub all : (a : AcceptedLine moment lines log) (p : IndexRef × ℕ) (files bytes : ℕ) → Has (places a.indices) p → shard_end (entries_of log) (read_shard a.op a.uuid p) ≡ Some (ShardRestored files bytes)
+      → (t : Restored T) × Has targets t × IsTargetOfShard c s moment lines log a p files bytes t
+  pub single : AreSingle targets
+  -- the shards of a line's restore are those of the snapshot on the shelf
+  pub shelved : (a : AcceptedLine moment lines log) (shelf : List Shelved) → HasShelf s log shelf → IsShelvedAs (shelf_at s shelf a.at.before) a.name a.uuid a.indices
+  -- they are in order
+  pub ordered : (found : List (Restored T)) × (targets ≡ sorted_by target_first found)
