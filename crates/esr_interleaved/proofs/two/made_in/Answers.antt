@@ -12,11 +12,11 @@ use Rattle.esr_interleaved.proofs.two.made_in.Goals as goal
 pub made-requires-clause-begun : goal.made-requires-clause-begun
 made-requires-clause-begun g c κs within =
     let k : Kept = record { cluster = c.in-Ok.opening.cluster; root = c.in-Ok.opening.root; infos = c.in-Ok.opening.infos; plan = c.in-Ok.opening.progress; next = c.in-Ok.opening.next.number } in
-    begins c.opened_worlds_track_restores.ensures (record { files = g.S.Sources.files c.args.sources.now; is_there = g.S.Sources.is_there c.args.sources.now; is_quiet = g.S.Sources.is_quiet c.args.sources.now; targets_quiet = false }) 16777216 (is_calm_by (g.D.Depot.look c.in-Ok.opening.depot).sure) (g.D.Depot.look c.args.depot) (g.D.Depot.look c.in-Ok.opening.depot) k c.in-Ok.ensures.opened c.in-Ok.ensures.listed c.only_now.ensures
+    begins c.opened_worlds_track_restores.ensures (record { files = g.S.Sources.files c.args.sources.now; is_there = g.S.Sources.is_there c.args.sources.now; is_quiet = g.S.Sources.is_quiet c.args.sources.now; targets_quiet = false; targets_told = false }) 16777216 (is_calm_by (g.D.Depot.look c.in-Ok.opening.depot).sure) (g.D.Depot.look c.args.depot) (g.D.Depot.look c.in-Ok.opening.depot) k c.in-Ok.ensures.opened c.in-Ok.ensures.listed c.only_now.ensures
 
 pub made-requires-clause-sources : goal.made-requires-clause-sources
 made-requires-clause-sources g c κs within =
-    are_sources (record { files = g.S.Sources.files c.args.sources.now; is_there = g.S.Sources.is_there c.args.sources.now; is_quiet = g.S.Sources.is_quiet c.args.sources.now; targets_quiet = false }) 16777216 (is_calm_by (g.D.Depot.look c.in-Ok.opening.depot).sure) (g.D.Depot.look c.in-Ok.opening.depot) (begun_world (now (g.D.Depot.look c.in-Ok.opening.depot)) (cluster_of c.in-Ok.opening.cluster) (root_of c.in-Ok.opening.root))
+    are_sources (record { files = g.S.Sources.files c.args.sources.now; is_there = g.S.Sources.is_there c.args.sources.now; is_quiet = g.S.Sources.is_quiet c.args.sources.now; targets_quiet = false; targets_told = false }) 16777216 (is_calm_by (g.D.Depot.look c.in-Ok.opening.depot).sure) (g.D.Depot.look c.in-Ok.opening.depot) (begun_world (now (g.D.Depot.look c.in-Ok.opening.depot)) (cluster_of c.in-Ok.opening.cluster) (root_of c.in-Ok.opening.root))
 
 pub made-requires-clause-calm : goal.made-requires-clause-calm
 made-requires-clause-calm g c κs within = calm_enough (g.D.Depot.look c.in-Ok.opening.depot).sure
