@@ -1,6 +1,6 @@
 #!/usr/bin/env bash
 # Measures snapshots of a tree of SHARDS shards, MB megabytes in all, in a folder below ROOM: a first one, and a second without
-# any change; beside the kit's own sha2, sha256sum and cp -r over the same bytes, in one run. Where strace is there, the system
+# any change, and a restore of it, whose files are compared with the sources; beside the kit's own sha2, sha256sum and cp -r over the same bytes, in one run. Where strace is there, the system
 # calls that sync are counted too, in one more first and second snapshot.
 # The program must be built (`./esrepo help` builds nothing; `./esrepo list` does).
 set -euo pipefail
@@ -53,6 +53,8 @@ row 'sha256sum' 'exec sha256sum src/*/* > /dev/null'
 row 'cp -r' 'cp -r src copy && sync copy'
 row 'first snapshot' "exec $program snapshot s1 logs/$shards/src > /dev/null"
 row 'second snapshot, no change' "exec $program snapshot s2 logs/$shards/src > /dev/null"
+row 'restore' "exec $program restore s2 out > /dev/null"
+diff -r src out/logs
 row 'list' "exec $program list > /dev/null"
 row 'start-up: words that are bad' "exec $program list more > /dev/null"
 
