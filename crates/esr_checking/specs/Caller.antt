@@ -1,0 +1,23 @@
+-- What who 0 has done of a verification, after a history, and what its steps make of that.
+use Rattle.std.specs.Prelude.{List, ◌∷◌, Option, Some, None, Result, Ok, Err}
+use Rattle.esr_model.specs.Names.{BlobName}
+use Rattle.esr_model.specs.Values.{Bytes}
+use Rattle.esr_core.specs.World.{Caller}
+use Rattle.esr_core.specs.Entry.{Moment}
+use Rattle.esr_core.specs.After.{caller_told}
+use Rattle.esr_names.specs.declared.ids.Id.{Id}
+use Rattle.esr_desk.specs.declared.refusal.StepRefusal.{StepRefusal}
+use Rattle.esr_desk.specs.Start.{Start, world_of}
+
+abbrev pub caller_of : Start → List Moment → Caller
+caller_of s log = (world_of s log).caller
+
+-- an id was drawn, or none was
+abbrev pub drawn_by : Result Id StepRefusal → Caller → Caller
+drawn_by (Ok id) c = record c { drawn = Some id.number }
+drawn_by (Err e) c = c
+
+-- a blob was fetched: what is told of it is noted
+abbrev pub fetched_by : {F : Type 0} → (F → Option Bytes) → BlobName → Option F → Caller → Caller
+fetched_by left name None c = record c { fetched = name ∷ c.fetched }
+fetched_by left name (Some f) c = caller_told c name (left f)

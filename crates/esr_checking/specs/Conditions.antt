@@ -1,0 +1,35 @@
+-- What a step of a verification needs, by what who 0 has done.
+use Rattle.std.specs.Prelude.{◌≡◌, ℕ, ◌≤◌, List, length, Some, None}
+use Rattle.esr_model.specs.Names.{BlobName}
+use Rattle.esr_model.specs.Values.{Has}
+use Rattle.esr_core.specs.World.{Caller}
+use Rattle.esr_core.specs.Restores.{IsTestOf}
+
+-- the name is that of a test blob under the id that was drawn
+pub record IsOwn (c : Caller) (name : BlobName) : Type 0 where
+  pub id : ℕ
+  pub drawn : c.drawn ≡ Some id
+  pub test : IsTestOf id name
+
+-- each test blob is committed once
+pub record CanCommit (c : Caller) (name : BlobName) : Type 0 where
+  pub own : IsOwn c name
+  pub once : Has c.committed name → ⊥
+
+-- and fetched once, before it is removed
+pub record CanFetch (c : Caller) (name : BlobName) : Type 0 where
+  pub drawn : c.drawn ≡ None → ⊥
+  pub committed : Has c.committed name
+  pub unremoved : Has c.removed name → ⊥
+  pub once : Has c.fetched name → ⊥
+
+-- only test blobs that were committed are removed
+pub record CanRemove (c : Caller) (names : List BlobName) : Type 0 where
+  pub few : length names ≤ 1000
+  pub committed : (name : BlobName) → Has names name → Has c.committed name
+
+-- all was well: each test blob was there, and then was removed
+pub record CanEnd (c : Caller) : Type 0 where
+  pub drawn : c.drawn ≡ None → ⊥
+  pub found : (name : BlobName) → Has c.committed name → Has c.found name
+  pub removed : (name : BlobName) → Has c.committed name → Has c.removed name
