@@ -9,26 +9,21 @@ use std::sync::Wait;
 use std::test::Fail;
 
 /// The places, indices and files of the sources: a line each, with place, index, and names with texts.
-const SHARDS: &str = "src logs _0.cfs abc
-new logs _0.cfs xyz
+const SHARDS: &str = "src logs _0.cfs=abc
+new logs _0.cfs=xyz
 none logs
-long logs _0.cfs abcdefghi _1.cfs
-b other _0.cfs abc";
+long logs _0.cfs=abcdefghi _1.cfs=
+b other _0.cfs=abc";
 
 /// The one data blob after a snapshot of `logs/1/src`.
 const BLOB: &str = "indices/AAAAAAAAAAEAAAAAAAAAAQ/0/__AAAAAAAAAAEAAAAAAAAAAg";
 
-/// The files of a shard by their names and texts.
-fn files_of(alloc: Global, names: &str) -> Result<Seq<MemFile>, AllocError> {
+/// The files of a shard, as names and texts.
+fn files_of(alloc: Global, texts: &str) -> Result<Seq<MemFile>, AllocError> {
     let mut files = Seq::new(alloc);
-    let mut left = names;
-    while let Some((name, rest)) = left.split_once(' ') {
-        let (text, more) = rest.split_once(' ').unwrap_or((rest, ""));
-        files.push(MemFile::new(alloc, name, text.as_bytes())?)?;
-        left = more;
-    }
-    if !left.is_empty() {
-        files.push(MemFile::new(alloc, left, b"")?)?;
+    for text in texts.split_whitespace() {
+        let (name, bytes) = text.split_once('=').unwrap_or((text, ""));
+        files.push(MemFile::new(alloc, name, bytes.as_bytes())?)?;
     }
     Ok(files)
 }
@@ -36,8 +31,8 @@ fn files_of(alloc: Global, names: &str) -> Result<Seq<MemFile>, AllocError> {
 /// The shard of a line of the table.
 fn shard_of(alloc: Global, line: &str) -> Result<MemSource, AllocError> {
     let (place, rest) = line.split_once(' ').unwrap_or((line, ""));
-    let (index, names) = rest.split_once(' ').unwrap_or((rest, ""));
-    let files = files_of(alloc, names)?;
+    let (index, texts) = rest.split_once(' ').unwrap_or((rest, ""));
+    let files = files_of(alloc, texts)?;
     let address = Address::new(alloc, place, index, 0)?;
     Ok(MemSource { address, files })
 }
