@@ -1,7 +1,6 @@
 -- How a run ends.
-use Rattle.std.proofs.Common.{◌≡◌, ◌⊎◌, ℕ, ◌≤◌, ◌^◌, Bool, true, false, List, [], ◌++◌, Option, Some, None, is_some, inl, inr, refl, sym, ap, ◌∙◌, subst}
+use Rattle.std.proofs.Common.{◌≡◌, ◌⊎◌, ℕ, zero, suc, ◌<◌, ◌≤◌, ◌^◌, Bool, true, false, List, [], ◌++◌, Option, Some, None, is_some, inl, inr, arith, refl, sym, ap, ◌∙◌, subst}
 use Rattle.std.specs.Prelude.{unwrap_or, ◌&&◌}
-use Rattle.std.specs.Io.KnownBytes.{Appends}
 use Rattle.esr_model.specs.Values.{Bytes}
 use Rattle.esr_core.specs.Entry.{Step, Entry, Moment}
 use Rattle.esr_core.specs.World.{World}
@@ -27,12 +26,12 @@ use Rattle.esr_desk.specs.declared.fault.Fault.{Fault}
 use Rattle.esr_run.specs.Counts.{Counts, AreShown}
 use Rattle.esr_repo.specs.Log.{log_of}
 use Rattle.esr_run.specs.Asked.{wanted_of, part_size_of}
-use Rattle.esr_run.specs.Ends.{RunEnd, BadWords, Unreadable, BadScript, BadLine, OpenFault, Damaged, NoTerm, Carried}
+use Rattle.esr_run.specs.Ends.{RunEnd, BadWords, Unreadable, BadScript, BadLine, OpenFault, Damaged, NoTerm, Carried, exit_of, text_of}
 use Rattle.esr_run.specs.Faults.{listed, fetch_of, HasFetch}
 use Rattle.esr_run.specs.Start.{Telling, formats_by, start_of, LegalRun}
 use Rattle.esr_run.specs.Laws.{Laws}
 use Rattle.esr_run.specs.Stops.{StoppedBy}
-use Rattle.esr_run.specs.Causes.{Given, IsScript, IsOpenedRun, IsUntouched, IsUnopened, IsRunOf, IsCauseOf, IsOpenCause, IsVerdict, IsTold, IsPrinted, IsEndOf, end_of_refusal}
+use Rattle.esr_run.specs.Causes.{Given, IsScript, IsOpenedRun, IsUntouched, IsUnopened, IsRunOf, IsCauseOf, IsOpenCause, IsTextOf, IsVerdict, IsTold, exit_unprinted, IsPrinted, IsEndOf, end_of_refusal}
 use Rattle.esr_run.proofs.Worlds.{begun_world, start_is}
 use Rattle.esr_run.proofs.Keeping.{untouched_kept, refused_kept, every_image_kept, answers_stay}
 
@@ -178,13 +177,35 @@ run_opened count given files size lines before after old_faults new_faults histo
 
 -- ---- printed
 
+-- a status above 1 goes before that of a failed write
+pub goes_before : (n : ℕ) → 1 < n → n ≡ exit_unprinted n
+goes_before zero above = omega (arith, above)
+goes_before (suc zero) above = omega (arith, above)
+goes_before (suc (suc n)) above = refl
+
+-- and 0 and 1 don't
+pub goes_behind : (n : ℕ) → n ≤ 1 → 5 ≡ exit_unprinted n
+goes_behind zero le = refl
+goes_behind (suc zero) le = refl
+goes_behind (suc (suc n)) le = omega (arith, le)
+
+-- that of a run for which there was no memory stays
+pub stays_wanting : (status wanted : ℕ) (text : Bytes) (old new : Option Bytes) (old_faults new_faults : ℕ)
+    → IsPrinted status wanted text old new old_faults new_faults → wanted ≡ 8 → status ≡ 8
+stays_wanting status wanted text old new old_faults new_faults (inl done) wanting = done.0 ∙ wanting
+stays_wanting status wanted text old new old_faults new_faults (inr cut) wanting = cut.status_is ∙ ap exit_unprinted wanting
+
+ended : (status wanted : ℕ) (text : Bytes) (old new : Option Bytes) (old_faults new_faults : ℕ) (Cause : RunEnd → Type 0) (v : IsTextOf wanted text Cause)
+    → IsPrinted status wanted text old new old_faults new_faults → IsPrinted status (exit_of v.end) (text_of v.end) old new old_faults new_faults
+ended status wanted text old new old_faults new_faults Cause v is =
+    subst (λ (n : ℕ). IsPrinted status n (text_of v.end) old new old_faults new_faults) v.status_is
+        (subst (λ (t : Bytes). IsPrinted status wanted t old new old_faults new_faults) v.text_is is)
+
 pub printed : (status wanted : ℕ) (text : Bytes) (old new : Option Bytes) (old_faults new_faults : ℕ) (Cause : RunEnd → Type 0)
     → IsVerdict wanted text Cause → IsPrinted status wanted text old new old_faults new_faults → IsEndOf status old new old_faults new_faults Cause
-printed status wanted text old new old_faults new_faults Cause verdict (inl wanting) = inl wanting.0
-printed status wanted text old new old_faults new_faults Cause verdict (inr (inl failed)) = inr (inl failed)
-printed status wanted text old new old_faults new_faults Cause (inl wanting) (inr (inr done)) = inl (done.0 ∙ wanting)
-printed status wanted text old new old_faults new_faults Cause (inr v) (inr (inr done)) =
-    inr (inr (record { end = v.end; status_is = done.0 ∙ v.status_is; text_is = subst (Appends old new) v.text_is done.1; cause = v.cause }))
+printed status wanted text old new old_faults new_faults Cause (inl wanting) is = inl (stays_wanting status wanted text old new old_faults new_faults is wanting)
+printed status wanted text old new old_faults new_faults Cause (inr v) is =
+    inr (record { end = v.end; cause = v.cause; printed = ended status wanted text old new old_faults new_faults Cause v is })
 
 -- ---- the objects that failed
 

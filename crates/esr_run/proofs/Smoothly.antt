@@ -186,7 +186,6 @@ complete_wanting count given files reader before after old_out new_out history f
 
 pub complete_printed : {S F H T : Type 0} (count : Counts S F H T) (given : Given) (files : Telling) (reader : ℕ) (before after : Look) (old_out new_out : ℕ) (history : List Entry) (faults : List (Fault S F H T)) (status wanted : ℕ) (text : Bytes) (old new : Option Bytes)
     → IsComplete count given files reader before after old_out new_out history faults wanted → IsPrinted status wanted text old new old_out new_out → IsComplete count given files reader before after old_out new_out history faults status
-complete_printed count given files reader before after old_out new_out history faults status wanted text old new complete (inl wanting) lines smooth = inl wanting.0
-complete_printed count given files reader before after old_out new_out history faults status wanted text old new complete (inr (inl failed)) lines smooth = absurd (smooth.printed failed.1)
-complete_printed {S} {F} {H} {T} count given files reader before after old_out new_out history faults status wanted text old new complete (inr (inr done)) lines smooth =
+complete_printed {S} {F} {H} {T} count given files reader before after old_out new_out history faults status wanted text old new complete (inl done) lines smooth =
     subst (λ (n : ℕ). IsComplete {S = S} {F = F} {H = H} {T = T} count given files reader before after old_out new_out history faults n) (sym done.0) complete lines smooth
+complete_printed count given files reader before after old_out new_out history faults status wanted text old new complete (inr cut) lines smooth = absurd (smooth.printed cut.cause)

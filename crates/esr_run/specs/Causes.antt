@@ -1,5 +1,5 @@
 -- Why a run ended as it did.
-use Rattle.std.specs.Prelude.{◌≡◌, ◌⊎◌, ℕ, ◌^◌, ◌≤◌, Bool, true, List, [], ◌++◌, Option, Some, None, Ok, Err}
+use Rattle.std.specs.Prelude.{◌≡◌, ◌⊎◌, ℕ, zero, suc, ◌^◌, ◌≤◌, Bool, true, List, [], ◌++◌, Option, Some, None, Ok, Err}
 use Rattle.std.specs.Io.KnownBytes.{Appends}
 use Rattle.esr_model.specs.Values.{Bytes}
 use Rattle.esr_core.specs.World.{World, Opened}
@@ -180,17 +180,39 @@ IsCauseOf count given files reader before after old_faults new_faults history fa
 IsCauseOf count given files reader before after old_faults new_faults history faults BadScript = IsUntouched files before after history faults × IsStopped given reader BadScript
 IsCauseOf count given files reader before after old_faults new_faults history faults (BadLine number) = IsUntouched files before after history faults × IsStopped given reader (BadLine number)
 
--- the run ended so, and printed that, for its cause
-pub record EndedAs (status : ℕ) (old new : Option Bytes) (Cause : RunEnd → Type 0) : Type 0 where
-  pub end : RunEnd
-  pub status_is : status ≡ exit_of end
-  pub text_is : Appends old new (text_of end)
-  pub cause : Cause end
+-- the output took the front of the text
+pub record TookFront (old new : Option Bytes) (text : Bytes) : Type 0 where
+  pub front : Bytes
+  pub rest : Bytes
+  pub whole : text ≡ front ++ rest
+  pub took : Appends old new front
 
--- Memory was wanting, with status 8; or a write failed, which the output counts, with status 5; or it ended with its text.
+-- The status where a write failed: 5 goes before 0 and 1, and the others go before 5.
+abbrev pub exit_unprinted : ℕ → ℕ
+exit_unprinted zero = 5
+exit_unprinted (suc zero) = 5
+exit_unprinted (suc (suc n)) = suc (suc n)
+
+-- A write failed, which the output counts: it took the front of the text.
+pub record IsUnprinted (status wanted : ℕ) (text : Bytes) (old new : Option Bytes) (old_faults new_faults : ℕ) : Type 0 where
+  pub status_is : status ≡ exit_unprinted wanted
+  pub cause : HasCause old_faults new_faults true
+  pub front : TookFront old new text
+
+-- the whole text was printed and the status is the wanted one, or a write failed
+abbrev pub IsPrinted : ℕ → ℕ → Bytes → Option Bytes → Option Bytes → ℕ → ℕ → Type 0
+IsPrinted status wanted text old new old_faults new_faults =
+    ((status ≡ wanted) × Appends old new text) ⊎ IsUnprinted status wanted text old new old_faults new_faults
+
+-- the run ended so, for its cause, and that was printed
+pub record EndedAs (status : ℕ) (old new : Option Bytes) (old_faults new_faults : ℕ) (Cause : RunEnd → Type 0) : Type 0 where
+  pub end : RunEnd
+  pub cause : Cause end
+  pub printed : IsPrinted status (exit_of end) (text_of end) old new old_faults new_faults
+
+-- Memory was wanting, with status 8; or it ended in one of its ways.
 abbrev pub IsEndOf : ℕ → Option Bytes → Option Bytes → ℕ → ℕ → (RunEnd → Type 0) → Type 0
-IsEndOf status old new old_faults new_faults Cause =
-    (status ≡ 8) ⊎ (((status ≡ 5) × HasCause old_faults new_faults true) ⊎ EndedAs status old new Cause)
+IsEndOf status old new old_faults new_faults Cause = (status ≡ 8) ⊎ EndedAs status old new old_faults new_faults Cause
 
 -- before it is printed
 pub record IsTextOf (status : ℕ) (text : Bytes) (Cause : RunEnd → Type 0) : Type 0 where
@@ -205,11 +227,6 @@ IsVerdict status text Cause = (status ≡ 8) ⊎ IsTextOf status text Cause
 -- by how the code says that it ended; None: memory was wanting
 abbrev pub IsTold : ℕ → Bytes → Option RunEnd → Type 0
 IsTold status text end = (status ≡ 8) ⊎ ((status ≡ exit_at end) × (text ≡ text_at end))
-
--- memory was wanting, or it was printed, or a write failed
-abbrev pub IsPrinted : ℕ → ℕ → Bytes → Option Bytes → Option Bytes → ℕ → ℕ → Type 0
-IsPrinted status wanted text old new old_faults new_faults =
-    ((status ≡ 8) × (wanted ≡ 8)) ⊎ (((status ≡ 5) × HasCause old_faults new_faults true) ⊎ ((status ≡ wanted) × Appends old new text))
 
 -- the same as why a run ended so, from the opening of the container on
 abbrev pub IsOpenCause : {S F H T : Type 0} → Counts S F H T → Telling → ℕ → ℕ → Look → Look → ℕ → ℕ → List ScriptLine → List Entry → List (Fault S F H T) → RunEnd → Type 0

@@ -5,7 +5,7 @@ ghost use Rattle.esr_depot.specs.Calls.{HasCause};
 ghost use Rattle.esr_desk.specs.Entries.{step_of};
 ghost use Rattle.esr_report.specs.Replies.{replies};
 ghost use Rattle.esr_run.specs.Ends.{Carried};
-ghost use Rattle.esr_run.specs.Causes.{IsTold, IsPrinted};
+ghost use Rattle.esr_run.specs.Causes.{IsTold, exit_unprinted, TookFront, IsPrinted};
 ghost use Rattle.esr_run.specs.Stops.{end_of};
 ghost use Rattle.std.specs.Prelude.{Some, IfOk};
 
@@ -66,8 +66,9 @@ pub(crate) fn reported(alloc: Global, script: &Script, history: &History) -> Ver
     }
 }
 
-/// Writes the whole text, and answers whether it could.
+/// Writes the whole text, and answers whether it could; if not, the front of it was written.
 fn print<O: Out>(out: &mut O, text: &[u8]) -> bool
+    ensures front { TookFront (O.contents out.old) (O.contents out.new) text.now }
     ensures written { result ≡ true → Appends (O.contents out.old) (O.contents out.new) text.now }
     ensures cause { HasCause (O.faults out.old) (O.faults out.new) (not result) }
 {
@@ -81,16 +82,20 @@ fn print<O: Out>(out: &mut O, text: &[u8]) -> bool
     true
 }
 
-/// Prints the text of a verdict, and answers the exit status. That of a run for which there was no memory stays.
+/// The exit status where a write failed: 5 in place of 0 and 1.
+fn exit_unprinted(status: u8) -> u8
+    ensures { result ≡ exit_unprinted status }
+{
+    if status > 1 { status } else { 5 }
+}
+
+/// Prints the text of a verdict, and answers the exit status.
 pub(crate) fn print_verdict<O: Out>(out: &mut O, verdict: &Verdict) -> u8
     ensures printed { IsPrinted result verdict.now.status verdict.now.text (O.contents out.old) (O.contents out.new) (O.faults out.old) (O.faults out.new) }
-    ensures wanting { verdict.now.status ≡ 8 → result ≡ 8 }
 {
     if print(out, verdict.text.as_slice()) {
         verdict.status
-    } else if verdict.status == 8 {
-        8
     } else {
-        5
+        exit_unprinted(verdict.status)
     }
 }

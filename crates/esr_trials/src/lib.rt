@@ -21,3 +21,5 @@ mod restored;
 mod setting;
 #[cfg(test)]
 mod streams;
+#[cfg(test)]
+mod unprinted;

@@ -1,6 +1,6 @@
 use Rattle.esr_run.specs.Causes.{Given, IsCauseOf}
 use Rattle.esr_run.proofs.Smoothly.{complete_printed}
-use Rattle.esr_run.proofs.Ending.{printed}
+use Rattle.esr_run.proofs.Ending.{printed, stays_wanting}
 use Rattle.esr_run.proofs.Restoring.{restored_printed}
 use Rattle.esr_run.proofs.whole.run.Goals as goal
 
@@ -25,4 +25,5 @@ returns-clause-restored g c =
     let given : Given = record { words = c.args.words.now; script = g.I.Lines.left c.args.script.now; faults = g.I.Counted.faults c.args.script.now; moment = c.args.moment } in
     let r = c.carry_out-done.result.0 in
     restored_printed _ given (record { files = g.S.Sources.files c.args.sources.now; is_there = g.S.Sources.is_there c.args.sources.now; is_quiet = g.S.Sources.is_quiet c.args.sources.now; targets_quiet = g.T.Targets.is_quiet c.args.targets.now; targets_told = g.T.Targets.is_told c.args.targets.now }) (g.D.Depot.look c.args.depot) (g.D.Depot.look r.depot) r.history c.carry_out-done.result.1 r.targets
-    c.print_verdict-status.result r.verdict.status c.carry_out-done.ensures.restored c.print_verdict-status.ensures.wanting
+    c.print_verdict-status.result r.verdict.status c.carry_out-done.ensures.restored
+    (stays_wanting c.print_verdict-status.result r.verdict.status r.verdict.text (g.O.Out.contents c.args.out.now) (g.O.Out.contents c.print_verdict-status.new.out) (g.O.Counted.faults c.args.out.now) (g.O.Counted.faults c.print_verdict-status.new.out) c.print_verdict-status.ensures.printed)
