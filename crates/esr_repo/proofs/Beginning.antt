@@ -2,12 +2,13 @@
 use Rattle.std.proofs.Common.{◌≡◌, ℕ, ◌-◌, ◌^◌, ◌≤◌, [], Some, None, sym, ap, ◌∙◌, subst, arith, nat_cmp}
 use Rattle.std.specs.FinMap.{FinMap}
 use Rattle.std.specs.FinMap as fin
-use Rattle.esr_core.specs.World.{World, Ticket}
+use Rattle.esr_model.specs.Values.{Has}
+use Rattle.esr_core.specs.World.{World, Ticket, Caller, no_caller}
 use Rattle.esr_depot.specs.Image.{Image as Held}
 use Rattle.esr_depot.specs.Look.{Look}
 use Rattle.esr_desk.specs.Start.{Start}
 use Rattle.esr_opening.specs.Opening.{Kept}
-use Rattle.esr_repo.specs.Repo.{NoDeleting, IsRepo}
+use Rattle.esr_repo.specs.Repo.{NoDeleting, AreTests, IsRepo}
 use Rattle.esr_repo.specs.Begun.{IsBegun}
 
 -- no ticket was given
@@ -16,6 +17,10 @@ no_deleting w none k t uuids plan there work = never t (sym (fin.get-empty nat_c
   where
     never : (t : Ticket) → None ≡ Some t → ⊥
     never t q = cc
+
+-- nothing was committed
+no_tests : (w : World) → w.caller ≡ no_caller → AreTests w.caller
+no_tests w none name has = absurd (subst (λ (c : Caller). Has c.committed name) none has)
 
 pub begun_repo : (l : Look) (s : Start) (clock : ℕ) (past : ℕ → Held → Type 0) (k : Kept) → IsBegun s clock past l k → IsRepo l s clock [] k None
 begun_repo l s clock past k b =
@@ -34,6 +39,7 @@ begun_repo l s clock past k b =
             no_deletes = b.order.no_deletes;
             no_deleting = no_deleting s.world b.no_tickets;
             read_tracked = b.read_tracked;
+            tests = no_tests s.world b.uncalled;
             few_ops = omega arith;
             few_tickets = omega arith;
           };

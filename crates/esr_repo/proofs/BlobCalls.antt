@@ -8,13 +8,12 @@ use Rattle.std.specs.FinMap.{FinMap, nat_cmp-IsAntisymmetric}
 use Rattle.std.specs.FinMap as fin
 use Rattle.esr_model.specs.Names.{BlobName, Latest}
 use Rattle.esr_model.specs.Values.{Bytes, ReadsBack, Formats}
-use Rattle.esr_model.specs.Image.{Blobs, Image, IsStored}
+use Rattle.esr_model.specs.Image.{Blobs, Image}
 use Rattle.esr_core.specs.World.{World, Ticket, Reader, record_of}
 use Rattle.esr_core.specs.Steps.{noting}
-use Rattle.esr_core.specs.Entry.{ReadBlob, Step, Reply, BeginStep, CommitStep, LatestStep, FetchStep, ReadStep, WasBegun, WasDone, WasThere, WasReplaced, WasFetched, WasAbsent, Refused, DepotFault, NameTaken, Entry, Moment}
-use Rattle.esr_core.specs.After.{with_given, change, told_blob, committing, fetching, read_told, swaps_record, is_latest, tried, faulted, answered, blobs_in, after}
+use Rattle.esr_core.specs.Entry.{ReadBlob, BeginTest, CommitTest, Step, Reply, BeginStep, CommitStep, LatestStep, FetchStep, ReadStep, WasBegun, WasDone, WasThere, WasReplaced, WasFetched, WasAbsent, Refused, DepotFault, NameTaken, Entry, Moment}
+use Rattle.esr_core.specs.After.{with_given, change, told_blob, committing, fetching, read_told, swaps_record, is_latest, tried, test_left, faulted, answered, blobs_in, after}
 use Rattle.esr_core.specs.Allowed.{Allows, Told, IsMetadata, Allowed}
-use Rattle.esr_core.specs.Allowed as allowed
 use Rattle.esr_core.specs.Left.{Leaves}
 use Rattle.esr_depot.specs.declared.error.CallError.{CallError}
 use Rattle.esr_depot.specs.declared.error.CallError.TheVariants.{Memory, Failed}
@@ -36,7 +35,7 @@ use Rattle.esr_desk.specs.Conditions.{Holds}
 use Rattle.esr_repo.specs.Log.{image_of, asks_container, calls, log_of}
 use Rattle.esr_repo.specs.Repo.{Kept, TellsSo, IsSteady, IsRepo}
 use Rattle.esr_repo.specs.Next.{Added, IsLive}
-use Rattle.esr_repo.specs.May.{CanTell, IsFetch, Same, IsNamed, MayBegin, IsThere, IsAdded, MayCommit, IsPut, MayReplace, IsFound, MayFetch}
+use Rattle.esr_repo.specs.May.{CanTell, IsBegin, IsCommit, IsFetch, Same, IsNamed, MayBegin, IsThere, IsAdded, MayCommit, IsPut, MayReplace, IsFound, MayFetch}
 use Rattle.esr_repo.specs.Laws.{Laws}
 use Rattle.esr_repo.specs.Grown.{legal_step}
 use Rattle.esr_repo.proofs.InfosStay.{IsPlain as LeavesInfos}
@@ -127,7 +126,7 @@ pub record Idles (w new : World) : Type 0 where
   pub plan : (p : Plan) → IsPlanOf w p → IsPlanOf new p
   pub next : new.next_id ≡ w.next_id
 
-idles_same : (w : World) → Idles w w
+pub idles_same : (w : World) → Idles w w
 idles_same w = record { plan = λ p h. h; next = refl }
 
 tied : (r : Ordering) → is_eq r ≡ true → r ≡ Equal
@@ -168,6 +167,79 @@ idles_tried w k = idles_change w k (λ t. record t { tried_latest = true }) (λ 
 idles_either : (w a : World) (first : Bool) → Idles w a → Idles w (if first then a else w)
 idles_either w a true h = h
 idles_either w a false h = idles_same w
+
+-- ---- a step that begins or commits a blob
+
+begin_no_swap : (step : Step) (name : BlobName) → IsBegin step name → swaps_record step ≡ false
+begin_no_swap (BeginStep it) name h = refl
+begin_no_swap (ReadStep (BeginTest it)) name h = refl
+begin_no_swap step name h = absurd h
+
+begin_asks : (step : Step) (name : BlobName) → IsBegin step name → asks_container step ≡ true
+begin_asks (BeginStep it) name h = refl
+begin_asks (ReadStep (BeginTest it)) name h = refl
+begin_asks step name h = absurd h
+
+begin_leaves : (step : Step) (name : BlobName) (reply : Reply) → IsBegin step name → LeavesInfos step reply
+begin_leaves (BeginStep it) name reply h = tt
+begin_leaves (ReadStep (BeginTest it)) name reply h = tt
+begin_leaves step name reply h = absurd h
+
+idles_begun : (f : Formats) (w : World) (k : ℕ) (step : Step) (name : BlobName) (image : Option Image) → IsBegin step name → Idles w (answered f w k step WasBegun image)
+idles_begun f w k (BeginStep it) name image h = idles_same w
+idles_begun f w zero (ReadStep (BeginTest it)) name image h = idles_same w
+idles_begun f w (suc k) (ReadStep (BeginTest it)) name image h = idles_same w
+idles_begun f w k step name image h = absurd h
+
+idles_unbegun : (f : Formats) (w : World) (k : ℕ) (step : Step) (name : BlobName) (image : Option Image) → IsBegin step name → Idles w (faulted f w k step image)
+idles_unbegun f w k (BeginStep it) name image h = idles_either w (tried w k) (is_latest it) (idles_tried w k)
+idles_unbegun f w k (ReadStep (BeginTest it)) name image h = idles_same w
+idles_unbegun f w k step name image h = absurd h
+
+commit_no_swap : (step : Step) (name : BlobName) → IsCommit step name → swaps_record step ≡ false
+commit_no_swap (CommitStep it) name h = refl
+commit_no_swap (ReadStep (CommitTest it)) name h = refl
+commit_no_swap step name h = absurd h
+
+commit_asks : (step : Step) (name : BlobName) → IsCommit step name → asks_container step ≡ true
+commit_asks (CommitStep it) name h = refl
+commit_asks (ReadStep (CommitTest it)) name h = refl
+commit_asks step name h = absurd h
+
+commit_leaves : (step : Step) (name : BlobName) (reply : Reply) → IsCommit step name → LeavesInfos step reply
+commit_leaves (CommitStep it) name reply h = tt
+commit_leaves (ReadStep (CommitTest it)) name reply h = tt
+commit_leaves step name reply h = absurd h
+
+-- the names that may be removed are in no plan
+idles_doomed : (w : World) (doomed : List BlobName) → Idles w (record w { doomed = doomed })
+idles_doomed w doomed =
+    record {
+      plan = λ p h. record { ops = h.ops; deletes = h.deletes; completed = h.completed; seats = h.seats; next_op = h.next_op; next_ticket = h.next_ticket; restores = h.restores; restore_count = h.restore_count; readers = h.readers };
+      next = refl;
+    }
+
+idles_left : (w : World) (name : BlobName) (was now : Option Bytes) → Idles w (test_left w name was now)
+idles_left w name None (Some bytes) = idles_doomed w (name ∷ w.doomed)
+idles_left w name None None = idles_same w
+idles_left w name (Some was) now = idles_same w
+
+idles_committed : (f : Formats) (w : World) (k : ℕ) (step : Step) (name : BlobName) (image : Option Image) → IsCommit step name → Idles w (answered f w k step WasDone image)
+idles_committed f w k (CommitStep it) name image h = idles_change w k (committing it (told_blob f image it)) (seat_committing it (told_blob f image it))
+idles_committed f w zero (ReadStep (CommitTest it)) name image h = idles_doomed w (it ∷ w.doomed)
+idles_committed f w (suc k) (ReadStep (CommitTest it)) name image h = idles_same w
+idles_committed f w k step name image h = absurd h
+
+idles_there : (f : Formats) (w : World) (k : ℕ) (step : Step) (name : BlobName) (image : Option Image) → IsCommit step name → Idles w (answered f w k step WasThere image)
+idles_there f w k (CommitStep it) name image h = idles_change w k (λ t. noting t it) (λ t. refl)
+idles_there f w zero (ReadStep (CommitTest it)) name image h = idles_same w
+idles_there f w (suc k) (ReadStep (CommitTest it)) name image h = idles_same w
+idles_there f w k step name image h = absurd h
+
+idles_uncommitted : (f : Formats) (w : World) (k : ℕ) (step : Step) (name : BlobName) (image : Option Image) → IsCommit step name → Idles w (faulted f w k step image)
+idles_uncommitted f w k (CommitStep it) name image h = idles_same w
+idles_uncommitted f w k (ReadStep (CommitTest it)) name image h = idles_left w it (fin.get w.blobs (f.names.text it)) (told_blob f image it)
+idles_uncommitted f w k step name image h = absurd h
 
 -- ---- a step that fetches a blob
 
@@ -256,10 +328,10 @@ told_of None P h = tt
 told_of (Some i) P h = h i refl
 
 -- the text of a name, and that it reads back
-names_text : (s : Start) (nm : BlobName) → name_kind.text nm ≡ (formats_of s).names.text nm
+pub names_text : (s : Start) (nm : BlobName) → name_kind.text nm ≡ (formats_of s).names.text nm
 names_text s nm = ap (λ kind. kind.text nm) (sym (names_are s))
 
-named_of : (s : Start) (nm : BlobName) → ReadsBack name_kind nm → IsNamed s nm
+pub named_of : (s : Start) (nm : BlobName) → ReadsBack name_kind nm → IsNamed s nm
 named_of s nm back = subst (λ kind. ReadsBack kind nm) (sym (names_are s)) back
 
 -- `index.latest` reads back
@@ -273,10 +345,6 @@ latest_named name text named is = named ∙ ap (λ n. name_kind.text n) is
 -- a call that failed
 pub failed_is : {T : Type 0} (old new : Look) (ok : T → Change) (may : Change) (error : CallError) → error ≡ Failed → Called old new ok may (Err error) → Passed old new may × may (now old) (now new)
 failed_is old new ok may error is c = let f = subst (λ x. Called old new ok may (Err x)) is c in (f.passed refl, f.failed refl)
-
--- what may be committed is stored
-stored_is : {f : Formats} {part_size : ℕ} {w : World} {who : ℕ} {nm : BlobName} {image : Option Image} → Allows f part_size w who (CommitStep nm) WasDone image → IsStored f nm
-stored_is (allowed.Committing k name im c adds) = c.named
 
 some_of : {A : Type 0} (o : Option A) → IsSome o → (x : A) × (o ≡ Some x)
 some_of None h = absurd cc
@@ -293,7 +361,7 @@ module _ {old : Look} {s : Start} {clock : ℕ} {es : List Entry} {k : Kept} {d 
   steady : IsSteady s seen old
   steady = steady_now old s clock es k d seen b.repo b.view
 
-  blobs_are : (i : Held) → now old ≡ Some i → i.blobs ≡ (world_of s seen).blobs
+  pub blobs_are : (i : Held) → now old ≡ Some i → i.blobs ≡ (world_of s seen).blobs
   blobs_are i e = ap (λ (x : Image). x.blobs) (steady.image i e)
 
   contents_told : (contents : Option Bytes) (bytes : Bytes) → Holds s contents bytes → (i : Held) → now old ≡ Some i → contents ≡ Some bytes
@@ -302,7 +370,7 @@ module _ {old : Look} {s : Start} {clock : ℕ} {es : List Entry} {k : Kept} {d 
   contents_untold : (contents : Option Bytes) (bytes : Bytes) → Holds s contents bytes → now old ≡ None → contents ≡ None
   contents_untold contents bytes h e = h ∙ ap (λ (t : Bool). if t then Some bytes else None) (b.repo.tells.untold e)
 
-  tell_of : (o : Option Held) → TextStays (now old) o → CanTell s (option_map image_of o)
+  pub tell_of : (o : Option Held) → TextStays (now old) o → CanTell s (option_map image_of o)
   tell_of o h = can_tell s o (λ j e. let x = was_told (now old) o h j e in b.repo.tells.told x.0 x.1)
 
   -- ---- the image that the call leaves, answered or not
@@ -323,7 +391,7 @@ module _ {old : Look} {s : Start} {clock : ℕ} {es : List Entry} {k : Kept} {d 
           ∙ text_same s seen old steady (image_of y.0) (ap (option_map image_of) y.1)
           ∙ ap (λ r. Some ((formats_of s).cluster.text r)) (sym same_record)
 
-      allowed_is : TextStays (now old) o → Allows (formats_of s) s.part_size (world_of s seen) e.who e.step e.reply (option_map image_of o) → Allowed (formats_of s) s.part_size (world_of s seen) left_then
+      pub allowed_is : TextStays (now old) o → Allows (formats_of s) s.part_size (world_of s seen) e.who e.step e.reply (option_map image_of o) → Allowed (formats_of s) s.part_size (world_of s seen) left_then
       allowed_is text allows =
           record {
             answered = inl (b.live, allows);
@@ -373,7 +441,7 @@ module _ {old : Look} {s : Start} {clock : ℕ} {es : List Entry} {k : Kept} {d 
       abbrev here : Moment
       here = record { entry = e; image = image_now new }
 
-      call_is : (may : Change) → Passed old new may → calls e.step e.reply ≡ true → TextStays (now old) (now new)
+      pub call_is : (may : Change) → Passed old new may → calls e.step e.reply ≡ true → TextStays (now old) (now new)
           → Allows (formats_of s) s.part_size (world_of s seen) e.who e.step e.reply (image_now new)
           → ((i : Held) → may (now old) (Some i) → Leaves (formats_of s) s.part_size (world_of s seen) (here ∷ []) (image_of i)) → IsCall old new s seen e
       call_is may passed called text allows cut =
@@ -385,7 +453,7 @@ module _ {old : Look} {s : Start} {clock : ℕ} {es : List Entry} {k : Kept} {d 
           }
 
       -- what is kept stays
-      call_made : LeavesInfos e.step e.reply → (mid es' : List Entry) → Pushed es mid es' e → IsCall old new s seen e → Idles (world_of s seen) (answered (formats_of s) (world_of s seen) e.who e.step e.reply (image_now new)) → Made old new s clock es es' k d seen e
+      pub call_made : LeavesInfos e.step e.reply → (mid es' : List Entry) → Pushed es mid es' e → IsCall old new s seen e → Idles (world_of s seen) (answered (formats_of s) (world_of s seen) e.who e.step e.reply (image_now new)) → Made old new s clock es es' k d seen e
       call_made leaves mid es' p c idles =
           let more = more_is es mid es' e p in
           let kept = kept_now old s clock es k d seen b.repo b.view b.live in
@@ -401,32 +469,39 @@ module _ {old : Look} {s : Start} {clock : ℕ} {es : List Entry} {k : Kept} {d 
               plan = plan_aside w (blobs_in (image_now new) (world_of s seen).blobs) w.deposed (after (formats_of s) (world_of s seen) here).caller k.plan (idles.plan k.plan kept.1.plan);
               next = kept.1.next ∙ sym idles.next;
             },
-            infos_over s (world_of s seen) here k.infos steady.tracked c.allowed leaves kept.2,
+            infos_over s (world_of s seen) here k.infos steady.tracked steady.tests c.allowed leaves kept.2,
           ))
           (λ place n. absurd (some_none place (sym n ∙ kept.0))))
 
     -- ---- a new stage
 
-    module _ (who : ℕ) (nm : BlobName) (m : MayBegin s seen who nm) (back : ReadsBack name_kind nm) where
-      pub begin_ok : {T : Type 0} (x : T) → Called old new (λ _. SameImage) SameImage (Ok x) → (mid es' : List Entry) → Pushed es mid es' (record { who = who; step = BeginStep nm; reply = WasBegun })
-          → Made old new s clock es es' k d seen (record { who = who; step = BeginStep nm; reply = WasBegun })
-      begin_ok x c mid es' p =
-          let e : Entry = record { who = who; step = BeginStep nm; reply = WasBegun } in
-          let same : now new ≡ now old = c.done in
-          call_made e refl tt mid es' p (call_is e refl SameImage (c.passed refl) refl (text_same_image (now old) (now new) same) (m.begins (named_of s nm back) (image_now new) (tell_of (now new) (text_same_image (now old) (now new) same)) (told_same (now new) same)) (same_cut (here e refl))) (idles_same (world_of s seen))
+    module _ (who : ℕ) (step : Step) (nm : BlobName) (m : MayBegin s seen who step nm) (back : ReadsBack name_kind nm) where
+      no_begin_swap : swaps_record step ≡ false
+      no_begin_swap = begin_no_swap step nm m.is
 
-      pub begin_fault : {T : Type 0} (error : CallError) → error ≡ Failed → Called {T = T} old new (λ _. SameImage) SameImage (Err error) → (mid es' : List Entry) → Pushed es mid es' (record { who = who; step = BeginStep nm; reply = Refused DepotFault })
-          → Made old new s clock es es' k d seen (record { who = who; step = BeginStep nm; reply = Refused DepotFault })
+      pub begin_ok : {T : Type 0} (x : T) → Called old new (λ _. SameImage) SameImage (Ok x) → (mid es' : List Entry) → Pushed es mid es' (record { who = who; step = step; reply = WasBegun })
+          → Made old new s clock es es' k d seen (record { who = who; step = step; reply = WasBegun })
+      begin_ok x c mid es' p =
+          let e : Entry = record { who = who; step = step; reply = WasBegun } in
+          let same : now new ≡ now old = c.done in
+          call_made e no_begin_swap (begin_leaves step nm e.reply m.is) mid es' p (call_is e no_begin_swap SameImage (c.passed refl) (begin_asks step nm m.is) (text_same_image (now old) (now new) same) (m.begins (named_of s nm back) (image_now new) (tell_of (now new) (text_same_image (now old) (now new) same)) (told_same (now new) same)) (same_cut (here e no_begin_swap)))
+          (idles_begun (formats_of s) (world_of s seen) who step nm (image_now new) m.is)
+
+      pub begin_fault : {T : Type 0} (error : CallError) → error ≡ Failed → Called {T = T} old new (λ _. SameImage) SameImage (Err error) → (mid es' : List Entry) → Pushed es mid es' (record { who = who; step = step; reply = Refused DepotFault })
+          → Made old new s clock es es' k d seen (record { who = who; step = step; reply = Refused DepotFault })
       begin_fault {T} error is c mid es' p =
-          let e : Entry = record { who = who; step = BeginStep nm; reply = Refused DepotFault } in
+          let e : Entry = record { who = who; step = step; reply = Refused DepotFault } in
           let g = failed_is {T = T} old new (λ _. SameImage) SameImage error is c in
           let same : now new ≡ now old = g.1 in
-          call_made e refl tt mid es' p (call_is e refl SameImage g.0 refl (text_same_image (now old) (now new) same) (m.fails (named_of s nm back) (image_now new) (tell_of (now new) (text_same_image (now old) (now new) same)) (told_same (now new) same)) (same_cut (here e refl)))
-          (idles_either (world_of s seen) (tried (world_of s seen) who) (is_latest nm) (idles_tried (world_of s seen) who))
+          call_made e no_begin_swap (begin_leaves step nm e.reply m.is) mid es' p (call_is e no_begin_swap SameImage g.0 refl (text_same_image (now old) (now new) same) (m.fails (named_of s nm back) (image_now new) (tell_of (now new) (text_same_image (now old) (now new) same)) (told_same (now new) same)) (same_cut (here e no_begin_swap)))
+          (idles_unbegun (formats_of s) (world_of s seen) who step nm (image_now new) m.is)
 
     -- ---- a blob that is committed
 
-    module _ (who : ℕ) (nm : BlobName) (contents : Option Bytes) (bytes : Bytes) (h : Holds s contents bytes) (m : MayCommit s seen who nm bytes) (back : ReadsBack name_kind nm) (text : Bytes) (named : text ≡ name_kind.text nm) where
+    module _ (who : ℕ) (step : Step) (nm : BlobName) (contents : Option Bytes) (bytes : Bytes) (h : Holds s contents bytes) (m : MayCommit s seen who step nm bytes) (back : ReadsBack name_kind nm) (text : Bytes) (named : text ≡ name_kind.text nm) where
+      no_commit_swap : swaps_record step ≡ false
+      no_commit_swap = commit_no_swap step nm m.is
+
       abbrev name_text : Bytes
       name_text = (formats_of s).names.text nm
 
@@ -448,20 +523,20 @@ module _ {old : Look} {s : Start} {clock : ℕ} {es : List Entry} {k : Kept} {d 
 
       -- a commit that is cut off
       commit_cut : (reply : Reply) (image : Option Image) (i : Held) → CommitMay name_text contents (now old) (Some i)
-          → Leaves (formats_of s) s.part_size (world_of s seen) (record { entry = record { who = who; step = CommitStep nm; reply = reply }; image = image } ∷ []) (image_of i)
+          → Leaves (formats_of s) s.part_size (world_of s seen) (record { entry = record { who = who; step = step; reply = reply }; image = image } ∷ []) (image_of i)
       commit_cut reply image i may =
           let left = commit_left (Some i) may in
-          inr (inl (allowed_is (Some i) (record { who = who; step = CommitStep nm; reply = Refused DepotFault }) refl left.0 (m.fails (named_of s nm back) (Some (image_of i)) (tell_of (Some i) left.0) left.1)))
+          inr (inl (allowed_is (Some i) (record { who = who; step = step; reply = Refused DepotFault }) no_commit_swap left.0 (m.fails (named_of s nm back) (Some (image_of i)) (tell_of (Some i) left.0) left.1)))
 
-      pub commit_done : (found : Commit) → found ≡ commits.Done → Called old new (Committed text contents) (CommitMay text contents) (Ok found) → (mid es' : List Entry) → Pushed es mid es' (record { who = who; step = CommitStep nm; reply = WasDone })
-          → Made old new s clock es es' k d seen (record { who = who; step = CommitStep nm; reply = WasDone }) × (told_blob (formats_of s) (image_now new) nm ≡ contents)
+      pub commit_done : (found : Commit) → found ≡ commits.Done → Called old new (Committed text contents) (CommitMay text contents) (Ok found) → (mid es' : List Entry) → Pushed es mid es' (record { who = who; step = step; reply = WasDone })
+          → Made old new s clock es es' k d seen (record { who = who; step = step; reply = WasDone }) × (told_blob (formats_of s) (image_now new) nm ≡ contents)
       commit_done found what c mid es' p =
-          let e : Entry = record { who = who; step = CommitStep nm; reply = WasDone } in
+          let e : Entry = record { who = who; step = step; reply = WasDone } in
           let c' = of_name (Ok commits.Done) (subst (λ x. Called old new (Committed text contents) (CommitMay text contents) (Ok x)) what c) in
           let is : now new ≡ put_known (now old) name_text contents = c'.done.0 in (
-            call_made e refl tt mid es' p
-                (call_is e refl (CommitMay name_text contents) (c'.passed refl) refl (text_put (now new) name_text contents bytes h is) (m.commits (named_of s nm back) (image_now new) (tell_of (now new) (text_put (now new) name_text contents bytes h is)) (told_of (now new) (IsAdded s seen nm bytes) (told_added (now new) is c'.done.1))) (commit_cut WasDone (image_now new)))
-                (idles_change (world_of s seen) who (committing nm (told_blob (formats_of s) (image_now new) nm)) (seat_committing nm (told_blob (formats_of s) (image_now new) nm))),
+            call_made e no_commit_swap (commit_leaves step nm e.reply m.is) mid es' p
+                (call_is e no_commit_swap (CommitMay name_text contents) (c'.passed refl) (commit_asks step nm m.is) (text_put (now new) name_text contents bytes h is) (m.commits (named_of s nm back) (image_now new) (tell_of (now new) (text_put (now new) name_text contents bytes h is)) (told_of (now new) (IsAdded s seen nm bytes) (told_added (now new) is c'.done.1))) (commit_cut WasDone (image_now new)))
+                (idles_committed (formats_of s) (world_of s seen) who step nm (image_now new) m.is),
             blob_put (now new) nm contents bytes h is,
           )
 
@@ -469,37 +544,37 @@ module _ {old : Look} {s : Start} {clock : ℕ} {es : List Entry} {k : Kept} {d 
       told_there same taken i e =
           let was : now old ≡ Some i = sym same ∙ e in
           let found = some_of (blob i name_text) (taken i was) in (
-            (found.0, (ap (λ (x : Blobs). fin.get x name_text) (sym (blobs_are i was)) ∙ found.1, stored_is (m.commits (named_of s nm back) None (can_tell s None (λ i e. absurd (some_none i (sym e)))) tt))),
+            (found.0, (ap (λ (x : Blobs). fin.get x name_text) (sym (blobs_are i was)) ∙ found.1, (named_of s nm back, m.stored))),
             blobs_are i was,
           )
 
-      pub commit_found : (found : Commit) → found ≡ commits.Exists → Called old new (Committed text contents) (CommitMay text contents) (Ok found) → IsMetadata nm → (mid es' : List Entry) → Pushed es mid es' (record { who = who; step = CommitStep nm; reply = WasThere })
-          → Made old new s clock es es' k d seen (record { who = who; step = CommitStep nm; reply = WasThere })
+      pub commit_found : (found : Commit) → found ≡ commits.Exists → Called old new (Committed text contents) (CommitMay text contents) (Ok found) → IsMetadata nm → (mid es' : List Entry) → Pushed es mid es' (record { who = who; step = step; reply = WasThere })
+          → Made old new s clock es es' k d seen (record { who = who; step = step; reply = WasThere })
       commit_found found what c metadata mid es' p =
-          let e : Entry = record { who = who; step = CommitStep nm; reply = WasThere } in
+          let e : Entry = record { who = who; step = step; reply = WasThere } in
           let c' = of_name (Ok commits.Exists) (subst (λ x. Called old new (Committed text contents) (CommitMay text contents) (Ok x)) what c) in
           let same : now new ≡ now old = c'.done.0 in
-          call_made e refl tt mid es' p
-          (call_is e refl (CommitMay name_text contents) (c'.passed refl) refl (text_same_image (now old) (now new) same) (m.finds (named_of s nm back) metadata (image_now new) (tell_of (now new) (text_same_image (now old) (now new) same)) (told_of (now new) (IsThere s seen nm) (told_there same c'.done.1))) (commit_cut WasThere (image_now new)))
-          (idles_change (world_of s seen) who (λ t. noting t nm) (λ t. refl))
+          call_made e no_commit_swap (commit_leaves step nm e.reply m.is) mid es' p
+          (call_is e no_commit_swap (CommitMay name_text contents) (c'.passed refl) (commit_asks step nm m.is) (text_same_image (now old) (now new) same) (m.finds (named_of s nm back) metadata (image_now new) (tell_of (now new) (text_same_image (now old) (now new) same)) (told_of (now new) (IsThere s seen nm) (told_there same c'.done.1))) (commit_cut WasThere (image_now new)))
+          (idles_there (formats_of s) (world_of s seen) who step nm (image_now new) m.is)
 
-      pub commit_taken : (found : Commit) → found ≡ commits.Exists → Called old new (Committed text contents) (CommitMay text contents) (Ok found) → (IsMetadata nm → ⊥) → (mid es' : List Entry) → Pushed es mid es' (record { who = who; step = CommitStep nm; reply = Refused (NameTaken nm) })
-          → Made old new s clock es es' k d seen (record { who = who; step = CommitStep nm; reply = Refused (NameTaken nm) })
+      pub commit_taken : (found : Commit) → found ≡ commits.Exists → Called old new (Committed text contents) (CommitMay text contents) (Ok found) → (IsMetadata nm → ⊥) → (mid es' : List Entry) → Pushed es mid es' (record { who = who; step = step; reply = Refused (NameTaken nm) })
+          → Made old new s clock es es' k d seen (record { who = who; step = step; reply = Refused (NameTaken nm) })
       commit_taken found what c other mid es' p =
-          let e : Entry = record { who = who; step = CommitStep nm; reply = Refused (NameTaken nm) } in
+          let e : Entry = record { who = who; step = step; reply = Refused (NameTaken nm) } in
           let c' = of_name (Ok commits.Exists) (subst (λ x. Called old new (Committed text contents) (CommitMay text contents) (Ok x)) what c) in
           let same : now new ≡ now old = c'.done.0 in
-          call_made e refl tt mid es' p
-          (call_is e refl (CommitMay name_text contents) (c'.passed refl) refl (text_same_image (now old) (now new) same) (m.taken (named_of s nm back) other (image_now new) (tell_of (now new) (text_same_image (now old) (now new) same)) (told_of (now new) (IsThere s seen nm) (told_there same c'.done.1))) (commit_cut (Refused (NameTaken nm)) (image_now new)))
+          call_made e no_commit_swap (commit_leaves step nm e.reply m.is) mid es' p
+          (call_is e no_commit_swap (CommitMay name_text contents) (c'.passed refl) refl (text_same_image (now old) (now new) same) (m.taken (named_of s nm back) other (image_now new) (tell_of (now new) (text_same_image (now old) (now new) same)) (told_of (now new) (IsThere s seen nm) (told_there same c'.done.1))) (commit_cut (Refused (NameTaken nm)) (image_now new)))
           (idles_same (world_of s seen))
 
-      pub commit_fault : (error : CallError) → error ≡ Failed → Called old new (Committed text contents) (CommitMay text contents) (Err error) → (mid es' : List Entry) → Pushed es mid es' (record { who = who; step = CommitStep nm; reply = Refused DepotFault })
-          → Made old new s clock es es' k d seen (record { who = who; step = CommitStep nm; reply = Refused DepotFault })
+      pub commit_fault : (error : CallError) → error ≡ Failed → Called old new (Committed text contents) (CommitMay text contents) (Err error) → (mid es' : List Entry) → Pushed es mid es' (record { who = who; step = step; reply = Refused DepotFault })
+          → Made old new s clock es es' k d seen (record { who = who; step = step; reply = Refused DepotFault })
       commit_fault error is c mid es' p =
-          let e : Entry = record { who = who; step = CommitStep nm; reply = Refused DepotFault } in
+          let e : Entry = record { who = who; step = step; reply = Refused DepotFault } in
           let g = failed_is old new (Committed name_text contents) (CommitMay name_text contents) error is (of_name (Err error) c) in
           let left = commit_left (now new) g.1 in
-          call_made e refl tt mid es' p (call_is e refl (CommitMay name_text contents) g.0 refl left.0 (m.fails (named_of s nm back) (image_now new) (tell_of (now new) left.0) left.1) (commit_cut (Refused DepotFault) (image_now new))) (idles_same (world_of s seen))
+          call_made e no_commit_swap (commit_leaves step nm e.reply m.is) mid es' p (call_is e no_commit_swap (CommitMay name_text contents) g.0 refl left.0 (m.fails (named_of s nm back) (image_now new) (tell_of (now new) left.0) left.1) (commit_cut (Refused DepotFault) (image_now new))) (idles_uncommitted (formats_of s) (world_of s seen) who step nm (image_now new) m.is)
 
     -- ---- `index.latest` is replaced
 

@@ -12,7 +12,7 @@ use Rattle.esr_core.specs.World.{World, Op, ShardWork, Deleting, Shard, Drop, Sw
 use Rattle.esr_core.specs.Restores.{restore_shard}
 use Rattle.esr_core.specs.Steps.{with_ticket, noting}
 use Rattle.esr_core.specs.Entry.{Asked, Snapshot, Clone, DeleteSnapshots, Restore, Cleanup, Given, GivenShard, GivenFinalize, GivenDrop, GivenRestore, Read, ReadBlob, RestoredShard, CheckedAll, DrawTest, CommitTest, ReadFails, Step, AskStep, TakeStep, DrawStep, BeginStep, CommitStep, LatestStep, FetchStep, RaiseStep, SettleStep, DoneStep, FailedStep, FinishStep, DroppedStep, ElectStep, ReadStep, DepotFault, Reply, AcceptedRestore, DrawnFrom, Gave, WasDone, WasThere, WasFetched, HasEnded, Refused, Moment}
-use Rattle.esr_core.specs.After.{asked, taken_shard, taken_restore_shard, taken_restore, taken_by, shard_of, with_given, committing, told_blob, fetching, settled_by, settled_of, done_by, done_of, is_stale, failed_by, failed_of, dropped_of, read_told, shard_over, read_over, read_step, read_by, done_step, swaps_record, has_text, fallen, is_latest, test_left, faulted, answered, after}
+use Rattle.esr_core.specs.After.{asked, taken_shard, taken_restore_shard, taken_restore, taken_by, shard_of, with_given, committing, told_blob, fetching, settled_by, settled_of, done_by, done_of, is_stale, failed_by, failed_of, dropped_of, read_told, shard_over, read_over, read_step, read_by, done_step, swaps_record, has_text, fallen, is_latest, test_left, faulted, answered, stepped}
 use Rattle.esr_repo.specs.Log.{asks_container, calls}
 use Rattle.esr_repo.specs.Repo.{NoDeleting}
 
@@ -48,9 +48,11 @@ pub record Frame (w new : World) : Type 0 where
   pub no_deleting : NoDeleting w → NoDeleting new
   pub ops : new.next_op ≤ suc w.next_op
   pub tickets : new.next_ticket ≤ suc w.next_ticket
+  -- what who 0 has done is told by the moment
+  pub caller : new.caller ≡ w.caller
 
 frame_same : (w : World) → Frame w w
-frame_same w = record { deletes = λ e. e; no_deleting = λ h. h; ops = le_next w.next_op; tickets = le_next w.next_ticket }
+frame_same w = record { deletes = λ e. e; no_deleting = λ h. h; ops = le_next w.next_op; tickets = le_next w.next_ticket; caller = refl }
 
 abbrev NoneOf : FinMap nat_cmp Ticket → Type 0
 NoneOf tickets = (k : ℕ) (t : Ticket) (uuids : List ℕ) (plan : Option Swap) → fin.get tickets k ≡ Some t → t.work ≡ Deleting uuids plan → ⊥
@@ -69,10 +71,10 @@ put_again tickets k t v there same none = put_plain tickets k v none (λ uuids p
 
 frame_change : (w : World) (k : ℕ) (g : Ticket → Ticket) (o : Option Ticket) → fin.get w.tickets k ≡ o → ((t : Ticket) → (g t).work ≡ t.work) → Frame w (with_given w k g o)
 frame_change w k g None there same = frame_same w
-frame_change w k g (Some t) there same = record { deletes = λ e. e; no_deleting = put_again w.tickets k t (g t) there (same t); ops = le_next w.next_op; tickets = le_next w.next_ticket }
+frame_change w k g (Some t) there same = record { deletes = λ e. e; no_deleting = put_again w.tickets k t (g t) there (same t); ops = le_next w.next_op; tickets = le_next w.next_ticket; caller = refl }
 
 frame_asked : (w : World) (command : Asked) → Frame w (asked w command)
-frame_asked w (Snapshot name indices moment) = record { deletes = λ e. e; no_deleting = λ h. h; ops = le_same (suc w.next_op); tickets = le_next w.next_ticket }
+frame_asked w (Snapshot name indices moment) = record { deletes = λ e. e; no_deleting = λ h. h; ops = le_same (suc w.next_op); tickets = le_next w.next_ticket; caller = refl }
 frame_asked w command = frame_same w
 
 shard_plain : (index number : ℕ) (uuids : List ℕ) (plan : Option Swap) → Shard index number ≡ Deleting uuids plan → ⊥
@@ -83,11 +85,11 @@ drop_plain uuids plan e = cc
 
 frame_shard : (w : World) (o : ℕ) (op : Op) (base : Option ℕ) (s : Option ShardWork) → Frame w (taken_shard w o op base s)
 frame_shard w o op base None = frame_same w
-frame_shard w o op base (Some s) = record { deletes = λ e. e; no_deleting = λ h. put_plain w.tickets w.next_ticket _ h (shard_plain s.ref.id s.number); ops = le_next w.next_op; tickets = le_same (suc w.next_ticket) }
+frame_shard w o op base (Some s) = record { deletes = λ e. e; no_deleting = λ h. put_plain w.tickets w.next_ticket _ h (shard_plain s.ref.id s.number); ops = le_next w.next_op; tickets = le_same (suc w.next_ticket); caller = refl }
 
 frame_restore_shard : (w : World) (o : ℕ) (r : Restoring) (s : Option RestoreShard) → Frame w (taken_restore_shard w o r s)
 frame_restore_shard w o r None = frame_same w
-frame_restore_shard w o r (Some s) = record { deletes = λ e. e; no_deleting = λ h. h; ops = le_next w.next_op; tickets = le_same (suc w.next_ticket) }
+frame_restore_shard w o r (Some s) = record { deletes = λ e. e; no_deleting = λ h. h; ops = le_next w.next_op; tickets = le_same (suc w.next_ticket); caller = refl }
 
 frame_restore : (w : World) (o index number : ℕ) (r : Option Restoring) → Frame w (taken_restore w o index number r)
 frame_restore w o index number None = frame_same w
@@ -96,22 +98,22 @@ frame_restore w o index number (Some r) = frame_restore_shard w o r (restore_sha
 frame_taken : (f : Formats) (w : World) (o : ℕ) (unit : Given) (op : Option Op) → Frame w (taken_by f w o unit op)
 frame_taken f w o (GivenShard index number base) (Some op) = frame_shard w o op base (shard_of op.shards index number)
 frame_taken f w o (GivenShard index number base) None = frame_same w
-frame_taken f w o (GivenFinalize info results) (Some op) = record { deletes = λ e. e; no_deleting = λ h. put_plain w.tickets w.next_ticket _ h (λ uuids plan e. absurd (cc)); ops = le_next w.next_op; tickets = le_same (suc w.next_ticket) }
+frame_taken f w o (GivenFinalize info results) (Some op) = record { deletes = λ e. e; no_deleting = λ h. put_plain w.tickets w.next_ticket _ h (λ uuids plan e. absurd (cc)); ops = le_next w.next_op; tickets = le_same (suc w.next_ticket); caller = refl }
 frame_taken f w o (GivenFinalize info results) None = frame_same w
 frame_taken f w o (GivenRestore index number uuid) op = frame_restore w o index number (fin.get w.restores o)
-frame_taken f w o GivenDrop op = record { deletes = λ e. e; no_deleting = λ h. put_plain w.tickets w.next_ticket _ h drop_plain; ops = le_next w.next_op; tickets = le_same (suc w.next_ticket) }
+frame_taken f w o GivenDrop op = record { deletes = λ e. e; no_deleting = λ h. put_plain w.tickets w.next_ticket _ h drop_plain; ops = le_next w.next_op; tickets = le_same (suc w.next_ticket); caller = refl }
 frame_taken f w o unit op = frame_same w
 
 frame_drawn : (w : World) (k n : ℕ) (o : Option Ticket) → fin.get w.tickets k ≡ o → Frame w (record (with_given w k (λ t. record t { first = w.next_id; drawn = n }) o) { next_id = w.next_id + n })
-frame_drawn w k n None there = record { deletes = λ e. e; no_deleting = λ h. h; ops = le_next w.next_op; tickets = le_next w.next_ticket }
-frame_drawn w k n (Some t) there = record { deletes = λ e. e; no_deleting = put_again w.tickets k t _ there refl; ops = le_next w.next_op; tickets = le_next w.next_ticket }
+frame_drawn w k n None there = record { deletes = λ e. e; no_deleting = λ h. h; ops = le_next w.next_op; tickets = le_next w.next_ticket; caller = refl }
+frame_drawn w k n (Some t) there = record { deletes = λ e. e; no_deleting = put_again w.tickets k t _ there refl; ops = le_next w.next_op; tickets = le_next w.next_ticket; caller = refl }
 
 frame_raised : (w : World) (k : ℕ) (o : Option Ticket) → fin.get w.tickets k ≡ o → Frame w (record (with_given w k (λ t. record t { raised = Some w.pending }) o) { pending = suc w.pending })
-frame_raised w k None there = record { deletes = λ e. e; no_deleting = λ h. h; ops = le_next w.next_op; tickets = le_next w.next_ticket }
-frame_raised w k (Some t) there = record { deletes = λ e. e; no_deleting = put_again w.tickets k t _ there refl; ops = le_next w.next_op; tickets = le_next w.next_ticket }
+frame_raised w k None there = record { deletes = λ e. e; no_deleting = λ h. h; ops = le_next w.next_op; tickets = le_next w.next_ticket; caller = refl }
+frame_raised w k (Some t) there = record { deletes = λ e. e; no_deleting = put_again w.tickets k t _ there refl; ops = le_next w.next_op; tickets = le_next w.next_ticket; caller = refl }
 
 frame_settled_by : (f : Formats) (w : World) (k : ℕ) (t : Ticket) → fin.get w.tickets k ≡ Some t → (s : Option Swap) (n : Option ℕ) → Frame w (settled_by f w k t s n)
-frame_settled_by f w k t there (Some s) (Some n) = record { deletes = removed_none w.deletes t.op; no_deleting = put_again w.tickets k t _ there refl; ops = le_next w.next_op; tickets = le_next w.next_ticket }
+frame_settled_by f w k t there (Some s) (Some n) = record { deletes = removed_none w.deletes t.op; no_deleting = put_again w.tickets k t _ there refl; ops = le_next w.next_op; tickets = le_next w.next_ticket; caller = refl }
 frame_settled_by f w k t there (Some s) None = frame_same w
 frame_settled_by f w k t there None n = frame_same w
 
@@ -121,7 +123,7 @@ frame_settled f w k (Some t) there = frame_settled_by f w k t there (swap f t) t
 
 frame_done_by : (w : World) (k : ℕ) (r : ShardResult) (t : Ticket) → fin.get w.tickets k ≡ Some t → (op : Option Op) → Frame w (done_by w k r t op)
 frame_done_by w k r t there None = frame_same w
-frame_done_by w k r t there (Some op) = record { deletes = λ e. e; no_deleting = put_again w.tickets k t _ there refl; ops = le_next w.next_op; tickets = le_next w.next_ticket }
+frame_done_by w k r t there (Some op) = record { deletes = λ e. e; no_deleting = put_again w.tickets k t _ there refl; ops = le_next w.next_op; tickets = le_next w.next_ticket; caller = refl }
 
 frame_done : (w : World) (k : ℕ) (r : ShardResult) (o : Option Ticket) → fin.get w.tickets k ≡ o → Frame w (done_of w k r o)
 frame_done w k r None there = frame_same w
@@ -129,10 +131,10 @@ frame_done w k r (Some t) there = frame_done_by w k r t there (fin.get w.ops t.o
 
 frame_failed_by : (w : World) (k : ℕ) (t : Ticket) → fin.get w.tickets k ≡ Some t → (op : Option Op) → Frame w (failed_by w k t op)
 frame_failed_by w k t there None = frame_same w
-frame_failed_by w k t there (Some op) = record { deletes = λ e. e; no_deleting = put_again w.tickets k t _ there refl; ops = le_next w.next_op; tickets = le_next w.next_ticket }
+frame_failed_by w k t there (Some op) = record { deletes = λ e. e; no_deleting = put_again w.tickets k t _ there refl; ops = le_next w.next_op; tickets = le_next w.next_ticket; caller = refl }
 
 frame_ended : (w : World) (k : ℕ) (t : Ticket) → fin.get w.tickets k ≡ Some t → Frame w (with_ticket w k (record t { out = false }))
-frame_ended w k t there = record { deletes = λ e. e; no_deleting = put_again w.tickets k t _ there refl; ops = le_next w.next_op; tickets = le_next w.next_ticket }
+frame_ended w k t there = record { deletes = λ e. e; no_deleting = put_again w.tickets k t _ there refl; ops = le_next w.next_op; tickets = le_next w.next_ticket; caller = refl }
 
 frame_either : (w a b : World) (first : Bool) → Frame w a → Frame w b → Frame w (if first then a else b)
 frame_either w a b true p q = p
@@ -144,7 +146,7 @@ frame_failed w k (Some t) there = frame_either w (with_ticket w k (record t { ou
 
 frame_dropped : (w : World) (k : ℕ) (o : Option Ticket) → fin.get w.tickets k ≡ o → Frame w (dropped_of w k o)
 frame_dropped w k None there = frame_same w
-frame_dropped w k (Some t) there = record { deletes = removed_none w.deletes t.op; no_deleting = put_again w.tickets k t _ there refl; ops = le_next w.next_op; tickets = le_next w.next_ticket }
+frame_dropped w k (Some t) there = record { deletes = removed_none w.deletes t.op; no_deleting = put_again w.tickets k t _ there refl; ops = le_next w.next_op; tickets = le_next w.next_ticket; caller = refl }
 
 committing_work : (name : BlobName) (o : Option Bytes) (t : Ticket) → (committing name o t).work ≡ t.work
 committing_work name None t = refl
@@ -157,11 +159,11 @@ fetching_work name (Some bytes) t = refl
 frame_told : (w : World) (k : ℕ) (name : BlobName) (bytes : Option Bytes) (q : Option Reader) → Frame w (read_told w k name bytes q)
 frame_told w k name bytes None = frame_same w
 frame_told w k name None (Some q) = frame_same w
-frame_told w k name (Some bytes) (Some q) = record { deletes = λ e. e; no_deleting = λ h. h; ops = le_next w.next_op; tickets = le_next w.next_ticket }
+frame_told w k name (Some bytes) (Some q) = record { deletes = λ e. e; no_deleting = λ h. h; ops = le_next w.next_op; tickets = le_next w.next_ticket; caller = refl }
 
 frame_shard_over : (w : World) (k : ℕ) (state : ReadState) (q : Reader) (r : Option Restoring) → Frame w (shard_over w k state q r)
 frame_shard_over w k state q None = frame_same w
-frame_shard_over w k state q (Some r) = record { deletes = λ e. e; no_deleting = λ h. h; ops = le_next w.next_op; tickets = le_next w.next_ticket }
+frame_shard_over w k state q (Some r) = record { deletes = λ e. e; no_deleting = λ h. h; ops = le_next w.next_op; tickets = le_next w.next_ticket; caller = refl }
 
 frame_over : (w : World) (k : ℕ) (state : ReadState) (q : Option Reader) → Frame w (read_over w k state q)
 frame_over w k state None = frame_same w
@@ -177,14 +179,14 @@ frame_reading f w k read reply image = frame_same w
 
 -- who 0 has no ticket
 frame_read : (f : Formats) (w : World) (k : ℕ) (read : Read) (reply : Reply) (image : Option Image) → Frame w (read_by f w k read reply image)
-frame_read f w zero DrawTest (DrawnFrom first) image = record { deletes = λ e. e; no_deleting = λ h. h; ops = le_next w.next_op; tickets = le_next w.next_ticket }
-frame_read f w zero (CommitTest name) WasDone image = record { deletes = λ e. e; no_deleting = λ h. h; ops = le_next w.next_op; tickets = le_next w.next_ticket }
+frame_read f w zero DrawTest (DrawnFrom first) image = record { deletes = λ e. e; no_deleting = λ h. h; ops = le_next w.next_op; tickets = le_next w.next_ticket; caller = refl }
+frame_read f w zero (CommitTest name) WasDone image = record { deletes = λ e. e; no_deleting = λ h. h; ops = le_next w.next_op; tickets = le_next w.next_ticket; caller = refl }
 frame_read f w zero read reply image = frame_same w
 frame_read f w (suc k) read reply image = frame_reading f w (suc k) read reply image
 
 frame_step : (f : Formats) (w : World) (k : ℕ) (step : Step) (reply : Reply) (image : Option Image) → Frame w (done_step f w k step reply image)
 frame_step f w k (AskStep (Snapshot name indices moment)) reply image = frame_asked w (Snapshot name indices moment)
-frame_step f w k (AskStep (Restore name place)) (AcceptedRestore o uuid indices) image = record { deletes = λ e. e; no_deleting = λ h. h; ops = le_same (suc w.next_op); tickets = le_next w.next_ticket }
+frame_step f w k (AskStep (Restore name place)) (AcceptedRestore o uuid indices) image = record { deletes = λ e. e; no_deleting = λ h. h; ops = le_same (suc w.next_op); tickets = le_next w.next_ticket; caller = refl }
 frame_step f w k TakeStep (Gave ticket op unit) image = frame_taken f w op unit (fin.get w.ops op)
 frame_step f w k (DrawStep n) reply image = frame_drawn w k n (fin.get w.tickets k) refl
 frame_step f w k (CommitStep name) WasDone image = frame_change w k (committing name (told_blob f image name)) (fin.get w.tickets k) refl (committing_work name (told_blob f image name))
@@ -198,7 +200,7 @@ frame_step f w k (FailedStep why) reply image = frame_failed w k (fin.get w.tick
 frame_step f w k FinishStep reply image = frame_change w k (λ t. record t { out = false }) (fin.get w.tickets k) refl (λ t. refl)
 frame_step f w k DroppedStep reply image = frame_dropped w k (fin.get w.tickets k) refl
 frame_step f w k (ReadStep read) reply image = frame_read f w k read reply image
-frame_step f w k ElectStep reply image = record { deletes = λ e. e; no_deleting = λ h. h; ops = le_next w.next_op; tickets = le_next w.next_ticket }
+frame_step f w k ElectStep reply image = record { deletes = λ e. e; no_deleting = λ h. h; ops = le_next w.next_op; tickets = le_next w.next_ticket; caller = refl }
 frame_step f w k step reply image = frame_same w
 
 frame_tried : (w : World) (k : ℕ) → Frame w (with_given w k (λ t. record t { tried_latest = true }) (fin.get w.tickets k))
@@ -207,10 +209,10 @@ frame_tried w k = frame_change w k (λ t. record t { tried_latest = true }) (fin
 frame_fallen : (f : Formats) (w up : World) (image : Option Image) → Frame w up → Frame w (fallen f w up image)
 frame_fallen f w up image p =
     let q = frame_either w up w (has_text image (f.cluster.text (record_of up))) p (frame_same w) in
-    record { deletes = q.deletes; no_deleting = q.no_deleting; ops = q.ops; tickets = q.tickets }
+    record { deletes = q.deletes; no_deleting = q.no_deleting; ops = q.ops; tickets = q.tickets; caller = q.caller }
 
 frame_test : (w : World) (name : BlobName) (was now : Option Bytes) → Frame w (test_left w name was now)
-frame_test w name None (Some bytes) = record { deletes = λ e. e; no_deleting = λ h. h; ops = le_next w.next_op; tickets = le_next w.next_ticket }
+frame_test w name None (Some bytes) = record { deletes = λ e. e; no_deleting = λ h. h; ops = le_next w.next_op; tickets = le_next w.next_ticket; caller = refl }
 frame_test w name None None = frame_same w
 frame_test w name (Some was) now = frame_same w
 
@@ -228,15 +230,15 @@ frame_fault f w k ElectStep image = frame_fallen f w _ image (frame_step f w k E
 frame_fault f w k (ReadStep (CommitTest name)) image = frame_test w name (fin.get w.blobs (f.names.text name)) (told_blob f image name)
 frame_fault f w k step image = frame_same w
 
-frame_answered : (f : Formats) (w : World) (k : ℕ) (step : Step) (reply : Reply) (image : Option Image) → Frame w (answered f w k step reply image)
+pub frame_answered : (f : Formats) (w : World) (k : ℕ) (step : Step) (reply : Reply) (image : Option Image) → Frame w (answered f w k step reply image)
 frame_answered f w k step (Refused DepotFault) image = frame_fault f w k step image
 frame_answered f w k step (Refused refusal) image = frame_same w
 frame_answered f w k step reply image = frame_step f w k step reply image
 
-pub frame_after : (f : Formats) (w : World) (m : Moment) → Frame w (after f w m)
+pub frame_after : (f : Formats) (w : World) (m : Moment) → Frame w (stepped f w m)
 frame_after f w m =
     let q = frame_answered f w m.entry.who m.entry.step m.entry.reply m.image in
-    record { deletes = q.deletes; no_deleting = q.no_deleting; ops = q.ops; tickets = q.tickets }
+    record { deletes = q.deletes; no_deleting = q.no_deleting; ops = q.ops; tickets = q.tickets; caller = q.caller }
 
 -- ---- a step without a record swap
 

@@ -2,13 +2,13 @@
 --
 -- What is kept:
 --   WorksStay w v         each ticket of w is in v under its number, with the same work
---   BlobsStay f w v       each blob of w is in v with the same bytes
---   IsPlain step reply    the step settles nothing and removes no blob. It computes to Unit at each step but a settle and RemoveTests, whatever the reply, and at a settle with each refusal but DepotFault.
+--   InfosThere f w v      each blob of w that is the info of a snapshot is in v with the same bytes
+--   IsPlain step reply    the step settles nothing. It computes to Unit at each step but a settle, whatever the reply, and at a settle with each refusal but DepotFault.
 --   AreListed root infos  each info is of a snapshot that the root lists. AreInfosOf doesn't say so, and a settle needs it: an info of no index under the uuid of an open op would pass before the settle, and not after it.
 -- Over any two worlds:
---   infos_stay : v.root ≡ w.root → WorksStay w v → (tells ≡ true → BlobsStay f w v) → AreInfosOf f w tells infos → AreInfosOf f v tells infos
+--   infos_stay : v.root ≡ w.root → WorksStay w v → (tells ≡ true → InfosThere f w v) → AreInfosOf f w tells infos → AreInfosOf f v tells infos
 -- Over a step:
---   infos_step : Tracked w → Allowed f size w m → IsPlain m.entry.step m.entry.reply → AreInfosOf f w tells infos → AreInfosOf f (after f w m) tells infos
+--   infos_step : Tracked w → AreTests w.caller → Allowed f size w m → IsPlain m.entry.step m.entry.reply → AreInfosOf f w tells infos → AreInfosOf f (after f w m) tells infos
 --   listed_step : Tracked w → IsPlain m.entry.step m.entry.reply → AreListed w.root infos → AreListed (after f w m).root infos
 --   root_step, works_step, blobs_step : what these take of the step
 -- Over the settle of the ticket t, whose work is Finalize info results made:
@@ -35,14 +35,14 @@ use Rattle.esr_model.specs.Places.{numbered, places}
 use Rattle.esr_model.specs.Finalize.{Finalizes, finalized_root, done_at}
 use Rattle.esr_model.specs.Image.{Blobs, Image, At, Generation, index_at, at_shard_of}
 use Rattle.esr_core.specs.World.{World, Op, ShardWork, Finalize, Drop, swap_of, AllDone, info_of, metadata, Ticket, ReadState, Restored, NotRestored, RestoreShard, Restoring, Reader, record_of}
-use Rattle.esr_core.specs.Steps.{IsOut, noting, with_ticket, shard_ticket, final_ticket}
+use Rattle.esr_core.specs.Steps.{Removes, IsOut, noting, with_ticket, shard_ticket, final_ticket}
 use Rattle.esr_core.specs.Turns.{plain_ticket}
 use Rattle.esr_core.specs.Restores.{AreApart, restore_shard}
 use Rattle.esr_core.specs.Tracked.{Named, FinalTracked, Tracked}
-use Rattle.esr_core.specs.Entry.{Snapshot, Restore, Clone, DeleteSnapshots, Cleanup, Given, GivenShard, GivenFinalize, GivenDrop, GivenRestore, Read, ReadBlob, RestoredShard, CheckedAll, DrawTest, CommitTest, RemoveTests, ReadFails, Step, AskStep, TakeStep, DrawStep, BeginStep, CommitStep, LatestStep, FetchStep, RaiseStep, SettleStep, DoneStep, FailedStep, FinishStep, DroppedStep, ElectStep, ReadStep, DepotFault, DeposedAt, Reply, Gave, DrawnFrom, WasDone, WasThere, WasFetched, WasSettled, HasEnded, Refused, AcceptedRestore, Moment}
+use Rattle.esr_core.specs.Entry.{Snapshot, Restore, Clone, DeleteSnapshots, Cleanup, Given, GivenShard, GivenFinalize, GivenDrop, GivenRestore, Read, ReadBlob, RestoredShard, CheckedAll, DrawTest, CommitTest, ReadFails, Step, AskStep, TakeStep, DrawStep, BeginStep, CommitStep, LatestStep, FetchStep, RaiseStep, SettleStep, DoneStep, FailedStep, FinishStep, DroppedStep, ElectStep, ReadStep, DepotFault, DeposedAt, Reply, Gave, DrawnFrom, WasDone, WasThere, WasFetched, WasSettled, HasEnded, Refused, AcceptedRestore, Moment}
 use Rattle.esr_core.specs.After.{taken_shard, taken_by, taken_restore, taken_restore_shard, shard_of, with_given, committing, told_blob, fetching, settled_by, settled_of, done_by, done_of, is_stale, failed_by, failed_of, dropped_of, read_told, read_over, shard_over, read_step, read_by, done_step, has_text, fallen, is_latest, tried, test_left, faulted, answered, blobs_in, after}
 use Rattle.esr_core.specs.Allowed as allowed
-use Rattle.esr_core.specs.Allowed.{Told, SameBlobs, Adds, WasMade, IsInInfo, AreIndicesIn, Settles, VerifyAllows, Allows, Allowed}
+use Rattle.esr_core.specs.Allowed.{MayRemoveTests, Told, SameBlobs, Adds, WasMade, IsInInfo, AreIndicesIn, Settles, VerifyAllows, Allows, Allowed}
 use Rattle.esr_core.proofs.Maps.{get_same, get_other, get_kept, split, texts_same}
 use Rattle.esr_core.proofs.Adds.{text_one}
 use Rattle.esr_core.proofs.Reading.{some_same, Has-mapped, Has-append, Has-left, Has-right}
@@ -55,6 +55,7 @@ use Rattle.esr_formats.specs.Refs.{ref_of_code}
 use Rattle.esr_formats.specs.Infos.{info_of_code}
 use Rattle.esr_results.proofs.Refs.{one_id, ids_distinct, other_later}
 use Rattle.esr_progress.specs.Infos.{HasIndices, AreInfosOf}
+use Rattle.esr_repo.specs.Repo.{AreTests}
 
 -- ---- over any two worlds
 
@@ -65,27 +66,27 @@ KeepsWork was now = (k : ℕ) (t : Ticket) → fin.get was k ≡ Some t → (u :
 abbrev pub WorksStay : World → World → Type 0
 WorksStay w v = KeepsWork w.tickets v.tickets
 
--- each blob is there with the same bytes
-abbrev pub KeepsBlobs : Formats → Blobs → Blobs → Type 0
-KeepsBlobs f was now = (name : BlobName) (bytes : Bytes) → At f was name bytes → At f now name bytes
+-- the blob of each info is there with the same bytes
+abbrev pub KeepsInfos : Formats → Blobs → Blobs → Type 0
+KeepsInfos f was now = (uuid : ℕ) (bytes : Bytes) → At f was (Snap uuid) bytes → At f now (Snap uuid) bytes
 
-abbrev pub BlobsStay : Formats → World → World → Type 0
-BlobsStay f w v = KeepsBlobs f w.blobs v.blobs
+abbrev pub InfosThere : Formats → World → World → Type 0
+InfosThere f w v = KeepsInfos f w.blobs v.blobs
 
 pub made_stays : (f : Formats) (w v : World) (uuid : ℕ) (indices : List IndexRef) → WorksStay w v → WasMade f w uuid indices → WasMade f v uuid indices
 made_stays f w v uuid indices works m =
     let (u, there, same) = works m.number m.t m.there in
     record { number = m.number; t = u; there = there; info = m.info; results = m.results; made = m.made; work = same ∙ m.work; uuid_is = m.uuid_is; indices_is = m.indices_is; back = m.back }
 
-pub info_stays : (f : Formats) (w v : World) (uuid : ℕ) (indices : List IndexRef) → BlobsStay f w v → IsInInfo f w uuid indices → IsInInfo f v uuid indices
-info_stays f w v uuid indices blobs i = (i.0, record { bytes = i.1.bytes; there = blobs (Snap uuid) i.1.bytes i.1.there; reads = i.1.reads }, i.2)
+pub info_stays : (f : Formats) (w v : World) (uuid : ℕ) (indices : List IndexRef) → InfosThere f w v → IsInInfo f w uuid indices → IsInInfo f v uuid indices
+info_stays f w v uuid indices blobs i = (i.0, record { bytes = i.1.bytes; there = blobs uuid i.1.bytes i.1.there; reads = i.1.reads }, i.2)
 
-pub told_stays : (f : Formats) (w v : World) (tells : Bool) (uuid : ℕ) (indices : List IndexRef) → WorksStay w v → (tells ≡ true → BlobsStay f w v)
+pub told_stays : (f : Formats) (w v : World) (tells : Bool) (uuid : ℕ) (indices : List IndexRef) → WorksStay w v → (tells ≡ true → InfosThere f w v)
     → WasMade f w uuid indices ⊎ (tells ≡ true → IsInInfo f w uuid indices) → WasMade f v uuid indices ⊎ (tells ≡ true → IsInInfo f v uuid indices)
 told_stays f w v tells uuid indices works blobs (inl m) = inl (made_stays f w v uuid indices works m)
 told_stays f w v tells uuid indices works blobs (inr i) = inr (λ t. info_stays f w v uuid indices (blobs t) (i t))
 
-pub indices_stay : (f : Formats) (w v : World) (tells : Bool) (uuid : ℕ) (indices : List IndexRef) → v.root ≡ w.root → WorksStay w v → (tells ≡ true → BlobsStay f w v)
+pub indices_stay : (f : Formats) (w v : World) (tells : Bool) (uuid : ℕ) (indices : List IndexRef) → v.root ≡ w.root → WorksStay w v → (tells ≡ true → InfosThere f w v)
     → HasIndices f w tells uuid indices → HasIndices f v tells uuid indices
 indices_stay f w v tells uuid indices root works blobs h =
     record {
@@ -93,7 +94,7 @@ indices_stay f w v tells uuid indices root works blobs h =
       told = told_stays f w v tells uuid indices works blobs h.told;
     }
 
-pub infos_stay : (f : Formats) (w v : World) (tells : Bool) (infos : List Info) → v.root ≡ w.root → WorksStay w v → (tells ≡ true → BlobsStay f w v)
+pub infos_stay : (f : Formats) (w v : World) (tells : Bool) (infos : List Info) → v.root ≡ w.root → WorksStay w v → (tells ≡ true → InfosThere f w v)
     → AreInfosOf f w tells infos → AreInfosOf f v tells infos
 infos_stay f w v tells infos root works blobs a =
     record {
@@ -229,12 +230,11 @@ keeps_read f w (suc k) read reply image = keeps_read_step f w (suc k) read reply
 
 -- ---- all steps
 
--- the step settles nothing, and removes no blob
+-- the step settles nothing
 abbrev pub IsPlain : Step → Reply → Type 0
 IsPlain SettleStep (Refused DepotFault) = ⊥
 IsPlain SettleStep (Refused refusal) = Unit {0}
 IsPlain SettleStep reply = ⊥
-IsPlain (ReadStep (RemoveTests names)) reply = ⊥
 IsPlain step reply = Unit {0}
 
 abbrev IsNoSettle : Step → Type 0
@@ -299,25 +299,29 @@ root_step f w m t is_plain = (keeps_answered f w (λ k u e. (t.tickets k u e).0)
 pub works_step : (f : Formats) (w : World) (m : Moment) → Tracked w → IsPlain m.entry.step m.entry.reply → WorksStay w (after f w m)
 works_step f w m t is_plain = (keeps_answered f w (λ k u e. (t.tickets k u e).0) m.entry.who m.entry.step m.entry.reply m.image is_plain).works
 
--- ---- what keeps the blobs
+-- ---- what keeps the infos
 
-blobs_same : (f : Formats) (was now : Blobs) → now ≡ was → KeepsBlobs f was now
-blobs_same f was now same m b h = subst (λ (x : Blobs). At f x m b) (sym same) h
+blobs_same : (f : Formats) (was now : Blobs) → now ≡ was → KeepsInfos f was now
+blobs_same f was now same m b h = subst (λ (x : Blobs). At f x (Snap m) b) (sym same) h
 
 -- a blob is added under a free name
-pub blobs_added : (f : Formats) (w : World) (name : BlobName) (bytes : Bytes) (now : Blobs) → Adds f w name bytes now → KeepsBlobs f w.blobs now
-blobs_added f w name bytes now adds m b h = subst (λ (x : Blobs). At f x m b) (sym adds.1) (get_kept nat_list_cmp_total texts_same w.blobs (f.names.text name) bytes (f.names.text m) b adds.0 h.0, h.1)
+pub blobs_added : (f : Formats) (w : World) (name : BlobName) (bytes : Bytes) (now : Blobs) → Adds f w name bytes now → KeepsInfos f w.blobs now
+blobs_added f w name bytes now adds m b h = subst (λ (x : Blobs). At f x (Snap m) b) (sym adds.1) (get_kept nat_list_cmp_total texts_same w.blobs (f.names.text name) bytes (f.names.text (Snap m)) b adds.0 h.0, h.1)
 
 -- `index.latest` is replaced
-pub blobs_latest : (f : Formats) (was now : Blobs) (bytes : Bytes) → ReadsBack f.names Latest → now ≡ fin.insert was (f.names.text Latest) bytes → KeepsBlobs f was now
+pub blobs_latest : (f : Formats) (was now : Blobs) (bytes : Bytes) → ReadsBack f.names Latest → now ≡ fin.insert was (f.names.text Latest) bytes → KeepsInfos f was now
 blobs_latest f was now bytes named is m b h =
-    subst (λ (x : Blobs). At f x m b) (sym is) (get_other nat_list_cmp_total texts_same was (f.names.text Latest) bytes (f.names.text m) (λ same. h.1.1 (text_one f m Latest h.1.0 named same)) ∙ h.0, h.1)
+    subst (λ (x : Blobs). At f x (Snap m) b) (sym is) (get_other nat_list_cmp_total texts_same was (f.names.text Latest) bytes (f.names.text (Snap m)) (λ same. h.1.1 (text_one f (Snap m) Latest h.1.0 named same)) ∙ h.0, h.1)
+
+-- test blobs are removed
+pub blobs_left : (f : Formats) (w : World) (names : List BlobName) (now : Blobs) → AreTests w.caller → MayRemoveTests w names → Removes f w.blobs now names → KeepsInfos f w.blobs now
+blobs_left f w names now tests may left m b h = left.stays (Snap m) b h (λ named. (tests (Snap m) (may.committed (Snap m) named)).1)
 
 module _ (f : Formats) (size : ℕ) (w : World) where
   abbrev Kept : Option Image → Type 0
-  Kept image = KeepsBlobs f w.blobs (blobs_in image w.blobs)
+  Kept image = KeepsInfos f w.blobs (blobs_in image w.blobs)
 
-  told_kept : (image : Option Image) (P : Blobs → Type 0) → ((now : Blobs) → P now → KeepsBlobs f w.blobs now) → Told image P → Kept image
+  told_kept : (image : Option Image) (P : Blobs → Type 0) → ((now : Blobs) → P now → KeepsInfos f w.blobs now) → Told image P → Kept image
   told_kept None P keeps told = λ m b h. h
   told_kept (Some image) P keeps told = keeps image.blobs told
 
@@ -331,78 +335,78 @@ module _ (f : Formats) (size : ℕ) (w : World) where
   left_kept image name bytes left =
       told_kept image (λ blobs. (blobs ≡ w.blobs) ⊎ Adds f w name bytes blobs) (λ now is. elim is [ inl e ↦ blobs_same f w.blobs now e | inr adds ↦ blobs_added f w name bytes now adds ]) left
 
-  verified_kept : (read : Read) (reply : Reply) (image : Option Image) → IsPlain (ReadStep read) reply → VerifyAllows f w read reply image → Kept image
-  verified_kept read reply image is_plain (allowed.DrawingTest im idle fits same) = same_kept im same
-  verified_kept read reply image is_plain (allowed.TestSpent im idle spent same) = same_kept im same
-  verified_kept read reply image is_plain (allowed.BeginningTest name im own same) = same_kept im same
-  verified_kept read reply image is_plain (allowed.BeginTestFails name im own same) = same_kept im same
-  verified_kept read reply image is_plain (allowed.CommittingTest name bytes im own new adds) = added_kept im name bytes adds
-  verified_kept read reply image is_plain (allowed.TestTaken name im own there) = told_kept im _ (λ now is. blobs_same f w.blobs now is.1) there
-  verified_kept read reply image is_plain (allowed.CommitTestFails name bytes im own leaves) = left_kept im name bytes leaves
-  verified_kept read reply image is_plain (allowed.RemovingTests names im may left) = absurd is_plain
-  verified_kept read reply image is_plain (allowed.RemoveTestsFails names im may left) = absurd is_plain
-  verified_kept read reply image is_plain (allowed.VerifyingAll im done same) = same_kept im same
-  verified_kept read reply image is_plain (allowed.VerifyFailing why id im drawn same) = same_kept im same
+  verified_kept : (read : Read) (reply : Reply) (image : Option Image) → AreTests w.caller → VerifyAllows f w read reply image → Kept image
+  verified_kept read reply image tests (allowed.DrawingTest im idle fits same) = same_kept im same
+  verified_kept read reply image tests (allowed.TestSpent im idle spent same) = same_kept im same
+  verified_kept read reply image tests (allowed.BeginningTest name im own same) = same_kept im same
+  verified_kept read reply image tests (allowed.BeginTestFails name im own same) = same_kept im same
+  verified_kept read reply image tests (allowed.CommittingTest name bytes im own new adds) = added_kept im name bytes adds
+  verified_kept read reply image tests (allowed.TestTaken name im own there) = told_kept im _ (λ now is. blobs_same f w.blobs now is.1) there
+  verified_kept read reply image tests (allowed.CommitTestFails name bytes im own leaves) = left_kept im name bytes leaves
+  verified_kept read reply image tests (allowed.RemovingTests names im may left) = told_kept im _ (λ now is. blobs_left f w names now tests may is.0) left
+  verified_kept read reply image tests (allowed.RemoveTestsFails names im may left) = told_kept im _ (λ now is. blobs_left f w names now tests may is) left
+  verified_kept read reply image tests (allowed.VerifyingAll im done same) = same_kept im same
+  verified_kept read reply image tests (allowed.VerifyFailing why id im drawn same) = same_kept im same
 
-  pub allowed_kept : (who : ℕ) (step : Step) (reply : Reply) (image : Option Image) → IsPlain step reply → Allows f size w who step reply image → Kept image
-  allowed_kept who step reply image is_plain (allowed.Accepting name indices moment o im a same) = same_kept im same
-  allowed_kept who step reply image is_plain (allowed.GivingNothing im none same) = same_kept im same
-  allowed_kept who step reply image is_plain (allowed.Giving k o unit im is first gives same) = same_kept im same
-  allowed_kept who step reply image is_plain (allowed.Drawing k n first im draws same) = same_kept im same
-  allowed_kept who step reply image is_plain (allowed.Beginning k name im c same) = same_kept im same
-  allowed_kept who step reply image is_plain (allowed.BeginningLatest k im p same) = same_kept im same
-  allowed_kept who step reply image is_plain (allowed.Committing k name im c adds) = added_kept im name c.bytes adds
-  allowed_kept who step reply image is_plain (allowed.Finding k name im c there) = told_kept im _ (λ now is. blobs_same f w.blobs now is.1) there
-  allowed_kept who step reply image is_plain (allowed.Replacing k im p named put) = told_kept im _ (λ now is. blobs_latest f w.blobs now _ named is) put
-  allowed_kept who step reply image is_plain (allowed.Fetching k name im c there) = told_kept im _ (λ now is. blobs_same f w.blobs now is.2) there
-  allowed_kept who step reply image is_plain (allowed.Missing k name im c none) = told_kept im _ (λ now is. blobs_same f w.blobs now is.1) none
-  allowed_kept who step reply image is_plain (allowed.Listing k im t out same) = same_kept im same
-  allowed_kept who step reply image is_plain (allowed.Raising k n im r same) = same_kept im same
-  allowed_kept who step reply image is_plain (allowed.Settling k im s same) = same_kept im same
-  allowed_kept who step reply image is_plain (allowed.Doing k r im d same) = same_kept im same
-  allowed_kept who step reply image is_plain (allowed.Failing k why im h same) = same_kept im same
-  allowed_kept who step reply image is_plain (allowed.Finishing k im h same) = same_kept im same
-  allowed_kept who step reply image is_plain (allowed.Dropping k im h same) = same_kept im same
-  allowed_kept who step reply image is_plain (allowed.Electing im room same) = same_kept im same
-  allowed_kept who step reply image is_plain (allowed.Looking im same) = same_kept im same
-  allowed_kept who step reply image is_plain (allowed.AskingRestore name place r im h same) = same_kept im same
-  allowed_kept who step reply image is_plain (allowed.Verifying read r im h) = verified_kept read r im is_plain h
-  allowed_kept who step reply image is_plain (allowed.Reading k read r im h same) = same_kept im same
-  allowed_kept who step reply image is_plain (allowed.Cleaning command d x im recorded there clean same) = same_kept im same
-  allowed_kept who step reply image is_plain (allowed.Used name indices moment uuid im none used same) = same_kept im same
-  allowed_kept who step reply image is_plain (allowed.Full name indices moment im none unused full same) = same_kept im same
-  allowed_kept who step reply image is_plain (allowed.AskSpent name indices moment im none unused room spent same) = same_kept im same
-  allowed_kept who step reply image is_plain (allowed.DrawSpent k n im may spent same) = same_kept im same
-  allowed_kept who step reply image is_plain (allowed.RaiseStale k im may stale same) = same_kept im same
-  allowed_kept who step reply image is_plain (allowed.SettleStale k n t s im may stale same) = same_kept im same
-  allowed_kept who step reply image is_plain (allowed.DropStale k im may stale same) = same_kept im same
-  allowed_kept who step reply image is_plain (allowed.RaiseSpent k im may present spent same) = same_kept im same
-  allowed_kept who step reply image is_plain (allowed.ElectSpent im spent same) = same_kept im same
-  allowed_kept who step reply image is_plain (allowed.Taken k name im c other there) = told_kept im _ (λ now is. blobs_same f w.blobs now is.1) there
-  allowed_kept who step reply image is_plain (allowed.BeginFails k name im c same) = same_kept im same
-  allowed_kept who step reply image is_plain (allowed.BeginLatestFails k im p same) = same_kept im same
-  allowed_kept who step reply image is_plain (allowed.CommitFails k name im c left) = left_kept im name c.bytes left
-  allowed_kept who step reply image is_plain (allowed.ReplaceFails k im p named left) =
+  pub allowed_kept : (who : ℕ) (step : Step) (reply : Reply) (image : Option Image) → AreTests w.caller → Allows f size w who step reply image → Kept image
+  allowed_kept who step reply image tests (allowed.Accepting name indices moment o im a same) = same_kept im same
+  allowed_kept who step reply image tests (allowed.GivingNothing im none same) = same_kept im same
+  allowed_kept who step reply image tests (allowed.Giving k o unit im is first gives same) = same_kept im same
+  allowed_kept who step reply image tests (allowed.Drawing k n first im draws same) = same_kept im same
+  allowed_kept who step reply image tests (allowed.Beginning k name im c same) = same_kept im same
+  allowed_kept who step reply image tests (allowed.BeginningLatest k im p same) = same_kept im same
+  allowed_kept who step reply image tests (allowed.Committing k name im c adds) = added_kept im name c.bytes adds
+  allowed_kept who step reply image tests (allowed.Finding k name im c there) = told_kept im _ (λ now is. blobs_same f w.blobs now is.1) there
+  allowed_kept who step reply image tests (allowed.Replacing k im p named put) = told_kept im _ (λ now is. blobs_latest f w.blobs now _ named is) put
+  allowed_kept who step reply image tests (allowed.Fetching k name im c there) = told_kept im _ (λ now is. blobs_same f w.blobs now is.2) there
+  allowed_kept who step reply image tests (allowed.Missing k name im c none) = told_kept im _ (λ now is. blobs_same f w.blobs now is.1) none
+  allowed_kept who step reply image tests (allowed.Listing k im t out same) = same_kept im same
+  allowed_kept who step reply image tests (allowed.Raising k n im r same) = same_kept im same
+  allowed_kept who step reply image tests (allowed.Settling k im s same) = same_kept im same
+  allowed_kept who step reply image tests (allowed.Doing k r im d same) = same_kept im same
+  allowed_kept who step reply image tests (allowed.Failing k why im h same) = same_kept im same
+  allowed_kept who step reply image tests (allowed.Finishing k im h same) = same_kept im same
+  allowed_kept who step reply image tests (allowed.Dropping k im h same) = same_kept im same
+  allowed_kept who step reply image tests (allowed.Electing im room same) = same_kept im same
+  allowed_kept who step reply image tests (allowed.Looking im same) = same_kept im same
+  allowed_kept who step reply image tests (allowed.AskingRestore name place r im h same) = same_kept im same
+  allowed_kept who step reply image tests (allowed.Verifying read r im h) = verified_kept read r im tests h
+  allowed_kept who step reply image tests (allowed.Reading k read r im h same) = same_kept im same
+  allowed_kept who step reply image tests (allowed.Cleaning command d x im recorded there clean same) = same_kept im same
+  allowed_kept who step reply image tests (allowed.Used name indices moment uuid im none used same) = same_kept im same
+  allowed_kept who step reply image tests (allowed.Full name indices moment im none unused full same) = same_kept im same
+  allowed_kept who step reply image tests (allowed.AskSpent name indices moment im none unused room spent same) = same_kept im same
+  allowed_kept who step reply image tests (allowed.DrawSpent k n im may spent same) = same_kept im same
+  allowed_kept who step reply image tests (allowed.RaiseStale k im may stale same) = same_kept im same
+  allowed_kept who step reply image tests (allowed.SettleStale k n t s im may stale same) = same_kept im same
+  allowed_kept who step reply image tests (allowed.DropStale k im may stale same) = same_kept im same
+  allowed_kept who step reply image tests (allowed.RaiseSpent k im may present spent same) = same_kept im same
+  allowed_kept who step reply image tests (allowed.ElectSpent im spent same) = same_kept im same
+  allowed_kept who step reply image tests (allowed.Taken k name im c other there) = told_kept im _ (λ now is. blobs_same f w.blobs now is.1) there
+  allowed_kept who step reply image tests (allowed.BeginFails k name im c same) = same_kept im same
+  allowed_kept who step reply image tests (allowed.BeginLatestFails k im p same) = same_kept im same
+  allowed_kept who step reply image tests (allowed.CommitFails k name im c left) = left_kept im name c.bytes left
+  allowed_kept who step reply image tests (allowed.ReplaceFails k im p named left) =
       told_kept im _ (λ now is. elim is [ inl e ↦ blobs_same f w.blobs now e | inr put ↦ blobs_latest f w.blobs now _ named put ]) left
-  allowed_kept who step reply image is_plain (allowed.FetchFails k name im c same) = same_kept im same
-  allowed_kept who step reply image is_plain (allowed.ListFails k im t out same) = same_kept im same
-  allowed_kept who step reply image is_plain (allowed.AskFails name indices moment im a same) = same_kept im same
-  allowed_kept who step reply image is_plain (allowed.RaiseFails k im r same) = same_kept im same
-  allowed_kept who step reply image is_plain (allowed.SettleFails k im s same) = same_kept im same
-  allowed_kept who step reply image is_plain (allowed.DropFails k im h same) = same_kept im same
-  allowed_kept who step reply image is_plain (allowed.ElectFails im room same) = same_kept im same
+  allowed_kept who step reply image tests (allowed.FetchFails k name im c same) = same_kept im same
+  allowed_kept who step reply image tests (allowed.ListFails k im t out same) = same_kept im same
+  allowed_kept who step reply image tests (allowed.AskFails name indices moment im a same) = same_kept im same
+  allowed_kept who step reply image tests (allowed.RaiseFails k im r same) = same_kept im same
+  allowed_kept who step reply image tests (allowed.SettleFails k im s same) = same_kept im same
+  allowed_kept who step reply image tests (allowed.DropFails k im h same) = same_kept im same
+  allowed_kept who step reply image tests (allowed.ElectFails im room same) = same_kept im same
 
-pub blobs_step : (f : Formats) (size : ℕ) (w : World) (m : Moment) → Allowed f size w m → IsPlain m.entry.step m.entry.reply → BlobsStay f w (after f w m)
-blobs_step f size w m a is_plain = elim a.answered [
-  | inl alive ↦ allowed_kept f size w m.entry.who m.entry.step m.entry.reply m.image is_plain alive.1
+pub blobs_step : (f : Formats) (size : ℕ) (w : World) (m : Moment) → AreTests w.caller → Allowed f size w m → InfosThere f w (after f w m)
+blobs_step f size w m tests a = elim a.answered [
+  | inl alive ↦ allowed_kept f size w m.entry.who m.entry.step m.entry.reply m.image tests alive.1
   | inr dead ↦ same_kept f size w m.image dead.same
 ]
 
 -- ---- the infos over a step that is no settle
 
-pub infos_step : (f : Formats) (size : ℕ) (w : World) (m : Moment) (tells : Bool) (infos : List Info) → Tracked w → Allowed f size w m → IsPlain m.entry.step m.entry.reply
+pub infos_step : (f : Formats) (size : ℕ) (w : World) (m : Moment) (tells : Bool) (infos : List Info) → Tracked w → AreTests w.caller → Allowed f size w m → IsPlain m.entry.step m.entry.reply
     → AreInfosOf f w tells infos → AreInfosOf f (after f w m) tells infos
-infos_step f size w m tells infos t a is_plain h = infos_stay f w (after f w m) tells infos (root_step f w m t is_plain) (works_step f w m t is_plain) (λ told. blobs_step f size w m a is_plain) h
+infos_step f size w m tells infos t tests a is_plain h = infos_stay f w (after f w m) tells infos (root_step f w m t is_plain) (works_step f w m t is_plain) (λ told. blobs_step f size w m tests a) h
 
 -- ---- the root with a snapshot more
 
@@ -542,7 +546,7 @@ module _ (f : Formats) (w v : World) (k : ℕ) (i : Info) (tr : Tracked w) (h : 
   uuid_new : (infos : List Info) → AreListed w.root infos → (j : Info) → Has infos j → j.uuid.number ≢ law.op.uuid
   uuid_new infos listed j m same = let (snap, there, e) = listed j m in (tr.named.unlisted h.t.op law.op snap law.op_there there).1 (sym e ∙ same)
 
-  pub infos_settled : (tells : Bool) (infos : List Info) → (tells ≡ true → BlobsStay f w v) → AreListed w.root infos → AreInfosOf f w tells infos → AreInfosOf f v tells (infos ++ i ∷ [])
+  pub infos_settled : (tells : Bool) (infos : List Info) → (tells ≡ true → InfosThere f w v) → AreListed w.root infos → AreInfosOf f w tells infos → AreInfosOf f v tells (infos ++ i ∷ [])
   infos_settled tells infos blobs listed a =
       record {
         there = λ snap m. elim (snapshot_was snap m) [
@@ -638,7 +642,7 @@ settling f size w who image (allowed.Settling k im s same) = (s, same)
 pub of_step : (f : Formats) (size : ℕ) (w : World) (m : Moment) (i : Info) (t : Ticket) (info : SnapInfo) (results : List ShardResult) (made : Shelved) → Allowed f size w m
     → m.entry.step ≡ SettleStep → m.entry.reply ≡ WasSettled → fin.get w.tickets m.entry.who ≡ Some t → t.work ≡ Finalize info results made
     → info_of_code i ≡ info → AreApart (map ref_of_code i.indices) → ReadsBack f.info info
-    → HasSettled f w (after f w m) m.entry.who i × BlobsStay f w (after f w m)
+    → HasSettled f w (after f w m) m.entry.who i × InfosThere f w (after f w m)
 of_step f size w m i t info results made a step_is reply_is there work code apart back = elim a.answered [
   | inl alive ↦ from (settling f size w m.entry.who m.image (subst (λ (r : Reply). Allows f size w m.entry.who SettleStep r m.image) reply_is (subst (λ (s : Step). Allows f size w m.entry.who s m.entry.reply m.image) step_is alive.1)))
   | inr dead ↦ absurd (refused dead.place (sym reply_is ∙ dead.refused))
@@ -647,7 +651,7 @@ of_step f size w m i t info results made a step_is reply_is there work code apar
     refused : (place : ℕ) → WasSettled ≡ Refused (DeposedAt place) → ⊥
     refused place e = cc
 
-    from : Settles f w m.entry.who × SameBlobs w m.image → HasSettled f w (after f w m) m.entry.who i × BlobsStay f w (after f w m)
+    from : Settles f w m.entry.who × SameBlobs w m.image → HasSettled f w (after f w m) m.entry.who i × InfosThere f w (after f w m)
     from (s, same) =
         let one : s.t ≡ t = some_same s.t t (sym s.may.out.there ∙ there) in
         let was : settled_of f w m.entry.who (Some t) ≡ answered f w m.entry.who m.entry.step m.entry.reply m.image =

@@ -1,8 +1,10 @@
 pub mod Frames
+pub mod Callers
 pub mod Logs
 pub mod Repos
 pub mod Plain
 pub mod BlobCalls
+pub mod Removals
 pub mod Swaps
 pub mod Pasts
 pub mod Beginning
@@ -15,6 +17,7 @@ pub mod Accepts
 pub mod Doing
 pub mod Taken
 pub mod Reading
+pub mod Verifying
 pub mod Restores
 pub mod Failing
 pub mod Calms

@@ -70,12 +70,12 @@ may_read_by s q name image can tells = elim can.may [
 fetcher : (s : Start) (log : List Moment) (k : ℕ) (name : BlobName) (image : Option Image) → CanRead s (reader_of s log k) name → ((i : Image) → image ≡ Some i → s.tells ≡ true) → Fetcher (formats_of s) (world_of s log) name image k
 fetcher s log k name image can tells = ByReader k (reader_of s log k) (reading_is s log k can.out) (may_read_by s (reader_of s log k) name image can tells)
 
-found_there : (s : Start) (log : List Moment) (name : BlobName) (image : Option Image) → Told image (λ blobs. (bytes : Bytes) × IsFound s log name (Some bytes) blobs)
+pub found_there : (s : Start) (log : List Moment) (name : BlobName) (image : Option Image) → Told image (λ blobs. (bytes : Bytes) × IsFound s log name (Some bytes) blobs)
     → Told image (λ blobs. (bytes : Bytes) × (fin.get (world_of s log).blobs ((formats_of s).names.text name) ≡ Some bytes)) × SameBlobs (world_of s log) image
 found_there s log name None h = (tt, tt)
 found_there s log name (Some image) h = ((h.0, h.1.0), h.1.1)
 
-found_none : (s : Start) (log : List Moment) (name : BlobName) (image : Option Image) → Told image (IsFound s log name None)
+pub found_none : (s : Start) (log : List Moment) (name : BlobName) (image : Option Image) → Told image (IsFound s log name None)
     → Told image (λ blobs. fin.get (world_of s log).blobs ((formats_of s).names.text name) ≡ None) × SameBlobs (world_of s log) image
 found_none s log name None h = (tt, tt)
 found_none s log name (Some image) h = (h.0, h.1)

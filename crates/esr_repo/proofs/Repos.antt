@@ -4,6 +4,7 @@ use Rattle.std.specs.Prelude.{option_map}
 use Rattle.std.specs.Ordering.{nat_cmp}
 use Rattle.std.specs.FinMap.{FinMap}
 use Rattle.std.specs.FinMap as fin
+use Rattle.esr_model.specs.Names.{Snap}
 use Rattle.esr_model.specs.Values.{RootData, ReadsBack}
 use Rattle.esr_model.specs.Image.{Blobs, Image, At}
 use Rattle.esr_core.specs.World.{World, Ticket, Caller, record_of}
@@ -24,12 +25,13 @@ use Rattle.esr_formats.specs.Names.{name_kind}
 use Rattle.esr_progress.specs.Plan.{Plan, IsPlanOf}
 use Rattle.esr_desk.specs.Start.{Start, formats_of, world_of, Legal}
 use Rattle.esr_repo.specs.Log.{image_of, tick, ticks, log_of}
-use Rattle.esr_repo.specs.Repo.{Kept, IsKeptOf, TellsSo, NoDeleting, AreListed, HasInfos, IsSteady, IsRepo}
+use Rattle.esr_repo.specs.Repo.{Kept, IsKeptOf, TellsSo, NoDeleting, AreListed, AreTests, HasInfos, IsSteady, IsRepo}
 use Rattle.esr_repo.specs.Next.{Added, IsLive}
 use Rattle.esr_repo.specs.May.{CanTell}
 use Rattle.esr_repo.specs.Laws.{Laws}
 use Rattle.esr_repo.proofs.InfosStay.{IsPlain as LeavesInfos, infos_stay, infos_step, root_step}
 use Rattle.esr_repo.proofs.Frames.{frame_after}
+use Rattle.esr_repo.proofs.Callers.{tests_step}
 use Rattle.esr_repo.specs.Grown.{legal_step, world_step}
 use Rattle.esr_repo.proofs.Logs.{Goes, image_now, log_goes, log_stays, ticks-append}
 
@@ -62,14 +64,14 @@ infos_aside s w new infos root tickets blobs h = record {
   are =
       infos_stay (formats_of s) w new s.tells infos root
       (λ k t there. (t, ap (λ (m : FinMap nat_cmp Ticket). fin.get m k) tickets ∙ there, refl))
-      (λ told name bytes at. subst (λ (b : Blobs). At (formats_of s) b name bytes) (sym blobs) at) h.are;
+      (λ told uuid bytes at. subst (λ (b : Blobs). At (formats_of s) b (Snap uuid) bytes) (sym blobs) at) h.are;
   listed = subst (λ (r : RootData). AreListed r infos) (sym root) h.listed;
 }
 
--- they stay over a step that settles nothing and removes no blob
-pub infos_over : (s : Start) (w : World) (m : Moment) (infos : List Info) → Tracked w → Allowed (formats_of s) s.part_size w m → LeavesInfos m.entry.step m.entry.reply → HasInfos s w infos → HasInfos s (after (formats_of s) w m) infos
-infos_over s w m infos tracked allowed leaves h = record {
-  are = infos_step (formats_of s) s.part_size w m s.tells infos tracked allowed leaves h.are;
+-- they stay over a step that settles nothing
+pub infos_over : (s : Start) (w : World) (m : Moment) (infos : List Info) → Tracked w → AreTests w.caller → Allowed (formats_of s) s.part_size w m → LeavesInfos m.entry.step m.entry.reply → HasInfos s w infos → HasInfos s (after (formats_of s) w m) infos
+infos_over s w m infos tracked tests allowed leaves h = record {
+  are = infos_step (formats_of s) s.part_size w m s.tells infos tracked tests allowed leaves h.are;
   listed = subst (λ (r : RootData). AreListed r infos) (sym (root_step (formats_of s) w m tracked leaves)) h.listed;
 }
 
@@ -169,6 +171,7 @@ module _ (old new : Look) (s : Start) (clock : ℕ) (es es' : List Entry) (k k' 
           no_deletes = ap (λ (w : World). w.deletes) new_world ∙ frame.deletes steady.no_deletes;
           no_deleting = subst (λ (w : World). NoDeleting w) (sym new_world) (frame.no_deleting steady.no_deleting);
           read_tracked = subst ReadTracked (sym new_world) (laws.read_tracked (formats_of s) s.part_size (world_of s seen) moment steady.tracked steady.read_tracked allowed);
+          tests = subst (λ (w : World). AreTests w.caller) (sym new_world) (tests_step (formats_of s) s.part_size (world_of s seen) moment allowed steady.tests);
           few_ops = subst (λ (w : World). w.next_op ≤ s.world.next_op + length (log_of new clock es')) (sym new_world) (omega (arith, frame.ops, steady.few_ops, longer));
           few_tickets = subst (λ (w : World). w.next_ticket ≤ s.world.next_ticket + length (log_of new clock es')) (sym new_world) (omega (arith, frame.tickets, steady.few_tickets, longer));
         }
@@ -211,6 +214,7 @@ repo_stays old new s clock es k d r n =
             no_deletes = h.no_deletes;
             no_deleting = h.no_deleting;
             read_tracked = h.read_tracked;
+            tests = h.tests;
             few_ops = h.few_ops;
             few_tickets = h.few_tickets;
           });

@@ -38,14 +38,14 @@ putting s log k n can = record { t = ticket_of s log k; out = out_is s log k can
 
 -- ---- begin
 
-begin_latest : (s : Start) (log : List Moment) (k n : ℕ) → CanPut s (ticket_of s log k) n → MayBegin s log k Latest
-begin_latest s log k n can = record { out = can.out; begins = λ named image tells same. BeginningLatest k image (putting s log k n can) same; fails = λ named image tells same. BeginLatestFails k image (putting s log k n can) same }
+begin_latest : (s : Start) (log : List Moment) (k n : ℕ) → CanPut s (ticket_of s log k) n → MayBegin s log k (BeginStep Latest) Latest
+begin_latest s log k n can = record { is = refl; begins = λ named image tells same. BeginningLatest k image (putting s log k n can) same; fails = λ named image tells same. BeginLatestFails k image (putting s log k n can) same }
 
-begin_by : (s : Start) (log : List Moment) (k : ℕ) (name : BlobName) → CanBegin s (ticket_of s log k) name → MayBegin s log k name
-begin_by s log k name (inl h) = record { out = h.1.out; begins = λ named image tells same. Beginning k name image (committable s log k name h.0 h.1 named) same; fails = λ named image tells same. BeginFails k name image (committable s log k name h.0 h.1 named) same }
-begin_by s log k name (inr h) = subst (MayBegin s log k) (sym h.0) (begin_latest s log k h.1.0 h.1.1)
+begin_by : (s : Start) (log : List Moment) (k : ℕ) (name : BlobName) → CanBegin s (ticket_of s log k) name → MayBegin s log k (BeginStep name) name
+begin_by s log k name (inl h) = record { is = refl; begins = λ named image tells same. Beginning k name image (committable s log k name h.0 h.1 named) same; fails = λ named image tells same. BeginFails k name image (committable s log k name h.0 h.1 named) same }
+begin_by s log k name (inr h) = subst (λ (n : BlobName). MayBegin s log k (BeginStep n) n) (sym h.0) (begin_latest s log k h.1.0 h.1.1)
 
-pub may_begin : (s : Start) (old log : List Moment) (k : ℕ) (name : BlobName) → log ≡ old → CanBegin s (ticket_of s old k) name → MayBegin s log k name
+pub may_begin : (s : Start) (old log : List Moment) (k : ℕ) (name : BlobName) → log ≡ old → CanBegin s (ticket_of s old k) name → MayBegin s log k (BeginStep name) name
 may_begin s old log k name e can = begin_by s log k name (subst (λ (l : List Moment). CanBegin s (ticket_of s l k) name) (sym e) can)
 
 out_begin : (s : Start) (t : Ticket) (name : BlobName) → CanBegin s t name → t.out ≡ true
@@ -204,21 +204,22 @@ refinding f w k t name bytes no_deleting out may meta = go may
     go (inl h) = by_swap h.0 h.1 h.2
     go (inr h) = absurd (no_shard name meta.1 h.1)
 
-commit_by : (s : Start) (log : List Moment) (k : ℕ) (name : BlobName) (bytes : Bytes) → NoDeleting (world_of s log) → CanCommit s (ticket_of s log k) name bytes → StepMayCommit s log k name bytes
+commit_by : (s : Start) (log : List Moment) (k : ℕ) (name : BlobName) (bytes : Bytes) → NoDeleting (world_of s log) → CanCommit s (ticket_of s log k) name bytes → StepMayCommit s log k (CommitStep name) name bytes
 commit_by s log k name bytes no_deleting can = record {
-  out = can.out;
+  is = refl;
+  stored = can.stored;
   commits = λ named image tells adds. Committing k name image (committable s log k name bytes can named) adds;
   finds = λ named meta image tells there. Finding k name image (refinding (formats_of s) (world_of s log) k (ticket_of s log k) name bytes no_deleting (out_is s log k can.out) can.may meta) there;
   taken = λ named no_meta image tells there. Taken k name image (committable s log k name bytes can named) no_meta there;
   fails = λ named image tells left. CommitFails k name image (committable s log k name bytes can named) left;
 }
 
-pub may_commit : (s : Start) (old log : List Moment) (k : ℕ) (name : BlobName) (contents : Option Bytes) → log ≡ old → NoDeleting (world_of s log) → CommitsSo s old k name contents → (bytes : Bytes) × Holds s contents bytes × StepMayCommit s log k name bytes
+pub may_commit : (s : Start) (old log : List Moment) (k : ℕ) (name : BlobName) (contents : Option Bytes) → log ≡ old → NoDeleting (world_of s log) → CommitsSo s old k name contents → (bytes : Bytes) × Holds s contents bytes × StepMayCommit s log k (CommitStep name) name bytes
 may_commit s old log k name contents e no_deleting can =
     let here : CommitsSo s log k name contents = subst (λ (l : List Moment). CommitsSo s l k name contents) (sym e) can in
     (here.0, here.1, commit_by s log k name here.0 no_deleting here.2)
 
-committed : (s : Start) (old new : List Moment) (k : ℕ) (name : BlobName) (contents : Option Bytes) (r : Result Commit StepRefusal) → (ticket_of s old k).out ≡ true → CommitDid s old new k name contents r
+committed : (s : Start) (old new : List Moment) (k : ℕ) (name : BlobName) (contents : Option Bytes) (r : Result Commit StepRefusal) → (ticket_of s old k).out ≡ true → CommitDid s old new k (CommitStep name) name contents r
     → IfOk r (λ c. ticket_of s new k ≡ committed_by name contents c (ticket_of s old k))
 committed s old new k name contents (Ok commits.Done) out did =
     added_ticket s old new k (CommitStep name) WasDone did.0 k
@@ -227,27 +228,27 @@ committed s old new k name contents (Ok commits.Done) out did =
 committed s old new k name contents (Ok commits.Exists) out did = added_ticket s old new k (CommitStep name) WasThere did.0 k ∙ changed_ticket s old k (λ t. noting t name) out
 committed s old new k name contents (Err e) out did = tt
 
-commit_from : (s : Start) (old mid new : List Moment) (k : ℕ) (name : BlobName) (contents : Option Bytes) (r : Result Commit StepRefusal) → mid ≡ old → CommitDid s mid new k name contents r → CommitDid s old new k name contents r
-commit_from s old mid new k name contents r e did = subst (λ (l : List Moment). CommitDid s l new k name contents r) e did
+pub commit_from : (s : Start) (old mid new : List Moment) (k : ℕ) (step : Step) (name : BlobName) (contents : Option Bytes) (r : Result Commit StepRefusal) → mid ≡ old → CommitDid s mid new k step name contents r → CommitDid s old new k step name contents r
+commit_from s old mid new k step name contents r e did = subst (λ (l : List Moment). CommitDid s l new k step name contents r) e did
 
-pub committed_ticket : (s : Start) (old mid new : List Moment) (k : ℕ) (name : BlobName) (contents : Option Bytes) (r : Result Commit StepRefusal) → mid ≡ old → CommitsSo s old k name contents → CommitDid s mid new k name contents r
+pub committed_ticket : (s : Start) (old mid new : List Moment) (k : ℕ) (name : BlobName) (contents : Option Bytes) (r : Result Commit StepRefusal) → mid ≡ old → CommitsSo s old k name contents → CommitDid s mid new k (CommitStep name) name contents r
     → IfOk r (λ c. ticket_of s new k ≡ committed_by name contents c (ticket_of s old k))
-committed_ticket s old mid new k name contents r e can did = committed s old new k name contents r can.2.out (commit_from s old mid new k name contents r e did)
+committed_ticket s old mid new k name contents r e can did = committed s old new k name contents r can.2.out (commit_from s old mid new k (CommitStep name) name contents r e did)
 
-commit_step : (s : Start) (old new : List Moment) (k : ℕ) (name : BlobName) (contents : Option Bytes) (r : Result Commit StepRefusal) → CommitDid s old new k name contents r → Did s old new k (CommitStep name) commit_reply r
-commit_step s old new k name contents (Ok commits.Done) did = did.0
-commit_step s old new k name contents (Ok commits.Exists) did = did.0
-commit_step s old new k name contents (Err e) did = did
+commit_step : (s : Start) (old new : List Moment) (k : ℕ) (step : Step) (name : BlobName) (contents : Option Bytes) (r : Result Commit StepRefusal) → CommitDid s old new k step name contents r → Did s old new k step commit_reply r
+commit_step s old new k step name contents (Ok commits.Done) did = did.0
+commit_step s old new k step name contents (Ok commits.Exists) did = did.0
+commit_step s old new k step name contents (Err e) did = did
 
-pub commit_did : (s : Start) (old mid new : List Moment) (k : ℕ) (name : BlobName) (contents : Option Bytes) (r : Result Commit StepRefusal) → mid ≡ old → CommitDid s mid new k name contents r → Did s old new k (CommitStep name) commit_reply r
-commit_did s old mid new k name contents r e did = commit_step s old new k name contents r (commit_from s old mid new k name contents r e did)
+pub commit_did : (s : Start) (old mid new : List Moment) (k : ℕ) (step : Step) (name : BlobName) (contents : Option Bytes) (r : Result Commit StepRefusal) → mid ≡ old → CommitDid s mid new k step name contents r → Did s old new k step commit_reply r
+commit_did s old mid new k step name contents r e did = commit_step s old new k step name contents r (commit_from s old mid new k step name contents r e did)
 
-pub commit_found : (s : Start) (old new : List Moment) (k : ℕ) (name : BlobName) (contents : Option Bytes) (r : Result Commit StepRefusal) → CommitDid s old new k name contents r → r ≡ Ok commits.Exists → IsMetadata name
-commit_found s old new k name contents r did e = (subst (CommitDid s old new k name contents) e did).1
+pub commit_found : (s : Start) (old new : List Moment) (k : ℕ) (step : Step) (name : BlobName) (contents : Option Bytes) (r : Result Commit StepRefusal) → CommitDid s old new k step name contents r → r ≡ Ok commits.Exists → IsMetadata name
+commit_found s old new k step name contents r did e = (subst (CommitDid s old new k step name contents) e did).1
 
-pub commit_kept : (s : Start) (old mid new : List Moment) (k : ℕ) (name : BlobName) (contents : Option Bytes) (r : Result Commit StepRefusal) → mid ≡ old → CommitDid s mid new k name contents r → OnErr r (ticket_of s new k ≡ ticket_of s old k)
-commit_kept s old mid new k name contents r e did = go r (commit_from s old mid new k name contents r e did)
+pub commit_kept : (s : Start) (old mid new : List Moment) (k : ℕ) (name : BlobName) (contents : Option Bytes) (r : Result Commit StepRefusal) → mid ≡ old → CommitDid s mid new k (CommitStep name) name contents r → OnErr r (ticket_of s new k ≡ ticket_of s old k)
+commit_kept s old mid new k name contents r e did = go r (commit_from s old mid new k (CommitStep name) name contents r e did)
   where
-    go : (q : Result Commit StepRefusal) → CommitDid s old new k name contents q → OnErr q (ticket_of s new k ≡ ticket_of s old k)
+    go : (q : Result Commit StepRefusal) → CommitDid s old new k (CommitStep name) name contents q → OnErr q (ticket_of s new k ≡ ticket_of s old k)
     go (Ok c) d = tt
     go (Err x) d = kept_by s old new k (CommitStep name) x (λ image. refl) d

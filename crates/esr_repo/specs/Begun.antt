@@ -2,6 +2,7 @@
 use Rattle.std.specs.Prelude.{◌≡◌, ℕ, ◌-◌, ◌^◌, ◌≤◌, false, Some}
 use Rattle.std.specs.FinMap as fin
 use Rattle.esr_core.specs.World as core
+use Rattle.esr_core.specs.World.{no_caller}
 use Rattle.esr_core.specs.ReadTracked.{ReadTracked}
 use Rattle.esr_depot.specs.Image.{Image as Held}
 use Rattle.esr_depot.specs.Look.{Look, now}
@@ -18,6 +19,7 @@ pub record IsBegun (s : Start) (clock : ℕ) (past : ℕ → Held → Type 0) (l
   pub live : s.world.deposed ≡ false
   pub no_tickets : s.world.tickets ≡ fin.empty
   pub read_tracked : ReadTracked s.world
+  pub uncalled : s.world.caller ≡ no_caller
   -- the infos that are kept are those of the listed snapshots
   pub infos : AreInfosOf (formats_of s) s.world s.tells k.infos
   pub listed : AreListed s.world.root k.infos

@@ -2,7 +2,7 @@
 use Rattle.std.specs.Prelude.{◌≡◌, ℕ, List, Option, Some, None, Result, Ok, Err, if◌then◌else◌}
 use Rattle.esr_model.specs.Names.{BlobName}
 use Rattle.esr_model.specs.Values.{Bytes}
-use Rattle.esr_core.specs.Entry.{Step, CommitStep, WasFetched, WasAbsent, Moment}
+use Rattle.esr_core.specs.Entry.{Step, WasFetched, WasAbsent, Moment}
 use Rattle.esr_core.specs.After.{told_blob}
 use Rattle.esr_core.specs.Allowed.{IsMetadata}
 use Rattle.esr_depot.specs.declared.depot.Commit.{Commit}
@@ -13,13 +13,13 @@ use Rattle.esr_desk.specs.declared.refusal.StepRefusal.{StepRefusal}
 use Rattle.esr_repo.specs.Next.{Added, AddedOr}
 
 -- a blob that was added is told as its stage was
-abbrev pub AddedBlob : Start → List Moment → List Moment → ℕ → BlobName → Option Bytes → Commit → Type 0
-AddedBlob s old new who name contents commits.Done = (a : Added s old new who (CommitStep name) (commit_reply commits.Done)) × (told_blob (formats_of s) a.image name ≡ contents)
-AddedBlob s old new who name contents commits.Exists = Added s old new who (CommitStep name) (commit_reply commits.Exists) × IsMetadata name
+abbrev pub AddedBlob : Start → List Moment → List Moment → ℕ → Step → BlobName → Option Bytes → Commit → Type 0
+AddedBlob s old new who step name contents commits.Done = (a : Added s old new who step (commit_reply commits.Done)) × (told_blob (formats_of s) a.image name ≡ contents)
+AddedBlob s old new who step name contents commits.Exists = Added s old new who step (commit_reply commits.Exists) × IsMetadata name
 
-abbrev pub CommitDid : Start → List Moment → List Moment → ℕ → BlobName → Option Bytes → Result Commit StepRefusal → Type 0
-CommitDid s old new who name contents (Ok c) = AddedBlob s old new who name contents c
-CommitDid s old new who name contents (Err e) = AddedOr s old new who (CommitStep name) e
+abbrev pub CommitDid : Start → List Moment → List Moment → ℕ → Step → BlobName → Option Bytes → Result Commit StepRefusal → Type 0
+CommitDid s old new who step name contents (Ok c) = AddedBlob s old new who step name contents c
+CommitDid s old new who step name contents (Err e) = AddedOr s old new who step e
 
 -- what can be read of a blob is what is told of it
 abbrev pub FetchDid : {F : Type 0} → (F → Option Bytes) → Start → List Moment → List Moment → ℕ → Step → BlobName → Result (Option F) StepRefusal → Type 0

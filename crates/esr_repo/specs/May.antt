@@ -1,13 +1,14 @@
 -- What a step needs so that it may be added to the history. Each answer that may come needs its case of what is allowed, for
 -- every image that the call of the container may leave.
-use Rattle.std.specs.Prelude.{◌≡◌, ◌⊎◌, ℕ, Bool, true, false, List, ◌++◌, Option, Some, None}
+use Rattle.std.specs.Prelude.{◌≡◌, ◌≢◌, ◌⊎◌, ℕ, Bool, true, false, List, ◌++◌, Option, Some, None}
 use Rattle.std.specs.Option.{unwrap_or, option_to_list}
 use Rattle.std.specs.FinMap as fin
 use Rattle.esr_model.specs.Names.{BlobName, Latest}
-use Rattle.esr_model.specs.Values.{Bytes, ShardResult, ReadsBack}
+use Rattle.esr_model.specs.Values.{Bytes, Has, ShardResult, ReadsBack}
 use Rattle.esr_model.specs.Image.{Blobs, Image, Present}
 use Rattle.esr_core.specs.World.{World, Op, AllDone, info_of, record_of}
-use Rattle.esr_core.specs.Entry.{ReadBlob, Step, BeginStep, CommitStep, LatestStep, FetchStep, ReadStep, Reply, WasBegun, WasDone, WasThere, WasReplaced, WasFetched, WasAbsent, HasEnded, Refused, DepotFault, NameTaken, Refusal, Moment}
+use Rattle.esr_core.specs.Entry.{ReadBlob, BeginTest, CommitTest, RemoveTests, WasRemoved, Step, BeginStep, CommitStep, LatestStep, FetchStep, ReadStep, Reply, WasBegun, WasDone, WasThere, WasReplaced, WasFetched, WasAbsent, HasEnded, Refused, DepotFault, NameTaken, Refusal, Moment}
+use Rattle.esr_core.specs.Steps.{Removes}
 use Rattle.esr_core.specs.After.{answered, done_step, swaps_record}
 use Rattle.esr_core.specs.Allowed.{Allows, Told, Adds, IsMetadata}
 use Rattle.esr_root.specs.Root.{Root}
@@ -84,11 +85,17 @@ pub record MaySwap (s : Start) (log : List Moment) (who : ℕ) (step : Step) (re
 abbrev pub IsNamed : Start → BlobName → Type 0
 IsNamed s name = ReadsBack (formats_of s).names name
 
+-- the step begins the blob: of a ticket, or of a verification
+abbrev pub IsBegin : Step → BlobName → Type 0
+IsBegin (BeginStep it) name = it ≡ name
+IsBegin (ReadStep (BeginTest it)) name = it ≡ name
+IsBegin step name = ⊥
+
 -- a blob is begun
-pub record MayBegin (s : Start) (log : List Moment) (who : ℕ) (name : BlobName) : Type 0 where
-  pub out : (ticket_of s log who).out ≡ true
-  pub begins : IsNamed s name → MayAnswer s log who (BeginStep name) WasBegun (Same s log)
-  pub fails : IsNamed s name → MayAnswer s log who (BeginStep name) (Refused DepotFault) (Same s log)
+pub record MayBegin (s : Start) (log : List Moment) (who : ℕ) (step : Step) (name : BlobName) : Type 0 where
+  pub is : IsBegin step name
+  pub begins : IsNamed s name → MayAnswer s log who step WasBegun (Same s log)
+  pub fails : IsNamed s name → MayAnswer s log who step (Refused DepotFault) (Same s log)
 
 -- there is a blob of the name already
 abbrev pub IsThere : Start → List Moment → BlobName → Blobs → Type 0
@@ -98,13 +105,20 @@ IsThere s log name blobs = Present (formats_of s) (world_of s log).blobs name ×
 abbrev pub IsAdded : Start → List Moment → BlobName → Bytes → Blobs → Type 0
 IsAdded s log name bytes = Adds (formats_of s) (world_of s log) name bytes
 
+-- the step commits the blob: of a ticket, or of a verification
+abbrev pub IsCommit : Step → BlobName → Type 0
+IsCommit (CommitStep it) name = it ≡ name
+IsCommit (ReadStep (CommitTest it)) name = it ≡ name
+IsCommit step name = ⊥
+
 -- a blob of these bytes is committed
-pub record MayCommit (s : Start) (log : List Moment) (who : ℕ) (name : BlobName) (bytes : Bytes) : Type 0 where
-  pub out : (ticket_of s log who).out ≡ true
-  pub commits : IsNamed s name → MayAnswer s log who (CommitStep name) WasDone (IsAdded s log name bytes)
-  pub finds : IsNamed s name → IsMetadata name → MayAnswer s log who (CommitStep name) WasThere (IsThere s log name)
-  pub taken : IsNamed s name → (IsMetadata name → ⊥) → MayAnswer s log who (CommitStep name) (Refused (NameTaken name)) (IsThere s log name)
-  pub fails : IsNamed s name → MayAnswer s log who (CommitStep name) (Refused DepotFault) (λ blobs. Same s log blobs ⊎ IsAdded s log name bytes blobs)
+pub record MayCommit (s : Start) (log : List Moment) (who : ℕ) (step : Step) (name : BlobName) (bytes : Bytes) : Type 0 where
+  pub is : IsCommit step name
+  pub stored : name ≢ Latest
+  pub commits : IsNamed s name → MayAnswer s log who step WasDone (IsAdded s log name bytes)
+  pub finds : IsNamed s name → IsMetadata name → MayAnswer s log who step WasThere (IsThere s log name)
+  pub taken : IsNamed s name → (IsMetadata name → ⊥) → MayAnswer s log who step (Refused (NameTaken name)) (IsThere s log name)
+  pub fails : IsNamed s name → MayAnswer s log who step (Refused DepotFault) (λ blobs. Same s log blobs ⊎ IsAdded s log name bytes blobs)
 
 -- the blob was put, whether its name was free or taken
 abbrev pub IsPut : Start → List Moment → BlobName → Bytes → Blobs → Type 0
@@ -132,3 +146,16 @@ pub record MayFetch (s : Start) (log : List Moment) (who : ℕ) (step : Step) (n
   pub fetches : IsNamed s name → MayAnswer s log who step WasFetched (λ blobs. (bytes : Bytes) × IsFound s log name (Some bytes) blobs)
   pub misses : IsNamed s name → MayAnswer s log who step WasAbsent (IsFound s log name None)
   pub fails : IsNamed s name → MayAnswer s log who step (Refused DepotFault) (Same s log)
+
+-- some of these blobs are gone, and nothing else
+abbrev pub IsLess : Start → List Moment → List BlobName → Blobs → Type 0
+IsLess s log names blobs = Removes (formats_of s) (world_of s log).blobs blobs names
+
+-- all of them are gone
+abbrev pub AreGone : Start → List Moment → List BlobName → Blobs → Type 0
+AreGone s log names blobs = IsLess s log names blobs × ((name : BlobName) → Has names name → fin.get blobs ((formats_of s).names.text name) ≡ None)
+
+-- who 0 removes these test blobs
+pub record MayRemove (s : Start) (log : List Moment) (names : List BlobName) : Type 0 where
+  pub removes : MayAnswer s log 0 (ReadStep (RemoveTests names)) WasRemoved (AreGone s log names)
+  pub fails : MayAnswer s log 0 (ReadStep (RemoveTests names)) (Refused DepotFault) (IsLess s log names)

@@ -1,9 +1,11 @@
 -- A container beside the history of its steps, and what is kept of the world that they lead to.
 use Rattle.std.specs.Prelude.{◌≡◌, ℕ, ◌+◌, ◌-◌, ◌^◌, ◌≤◌, Bool, true, false, List, length, Option, Some, None}
 use Rattle.std.specs.FinMap as fin
+use Rattle.esr_model.specs.Names.{BlobName}
 use Rattle.esr_model.specs.Values.{Has, RootSnap, RootData, ReadsBack}
-use Rattle.esr_core.specs.World.{World, Deleting, Swap, Ticket, record_of}
+use Rattle.esr_core.specs.World.{World, Deleting, Swap, Ticket, Caller, record_of}
 use Rattle.esr_core.specs.World as core
+use Rattle.esr_core.specs.Restores.{IsTestOf}
 use Rattle.esr_core.specs.Entry.{Entry, Moment}
 use Rattle.esr_core.specs.Tracked.{Tracked}
 use Rattle.esr_core.specs.Ranked.{Ranked}
@@ -35,6 +37,14 @@ pub record HasInfos (s : Start) (w : World) (infos : List Info) : Type 0 where
   pub are : AreInfosOf (formats_of s) w s.tells infos
   pub listed : AreListed w.root infos
 
+-- the name is that of a test blob
+abbrev pub IsTest : BlobName → Type 0
+IsTest name = (id : ℕ) × IsTestOf id name
+
+-- what who 0 has committed are test blobs
+abbrev pub AreTests : Caller → Type 0
+AreTests c = (name : BlobName) → Has c.committed name → IsTest name
+
 -- what holds of the world, whatever is kept
 pub record IsSteady (s : Start) (log : List Moment) (l : Look) : Type 0 where
   pub legal : Legal s log
@@ -45,6 +55,7 @@ pub record IsSteady (s : Start) (log : List Moment) (l : Look) : Type 0 where
   pub no_deletes : (world_of s log).deletes ≡ fin.empty
   pub no_deleting : NoDeleting (world_of s log)
   pub read_tracked : ReadTracked (world_of s log)
+  pub tests : AreTests (world_of s log).caller
   pub few_ops : (world_of s log).next_op ≤ s.world.next_op + length log
   pub few_tickets : (world_of s log).next_ticket ≤ s.world.next_ticket + length log
 

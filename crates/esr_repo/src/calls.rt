@@ -1,7 +1,7 @@
 //! The steps that call the container for a blob.
 ghost use Rattle.std.specs.Prelude.{◌≡◌, true, false, ◌⊎◌, ◌<◌, ◌^◌, [], length, IsTrue, Option, Some, None, IfOk, IfErr, IfSome};
 ghost use Rattle.esr_model.specs.Names.{Latest};
-ghost use Rattle.esr_core.specs.Entry.{BeginStep, LatestStep, WasBegun, WasReplaced};
+ghost use Rattle.esr_core.specs.Entry.{LatestStep, WasBegun, WasReplaced};
 ghost use Rattle.esr_core.specs.Entry.{Refused as RefusedAs, DepotFault as FaultOf};
 ghost use Rattle.esr_desk.specs.Entries.{step_of};
 ghost use Rattle.esr_core.specs.Allowed.{IsMetadata};
@@ -44,7 +44,7 @@ fn is_metadata(name: BlobName) -> bool
 }
 
 /// The entry of a step in which the container failed.
-fn faulted(who: u64, step: Step) -> Entry
+pub(crate) fn faulted(who: u64, step: Step) -> Entry
     ensures { result ≡ record { who = who; step = step_of step; reply = RefusedAs FaultOf } }
 {
     let refusal = EntryRefusal::DepotFault;
@@ -53,18 +53,19 @@ fn faulted(who: u64, step: Step) -> Entry
 }
 
 impl<D: Depot, K: Told> Repo<D, K> {
-    /// A new stage.
+    /// A new stage, by this step.
     pub(crate) fn call_begin(
         &mut self,
         alloc: Global,
         who: u64,
+        step: Step,
         name: BlobName,
         room: usize,
     ) -> Result<Named<D::Stage>, StepRefusal>
         requires live { IsLive K.start self.old }
         requires layout { IsName name }
-        requires may { MayBegin K.start self.old who (name_of name) }
-        ensures step { Did K.start self.old self.new who (BeginStep (name_of name)) (λ stage. WasBegun) result }
+        requires may { MayBegin K.start self.old who (step_of step) (name_of name) }
+        ensures step { Did K.start self.old self.new who (step_of step) (λ stage. WasBegun) result }
         ensures name { IfOk result (λ s. s.name ≡ name) }
         ensures room { IfOk result (λ s. D.Stage.room s.stage ≡ room) }
         ensures contents { IfOk result (λ s. Holds K.start (D.Stage.contents s.stage) []) }
@@ -79,31 +80,34 @@ impl<D: Depot, K: Told> Repo<D, K> {
         }
         match self.depot.begin(alloc, text.as_str(), room) {
             Ok(stage) => {
-                let step = Step::Begin { name };
                 let answer = Answer::Begun;
                 self.history.push_reserved(Entry { who, step, answer });
                 Ok(Named { name, stage })
             }
-            Err(CallError::Memory) => Err(StepRefusal::Memory),
+            Err(CallError::Memory) => {
+                drop(step);
+                Err(StepRefusal::Memory)
+            }
             Err(CallError::Failed) => {
-                self.history
-                    .push_reserved(faulted(who, Step::Begin { name }));
+                self.history.push_reserved(faulted(who, step));
                 Err(StepRefusal::Refused(EntryRefusal::DepotFault))
             }
         }
     }
 
-    /// A blob is committed. One that is there counts where it is of a finalization's metadata, and is refused else.
+    /// A blob is committed by this step. One that is there counts where it is of a finalization's metadata, and is refused
+    /// else.
     pub(crate) fn call_commit(
         &mut self,
         alloc: Global,
         who: u64,
+        step: Step,
         stage: Named<D::Stage>,
     ) -> Result<Commit, StepRefusal>
         requires live { IsLive K.start self.old }
         requires layout { IsName stage.name }
-        requires may { (bytes : _) × Holds K.start (D.Stage.contents stage.stage) bytes × MayCommit K.start self.old who (name_of stage.name) bytes }
-        ensures step { CommitDid K.start self.old self.new who (name_of stage.name) (D.Stage.contents stage.stage) result }
+        requires may { (bytes : _) × Holds K.start (D.Stage.contents stage.stage) bytes × MayCommit K.start self.old who (step_of step) (name_of stage.name) bytes }
+        ensures step { CommitDid K.start self.old self.new who (step_of step) (name_of stage.name) (D.Stage.contents stage.stage) result }
         ensures why { IfErr result (λ e. (e ≡ Memory) ⊎ ((e ≡ Refused DepotFault) ⊎ ((e ≡ Refused (NameTaken stage.name)) × (IsMetadata (name_of stage.name) → ⊥)))) }
     {
         Self::laws();
@@ -114,28 +118,28 @@ impl<D: Depot, K: Told> Repo<D, K> {
         }
         match self.depot.commit(alloc, stage) {
             Ok(Commit::Done) => {
-                let step = Step::Commit { name };
                 let answer = Answer::Done;
                 self.history.push_reserved(Entry { who, step, answer });
                 Ok(Commit::Done)
             }
             Ok(Commit::Exists) => {
                 if is_metadata(name) {
-                    let step = Step::Commit { name };
                     let answer = Answer::Exists;
                     self.history.push_reserved(Entry { who, step, answer });
                     return Ok(Commit::Exists);
                 }
                 let refusal = EntryRefusal::NameTaken { name };
-                let step = Step::Commit { name };
                 let answer = Answer::Refused { refusal };
                 self.history.push_reserved(Entry { who, step, answer });
                 Err(StepRefusal::Refused(refusal))
             }
-            Err(CallError::Memory) => Err(StepRefusal::Memory),
+            Err(CallError::Memory) => {
+                drop(step);
+                Err(StepRefusal::Memory)
+            }
             Err(CallError::Failed) => {
-                self.history
-                    .push_reserved(faulted(who, Step::Commit { name }));
+                let failed = faulted(who, step);
+                self.history.push_reserved(failed);
                 Err(StepRefusal::Refused(EntryRefusal::DepotFault))
             }
         }

@@ -13,7 +13,7 @@ ghost use Rattle.esr_record.specs.Record.{AreNumbers};
 ghost use Rattle.esr_progress.specs.Plan.{IsPlanOf, seat_of, seat_of_code};
 ghost use Rattle.esr_desk.specs.Numbered.{Numbered};
 ghost use Rattle.esr_desk.specs.Start.{world_of, ticket_of};
-ghost use Rattle.esr_repo.specs.Repo.{NoDeleting, HasInfos};
+ghost use Rattle.esr_repo.specs.Repo.{NoDeleting, AreTests, HasInfos};
 ghost use Rattle.esr_repo.specs.Next.{IsLive};
 
 use crate::{Repo, Told};
@@ -32,6 +32,7 @@ impl<D: Depot, K: Told> Repo<D, K> {
         ensures no_deletes { (world_of K.start self.now).deletes ≡ fin.empty }
         ensures no_deleting { NoDeleting (world_of K.start self.now) }
         ensures read_tracked { ReadTracked (world_of K.start self.now) }
+        ensures tests { AreTests (world_of K.start self.now).caller }
         ensures few_ops { length self.now < 2 ^ 41 → (world_of K.start self.now).next_op < 2 ^ 62 }
         ensures few_tickets { length self.now < 2 ^ 41 → (world_of K.start self.now).next_ticket < 2 ^ 62 }
     {

@@ -7,12 +7,14 @@ mod begun;
 mod calls;
 mod ending;
 mod kept;
+mod removing;
 mod renewing;
 mod repo;
 mod restoring;
 mod steps;
 mod swap;
 mod taking;
+mod testing;
 mod told;
 mod writing;
 

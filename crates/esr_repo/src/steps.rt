@@ -5,6 +5,7 @@ ghost use Rattle.esr_desk.specs.Entries.{step_of, answer_of};
 ghost use Rattle.esr_desk.specs.Refusals.{refusal_of};
 ghost use Rattle.esr_desk.specs.Readers.{reader_of};
 ghost use Rattle.esr_desk.specs.Start.{ticket_of};
+ghost use Rattle.esr_checking.specs.Caller.{caller_of};
 ghost use Rattle.esr_desk.specs.declared.refusal.StepRefusal.TheVariants.{Memory, Refused};
 ghost use Rattle.esr_repo.specs.Next.{IsLive, Checked, Did, AddedOr};
 ghost use Rattle.esr_repo.specs.May.{MayNote, MayRefuse};
@@ -30,6 +31,7 @@ impl<D: Depot, K: Told> Repo<D, K> {
         ensures step { Checked K.start self.old self.new who (step_of step) result }
         ensures kept { (k : ℕ) → ticket_of K.start self.new k ≡ ticket_of K.start self.old k }
         ensures readers { (k : ℕ) → reader_of K.start self.new k ≡ reader_of K.start self.old k }
+        ensures caller { caller_of K.start self.new ≡ caller_of K.start self.old }
     {
         Self::laws();
         let Some(entry) = self.deposed else {

@@ -71,7 +71,7 @@ impl<D: Depot, K: Told> Repo<D, K> {
         ensures sure { IfOk result (λ s. K.start.quiet ≡ true → length self.old < 2 ^ 41 → IsTrue (D.Stage.is_sure s.stage)) }
     {
         self.check(ticket, Step::Begin { name })?;
-        self.call_begin(alloc, ticket, name, room)
+        self.call_begin(alloc, ticket, Step::Begin { name }, name, room)
     }
 
     /// Adds the whole blob. A blob of a finalization that is there already counts as committed; any other is refused as
@@ -93,7 +93,8 @@ impl<D: Depot, K: Told> Repo<D, K> {
     {
         self.check(ticket, Step::Commit { name: stage.name })?;
         self.rules();
-        self.call_commit(alloc, ticket, stage)
+        let step = Step::Commit { name: stage.name };
+        self.call_commit(alloc, ticket, step, stage)
     }
 
     /// Puts `index.latest`, which tells the generation that the ticket raised. Nothing reads it, so a failure is no

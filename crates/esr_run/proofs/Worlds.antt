@@ -158,6 +158,7 @@ begins tracks files size quiet before after k o listed only =
       order = subst IsInOrder (sym is) o.order;
       live = refl;
       no_tickets = refl;
+      uncalled = refl;
       read_tracked = subst ReadTracked (sym is) (tracks (known_blobs (now before)) (cluster_of o.cluster) (root_of o.root));
       infos = subst (λ (x : World). AreInfosOf (formats_by files) x (is_some (now after)) k.infos) (sym is)
           (subst (λ (b : Bool). AreInfosOf (formats_by files) w b k.infos) (told_some (now before) ∙ sym (same_tells before after k o)) (o.infos (known_by files) (told_by files)));

@@ -3,3 +3,4 @@ pub mod Committing
 pub mod Single
 pub mod Stepping
 pub mod Reading
+pub mod Alone

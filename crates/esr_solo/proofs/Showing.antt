@@ -83,7 +83,7 @@ longer_read log m place who why r =
       reply = r.reply;
     }
 
-longer_either : (log : List Moment) (m : Moment) (place who : ℕ) (why : Why) → IsReport log place who why ⊎ IsReadReport log place who why → IsReport (log ++ m ∷ []) place who why ⊎ IsReadReport (log ++ m ∷ []) place who why
+pub longer_either : (log : List Moment) (m : Moment) (place who : ℕ) (why : Why) → IsReport log place who why ⊎ IsReadReport log place who why → IsReport (log ++ m ∷ []) place who why ⊎ IsReadReport (log ++ m ∷ []) place who why
 longer_either log m place who why (inl r) = inl (longer log m place who why r)
 longer_either log m place who why (inr r) = inr (longer_read log m place who why r)
 
@@ -145,7 +145,7 @@ abbrev pub AreListedStill : {S F H T : Type 0} → List (Fault S F H T) → List
 AreListedStill {S} {F} {H} {T} faults more = (place : ℕ) (b : By S F H T) → IsListed faults place b → IsListed more place b
 
 -- one more entry, which reports no failure of a unit
-units_go_on : {S F H T : Type 0} (c : Counts S F H T) (s : Start) (log : List Moment) (m : Moment) (faults more : List (Fault S F H T)) → AreListedStill faults more → IsOfNoUnit m → AreUnitsShown c s log faults → AreUnitsShown c s (log ++ m ∷ []) more
+pub units_go_on : {S F H T : Type 0} (c : Counts S F H T) (s : Start) (log : List Moment) (m : Moment) (faults more : List (Fault S F H T)) → AreListedStill faults more → IsOfNoUnit m → AreUnitsShown c s log faults → AreUnitsShown c s (log ++ m ∷ []) more
 units_go_on c s log m faults more still none h place who why r =
     ⊎_elim
     (λ d. absurd (none why (ap (λ (x : Moment). x.entry.step) d.1 ∙ r.step) (ap (λ (x : Moment). x.entry.reply) d.1 ∙ r.reply)))

@@ -1,6 +1,7 @@
 //! The desk of one thread.
 #![tactic(auto)]
 
+mod checking;
 mod desk;
 mod faults;
 mod restoring;

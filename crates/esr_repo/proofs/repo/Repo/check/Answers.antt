@@ -6,6 +6,7 @@ use Rattle.esr_repo.proofs.Plain.{deposed_added, deposed_repo, refused_tickets}
 use Rattle.esr_repo.proofs.BlobCalls.{Pushed}
 use Rattle.esr_repo.proofs.Pasts.{noted_whole}
 use Rattle.esr_repo.proofs.Reading.{refused_readers}
+use Rattle.esr_repo.proofs.Callers.{deposed_caller}
 use Rattle.esr_repo.proofs.Failing.{no_later, deposed_faults}
 use Rattle.esr_repo.proofs.Calms.{no_call, calm_goes}
 use Rattle.esr_repo.proofs.repo.Repo.check.Goals as goal
@@ -34,3 +35,6 @@ returns-clause-kept g c = refused_tickets g.K.Told.start c.args.self.now _ c.arg
 
 pub returns-clause-readers : goal.returns-clause-readers
 returns-clause-readers g c = refused_readers g.K.Told.start c.args.self.now _ c.args.who (step_of c.args.step) (DeposedAt c.in-Some.entry) refl (returns-clause-step g c)
+
+pub returns-clause-caller : goal.returns-clause-caller
+returns-clause-caller g c = deposed_caller g.K.Told.start c.args.self.now _ c.args.who (step_of c.args.step) c.in-Some.entry (returns-clause-step g c)

@@ -1,0 +1,161 @@
+//! The steps of a verification.
+ghost use Rattle.std.specs.Prelude.{◌≡◌, ◌<◌, ◌≤◌, ◌^◌, [], ◌∷◌, ◌++◌, length, map, true, None, IsTrue, IfOk, IfSome, OnOk, OnErr};
+ghost use Rattle.esr_model.specs.Values.{Bytes, Has};
+ghost use Rattle.esr_core.specs.World.{no_caller};
+ghost use Rattle.esr_core.specs.Entry.{ReadStep, ReadBlob, DrawTest, BeginTest, CommitTest, RemoveTests, VerifiedAll, ReadFails, DrawnFrom, WasBegun, WasDone, WasRemoved, HasEnded};
+ghost use Rattle.esr_names.specs.Layout.{IsName};
+ghost use Rattle.esr_formats.specs.Names.{name_of};
+ghost use Rattle.esr_desk.specs.Entries.{why_of, step_of};
+ghost use Rattle.esr_desk.specs.Outcome.{fetch_reply};
+ghost use Rattle.esr_desk.specs.Conditions.{Holds};
+ghost use Rattle.esr_checking.specs.Caller.{caller_of, drawn_by, fetched_by};
+ghost use Rattle.esr_checking.specs.Conditions.{IsOwn, CanCommit, CanFetch, CanRemove, CanEnd};
+ghost use Rattle.esr_repo.specs.Next.{Did};
+
+use crate::{Repo, Told};
+use esr_depot::{Depot, Fetch, Stage};
+use esr_desk::{Answer, BlobNames, EntryRefusal, Named, Read, Step, StepRefusal, Why};
+use esr_names::{BlobName, Id};
+use esr_seq::Seq;
+use std::alloc::{AllocError, Global};
+
+/// The step that takes test blobs away.
+fn removes(alloc: Global, names: &[BlobName]) -> Result<Step, AllocError>
+    ensures { IfOk result (λ step. step_of step ≡ ReadStep (RemoveTests (map name_of names.now))) }
+{
+    let names = BlobNames::from_slice(alloc, names)?;
+    let read = Read::RemoveTests { names };
+    Ok(Step::Read { read })
+}
+
+impl<D: Depot, K: Told> Repo<D, K> {
+    /// Draws the id of the test blobs, which begins a verification.
+    pub fn draw_test(&mut self, alloc: Global) -> Result<Id, StepRefusal>
+        requires idle { (caller_of K.start self.old).drawn ≡ None }
+        ensures step { Did K.start self.old self.new 0 (ReadStep DrawTest) (λ id. DrawnFrom id.number) result }
+        ensures own { caller_of K.start self.new ≡ drawn_by result (caller_of K.start self.old) }
+        ensures range { IfOk result (λ id. id.number < 2 ^ 128) }
+    {
+        let read = Read::DrawTest;
+        self.check(0, Step::Read { read })?;
+        let read = Read::DrawTest;
+        let step = Step::Read { read };
+        let first = self.next_id();
+        let Some(next) = self.id_after(1) else {
+            let refusal = EntryRefusal::IdsSpent { next: first };
+            return Err(self.refuse(0, step, refusal));
+        };
+        self.note(0, step, Answer::Drawn { first }, None, next)?;
+        Ok(first)
+    }
+
+    /// A new stage for a test blob of that name, for at most `room` bytes.
+    pub fn begin_test(
+        &mut self,
+        alloc: Global,
+        name: BlobName,
+        room: usize,
+    ) -> Result<Named<D::Stage>, StepRefusal>
+        requires layout { IsName name }
+        requires may { IsOwn (caller_of K.start self.old) (name_of name) }
+        ensures step { Did K.start self.old self.new 0 (ReadStep (BeginTest (name_of name))) (λ stage. WasBegun) result }
+        ensures own { caller_of K.start self.new ≡ caller_of K.start self.old }
+        ensures name { IfOk result (λ s. s.name ≡ name) }
+        ensures room { IfOk result (λ s. D.Stage.room s.stage ≡ room) }
+        ensures contents { IfOk result (λ s. Holds K.start (D.Stage.contents s.stage) []) }
+        ensures count { IfOk result (λ s. D.Stage.faults s.stage ≡ 0) }
+        ensures sure { IfOk result (λ s. K.start.quiet ≡ true → length self.old < 2 ^ 41 → IsTrue (D.Stage.is_sure s.stage)) }
+    {
+        let read = Read::BeginTest { name };
+        self.check(0, Step::Read { read })?;
+        self.rules();
+        let read = Read::BeginTest { name };
+        self.call_begin(alloc, 0, Step::Read { read }, name, room)
+    }
+
+    /// Adds the whole test blob. One that is there is refused as `NameTaken`.
+    pub fn commit_test(&mut self, alloc: Global, stage: Named<D::Stage>) -> Result<(), StepRefusal>
+        requires layout { IsName stage.name }
+        requires holds { (bytes : Bytes) × Holds K.start (D.Stage.contents stage.stage) bytes }
+        requires may { CanCommit (caller_of K.start self.old) (name_of stage.name) }
+        ensures step { Did K.start self.old self.new 0 (ReadStep (CommitTest (name_of stage.name))) (λ _. WasDone) result }
+        ensures own { OnOk result (caller_of K.start self.new
+            ≡ record (caller_of K.start self.old) { committed = name_of stage.name ∷ (caller_of K.start self.old).committed }) }
+        ensures kept { OnErr result (caller_of K.start self.new ≡ caller_of K.start self.old) }
+    {
+        let name = stage.name;
+        let read = Read::CommitTest { name };
+        self.check(0, Step::Read { read })?;
+        self.rules();
+        let read = Read::CommitTest { name };
+        self.call_commit(alloc, 0, Step::Read { read }, stage)?;
+        Ok(())
+    }
+
+    /// The test blob of that name, to be read from its first byte, or `None` where there is none.
+    pub fn fetch_test(
+        &mut self,
+        alloc: Global,
+        name: BlobName,
+    ) -> Result<Option<D::Fetch>, StepRefusal>
+        requires layout { IsName name }
+        requires may { CanFetch (caller_of K.start self.old) (name_of name) }
+        ensures step { Did K.start self.old self.new 0 (ReadStep (ReadBlob (name_of name))) fetch_reply result }
+        ensures own { IfOk result (λ o. caller_of K.start self.new
+            ≡ fetched_by D.Fetch.left (name_of name) o (caller_of K.start self.old)) }
+        ensures told { IfOk result (λ o. IfSome o (λ f. (bytes : Bytes) × Holds K.start (D.Fetch.left f) bytes)) }
+        ensures count { IfOk result (λ o. IfSome o (λ f. D.Fetch.faults f ≡ 0)) }
+        ensures sure { IfOk result (λ o. IfSome o (λ f. K.start.quiet ≡ true → length self.old < 2 ^ 41 → IsTrue (D.Fetch.is_sure f))) }
+        ensures kept { OnErr result (caller_of K.start self.new ≡ caller_of K.start self.old) }
+    {
+        let read = Read::Blob { name };
+        self.check(0, Step::Read { read })?;
+        self.rules();
+        let read = Read::Blob { name };
+        self.call_fetch(alloc, 0, Step::Read { read }, name)
+    }
+
+    /// Takes the test blobs of these names away.
+    pub fn remove_tests(&mut self, alloc: Global, names: &Seq<BlobName>) -> Result<(), StepRefusal>
+        requires layout { (name : BlobName) → Has names.now name → IsName name }
+        requires may { CanRemove (caller_of K.start self.old) (map name_of names.now) }
+        ensures step { Did K.start self.old self.new 0 (ReadStep (RemoveTests (map name_of names.now))) (λ _. WasRemoved) result }
+        ensures own { OnOk result (caller_of K.start self.new
+            ≡ record (caller_of K.start self.old) { removed = map name_of names.now ++ (caller_of K.start self.old).removed }) }
+        ensures kept { OnErr result (caller_of K.start self.new ≡ caller_of K.start self.old) }
+    {
+        let names = names.as_slice();
+        self.check(0, removes(alloc, names)?)?;
+        self.rules();
+        let step = removes(alloc, names)?;
+        self.call_remove(alloc, step, names)
+    }
+
+    /// The container was verified: each test blob was there, and was removed.
+    pub fn verified(&mut self, alloc: Global) -> Result<(), StepRefusal>
+        requires may { CanEnd (caller_of K.start self.old) }
+        ensures step { Did K.start self.old self.new 0 (ReadStep VerifiedAll) (λ _. HasEnded) result }
+        ensures own { OnOk result (caller_of K.start self.new ≡ no_caller) }
+        ensures kept { OnErr result (caller_of K.start self.new ≡ caller_of K.start self.old) }
+    {
+        let read = Read::Verified;
+        self.check(0, Step::Read { read })?;
+        let next = self.next_id();
+        let read = Read::Verified;
+        self.note(0, Step::Read { read }, Answer::Ended, None, next)
+    }
+
+    /// The verification failed.
+    pub fn unverified(&mut self, alloc: Global, why: Why) -> Result<(), StepRefusal>
+        requires open { (caller_of K.start self.old).drawn ≡ None → ⊥ }
+        ensures step { Did K.start self.old self.new 0 (ReadStep (ReadFails (why_of why))) (λ _. HasEnded) result }
+        ensures own { OnOk result (caller_of K.start self.new ≡ no_caller) }
+        ensures kept { OnErr result (caller_of K.start self.new ≡ caller_of K.start self.old) }
+    {
+        let read = Read::Failed { why };
+        self.check(0, Step::Read { read })?;
+        let next = self.next_id();
+        let read = Read::Failed { why };
+        self.note(0, Step::Read { read }, Answer::Ended, None, next)
+    }
+}

@@ -1,0 +1,17 @@
+use Rattle.esr_core.specs.Entry.{ReadStep, CommitTest}
+use Rattle.esr_formats.specs.Names.{name_of}
+use Rattle.esr_solo.proofs.Stepping.{outcome, waited, spends}
+use Rattle.esr_solo.proofs.Alone.{keeps_alone}
+use Rattle.esr_solo.proofs.checking.SoloVerifyDesk.commit_test.Goals as goal
+
+pub returns-then-self-eq0-clause-step : goal.returns-then-self-eq0-clause-step
+returns-then-self-eq0-clause-step g c = (
+  waited g.K.Told.start c.self.inside.repo c.args.self.now 0 c.self.view_is c.is_legal.ensures,
+  spends g.K.Told.start c.self.inside.repo c.args.self.now c.self.inside.left c.self.view_is c.self.invariant.0 c.if-self-eq0.true,
+)
+
+pub invariant_of-self : goal.invariant_of-self
+invariant_of-self g c = keeps_alone _ g.K.Told.start c.self.inside.repo c.commit_test-answer.new.self (CommitTest (name_of c.args.name)) _ c.commit_test-answer.result c.self.inside.faults.items c.self.inside.left c.turns.result _ c.self.invariant c.if-self-eq0.false c.turns.ensures c.commit_test-answer.ensures.step
+
+pub returns-clause-step : goal.returns-clause-step
+returns-clause-step g c = outcome g.K.Told.start c.self.inside.repo c.args.self.now c.commit_test-answer.new.self 0 (ReadStep (CommitTest (name_of c.args.name))) _ c.commit_test-answer.result c.self.view_is c.is_legal.ensures c.commit_test-answer.ensures.step

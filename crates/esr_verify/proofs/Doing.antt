@@ -1,0 +1,149 @@
+-- What who 0 has done of a verification, step by step.
+use Rattle.std.proofs.Common.{◌≡◌, inl, inr, ⊎_elim, ℕ, Bool, true, false, List, [], ◌∷◌, ◌++◌, Option, Some, None, Ok, refl, sym, ap, ◌∙◌, subst}
+use Rattle.std.specs.Prelude.{if◌then◌else◌}
+use Rattle.std.specs.Io.KnownBytes.{append_known}
+use Rattle.esr_names.specs.declared.ids.Id.{Id}
+use Rattle.esr_names.specs.IdText.{id_text}
+use Rattle.esr_model.specs.Names.{BlobName}
+use Rattle.esr_model.specs.Values.{Bytes, Has}
+use Rattle.esr_core.specs.World.{Caller, no_caller}
+use Rattle.esr_core.specs.Restores.{IsTestOf, WasRead}
+use Rattle.esr_core.specs.After.{caller_told}
+use Rattle.esr_core.specs.Entry.{Moment, ReadStep, BeginTest, CommitTest, WasBegun, WasDone}
+use Rattle.esr_fetch.specs.Told.{Tells}
+use Rattle.esr_desk.specs.Conditions.{Holds}
+use Rattle.esr_desk.specs.Start.{Start, told_bytes}
+use Rattle.esr_desk.specs.Outcome.{Stepped}
+use Rattle.esr_checking.specs.Caller.{caller_of, drawn_by}
+use Rattle.esr_checking.specs.Conditions.{IsOwn, CanCommit, CanFetch}
+use Rattle.esr_verify.specs.Idle.{IsIdle}
+use Rattle.esr_verify.specs.Went.{Drew}
+use Rattle.esr_verify.specs.Done.{HasDone, Wrote}
+use Rattle.esr_verify.proofs.Listing.{has_either, has_left, has_last}
+use Rattle.esr_verify.proofs.Going.{stepped_went, went_on}
+
+-- ---- what a step needs
+
+pub is_own : (s : Start) (log : List Moment) (id : ℕ) (name : BlobName) → Drew s log id → IsTestOf id name → IsOwn (caller_of s log) name
+is_own s log id name drew own = record { id = id; drawn = drew.is_open; test = own }
+
+pub can_commit : (s : Start) (old mid : List Moment) (id : ℕ) (name at : BlobName) → Drew s old id → IsTestOf id name → (Has (caller_of s old).committed name → ⊥) → caller_of s mid ≡ caller_of s old → at ≡ name → CanCommit (caller_of s mid) at
+can_commit s old mid id name at drew own once same is =
+    subst (λ (n : BlobName). CanCommit (caller_of s mid) n) (sym is)
+    (subst (λ (c : Caller). CanCommit c name) (sym same) (record { own = is_own s old id name drew own; once = once }))
+
+not_none : (drawn : Option ℕ) (id : ℕ) → drawn ≡ Some id → drawn ≡ None → ⊥
+not_none drawn id some none = cc
+
+pub is_open : (s : Start) (log : List Moment) (id : ℕ) → Drew s log id → (caller_of s log).drawn ≡ None → ⊥
+is_open s log id drew none = not_none (caller_of s log).drawn id drew.is_open none
+
+pub none_removed : (removed : List BlobName) (name : BlobName) → removed ≡ [] → Has removed name → ⊥
+none_removed removed name is has = subst (λ (l : List BlobName). Has l name) is has
+
+pub can_fetch : (s : Start) (log : List Moment) (id : ℕ) (name : BlobName) → Drew s log id → Has (caller_of s log).committed name → (caller_of s log).removed ≡ [] → (Has (caller_of s log).fetched name → ⊥) → CanFetch (caller_of s log) name
+can_fetch s log id name drew committed unremoved once = record {
+  drawn = is_open s log id drew;
+  committed = committed;
+  unremoved = none_removed (caller_of s log).removed name unremoved;
+  once = once;
+}
+
+-- ---- the id is drawn
+
+nothing_done : (s : Start) (id : ℕ) (looked : Bool) → HasDone s (record no_caller { looked = looked; drawn = Some id }) id [] []
+nothing_done s id looked = record {
+  drawn = refl;
+  committed = λ name none. none;
+  only = λ name none. none;
+  once = λ name none. none;
+  found = λ name none. absurd none;
+  read = λ name none tells. absurd none;
+  unremoved = refl;
+}
+
+pub done_none : (s : Start) (old new : Caller) (id : Id) → IsIdle old → new ≡ drawn_by (Ok id) old → HasDone s new id.number [] []
+done_none s old new id idle is =
+    let same : new ≡ record no_caller { looked = old.looked; drawn = Some id.number } = is ∙ ap (λ (c : Caller). record c { drawn = Some id.number }) idle in
+    subst (λ (c : Caller). HasDone s c id.number [] []) (sym same) (nothing_done s id.number old.looked)
+
+pub drawn_open : (old new : Caller) (id : Id) → new ≡ drawn_by (Ok id) old → new.drawn ≡ Some id.number
+drawn_open old new id is = ap (λ (c : Caller). c.drawn) is
+
+-- ---- a step that leaves the id
+
+pub committed_drawn : (old new : Caller) (name : BlobName) → new ≡ record old { committed = name ∷ old.committed } → new.drawn ≡ old.drawn
+committed_drawn old new name is = ap (λ (c : Caller). c.drawn) is
+
+pub removed_drawn : (old new : Caller) (names : List BlobName) → new ≡ record old { removed = names ++ old.removed } → new.drawn ≡ old.drawn
+removed_drawn old new names is = ap (λ (c : Caller). c.drawn) is
+
+-- ---- a test blob is written
+
+-- the bytes of a stage that began empty
+told_append : (s : Start) (bytes : Bytes) → append_known (told_bytes s []) bytes ≡ told_bytes s bytes
+told_append s bytes = by_tells s.tells bytes
+  where
+    by_tells : (tells : Bool) (bytes : Bytes) → append_known (if tells then Some [] else None) bytes ≡ (if tells then Some bytes else None)
+    by_tells true bytes = refl
+    by_tells false bytes = refl
+
+pub holds_text : (s : Start) (empty full : Option Bytes) (bytes : Bytes) → Holds s empty [] → full ≡ append_known empty bytes → (held : Bytes) × Holds s full held
+holds_text s empty full bytes none is = (bytes, is ∙ ap (λ (o : Option Bytes). append_known o bytes) none ∙ told_append s bytes)
+
+pub wrote_one : (s : Start) (old mid new : List Moment) (name at : BlobName) → s.alone ≡ true → at ≡ name → Stepped s old mid 0 (ReadStep (BeginTest name)) WasBegun → caller_of s mid ≡ caller_of s old
+    → Stepped s mid new 0 (ReadStep (CommitTest at)) WasDone → caller_of s new ≡ record (caller_of s mid) { committed = at ∷ (caller_of s mid).committed } → Wrote s old new name
+wrote_one s old mid new name at alone is begun kept done own = record {
+  went =
+      went_on old mid new (record { step = ReadStep (BeginTest name); reply = WasBegun } ∷ []) (record { step = ReadStep (CommitTest name); reply = WasDone } ∷ [])
+      (stepped_went s old mid (ReadStep (BeginTest name)) WasBegun alone begun)
+      (stepped_went s mid new (ReadStep (CommitTest name)) WasDone alone (subst (λ (n : BlobName). Stepped s mid new 0 (ReadStep (CommitTest n)) WasDone) is done));
+  own = own ∙ ap (λ (n : BlobName). record (caller_of s mid) { committed = n ∷ (caller_of s mid).committed }) is ∙ ap (λ (c : Caller). record c { committed = name ∷ c.committed }) kept;
+}
+
+pub wrote_done : (s : Start) (old new : Caller) (id : ℕ) (written : List BlobName) (name : BlobName) → HasDone s old id written [] → new ≡ record old { committed = name ∷ old.committed } → HasDone s new id (written ++ name ∷ []) []
+wrote_done s old new id written name h is = subst (λ (c : Caller). HasDone s c id (written ++ name ∷ []) []) (sym is) (record {
+  drawn = h.drawn;
+  committed = λ n has. ⊎_elim (λ (before : Has written n). inr (h.committed n before)) (λ (here : Has (name ∷ []) n). ⊎_elim (λ (same : name ≡ n). inl same) (λ none. absurd none) here) (has_either written (name ∷ []) n has);
+  only = λ n has. ⊎_elim (λ (same : name ≡ n). subst (Has (written ++ name ∷ [])) same (has_last written name)) (λ (before : Has old.committed n). has_left written (name ∷ []) n (h.only n before)) has;
+  once = h.once;
+  found = h.found;
+  read = h.read;
+  unremoved = h.unremoved;
+})
+
+-- ---- a test blob is read
+
+-- what is told of a blob that was read to its end
+pub told_same : (s : Start) (left : Option Bytes) (bytes : Bytes) → (held : Bytes) × Holds s left held → Tells left bytes → left ≡ told_bytes s bytes
+told_same s left bytes (held, holds) tells = by_tells s.tells left held bytes holds tells
+  where
+    by_tells : (told : Bool) (left : Option Bytes) (held bytes : Bytes) → left ≡ (if told then Some held else None) → Tells left bytes → left ≡ (if told then Some bytes else None)
+    by_tells true left held bytes is tells = is ∙ ap (λ (b : Bytes). Some b) (subst (λ (o : Option Bytes). Tells o bytes) is tells)
+    by_tells false left held bytes is tells = is
+
+module _ (s : Start) (id : ℕ) (written fetched : List BlobName) (name : BlobName) (old : Caller) (h : HasDone s old id written fetched) where
+  fetched_once : (n : BlobName) → Has (name ∷ old.fetched) n → Has (fetched ++ name ∷ []) n
+  fetched_once n (inl same) = subst (Has (fetched ++ name ∷ [])) same (has_last fetched name)
+  fetched_once n (inr before) = has_left fetched (name ∷ []) n (h.once n before)
+
+  found_all : (n : BlobName) → Has (fetched ++ name ∷ []) n → Has (name ∷ old.found) n
+  found_all n has = ⊎_elim (λ (before : Has fetched n). inr (h.found n before)) (λ (here : Has (name ∷ []) n). ⊎_elim (λ (same : name ≡ n). inl same) (λ none. absurd none) here) (has_either fetched (name ∷ []) n has)
+
+  -- it is the text of the id
+  read_all : (n : BlobName) → Has (fetched ++ name ∷ []) n → s.tells ≡ true → WasRead ((name, id_text id) ∷ old.read) n (id_text id)
+  read_all n has tells =
+      ⊎_elim
+      (λ (before : Has fetched n). inr (h.read n before tells))
+      (λ (here : Has (name ∷ []) n). ⊎_elim (λ (same : name ≡ n). inl (ap (λ (x : BlobName). (x, id_text id)) same)) (λ none. absurd none) here)
+      (has_either fetched (name ∷ []) n has)
+
+  by_tells : (tells : Bool) → s.tells ≡ tells → HasDone s (caller_told old name (if tells then Some (id_text id) else None)) id written (fetched ++ name ∷ [])
+  by_tells true told = record { drawn = h.drawn; committed = h.committed; only = h.only; once = fetched_once; found = found_all; read = read_all; unremoved = h.unremoved }
+  by_tells false told = record { drawn = h.drawn; committed = h.committed; only = h.only; once = fetched_once; found = found_all; read = λ n has tells. absurd (contra s.tells tells told); unremoved = h.unremoved }
+    where
+      contra : (b : Bool) → b ≡ true → b ≡ false → ⊥
+      contra b x y = cc (x, y)
+
+  pub read_done : (new : Caller) → new ≡ caller_told old name (told_bytes s (id_text id)) → HasDone s new id written (fetched ++ name ∷ [])
+  read_done new is = subst (λ (c : Caller). HasDone s c id written (fetched ++ name ∷ [])) (sym is) (by_tells s.tells refl)

@@ -1,0 +1,10 @@
+pub mod Steps
+pub mod Verified
+pub mod Refused
+pub mod Idle
+pub mod Tests
+pub mod Went
+pub mod Done
+pub mod Ended
+pub mod Trouble
+pub mod Cause

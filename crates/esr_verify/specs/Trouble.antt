@@ -1,0 +1,55 @@
+-- What shows a trouble.
+use Rattle.std.specs.Prelude.{◌≡◌, ℕ, List, Option, Some, None}
+use Rattle.esr_model.specs.Values.{Bytes}
+use Rattle.esr_core.specs.Entry.{Step, Refused, Refusal, Moment}
+use Rattle.esr_hash.specs.Prints.{print_of}
+use Rattle.esr_names.specs.IdText.{id_text}
+use Rattle.esr_names.specs.declared.blob.BlobName.{BlobName}
+use Rattle.esr_formats.specs.Names.{name_of}
+use Rattle.esr_desk.specs.declared.entry.Why.{Why}
+use Rattle.esr_desk.specs.declared.entry.Why.TheVariants as whys
+use Rattle.esr_desk.specs.declared.refusal.StepRefusal.{StepRefusal}
+use Rattle.esr_desk.specs.declared.refusal.StepRefusal.TheVariants.{Memory}
+use Rattle.esr_desk.specs.Refusals.{told_refusal}
+use Rattle.esr_desk.specs.Start.{Start}
+use Rattle.esr_desk.specs.Outcome.{Spends}
+use Rattle.esr_desk.specs.Last.{IsLast}
+use Rattle.esr_desk.specs.Shown.{Faulty}
+use Rattle.esr_checking.specs.Caller.{caller_of}
+use Rattle.esr_checking.specs.Shown.{HadReply, IsAbsent, IsMisprinted}
+use Rattle.esr_verify.specs.declared.trouble.Trouble.{Trouble}
+use Rattle.esr_verify.specs.declared.trouble.Trouble.TheVariants as troubles
+
+-- the last step, made after the id was drawn, was refused so, if the history tells it
+abbrev pub WasStepRefused : Start → List Moment → Option Refusal → Type 0
+WasStepRefused s log None = Unit {0}
+WasStepRefused s log (Some refusal) = (step : Step) × IsLast log 0 step (Refused refusal) × HadReply log (caller_of s log) step (Refused refusal)
+
+-- the same, or memory was wanting, or turns were spent
+abbrev pub IsStepRefusal : Start → List Moment → StepRefusal → Type 0
+IsStepRefusal s log e = WasStepRefused s log (told_refusal e) × Spends s log e
+
+-- a test blob is absent, or holds something else than the text of its id
+abbrev pub IsFound : Start → List Moment → Why → Type 0
+IsFound s log (whys.Damaged name) = IsAbsent log (caller_of s log) (name_of name)
+IsFound s log (whys.Misprinted name stated found) = IsMisprinted s (caller_of s log) (name_of name) stated.len stated.sha256 found.len found.sha256
+IsFound s log why = ⊥
+
+-- The last step was refused; or a stage or a fetch has failed, and the container isn't quiet; or what was read shows it.
+abbrev pub Shown : {S F : Type 0} → (S → ℕ) → (F → ℕ) → Start → List Moment → Trouble S F → Type 0
+Shown stage_faults fetch_faults s log (troubles.Step refusal) = IsStepRefusal s log refusal
+Shown stage_faults fetch_faults s log (troubles.Stage stage) = Faulty s (stage_faults stage)
+Shown stage_faults fetch_faults s log (troubles.Fetch fetch) = Faulty s (fetch_faults fetch)
+Shown stage_faults fetch_faults s log (troubles.Found why) = IsFound s log why
+
+-- these bytes have another print than the text of the id
+pub record IsOther (id : ℕ) (name : BlobName) (bytes : Bytes) (why : Why) : Type 0 where
+  pub is : why ≡ whys.Misprinted name (print_of (id_text id)) (print_of bytes)
+  pub differ : print_of (id_text id) ≡ print_of bytes → ⊥
+
+-- they have, or their print can't be told from the text's
+abbrev pub Judged : {S F : Type 0} → ℕ → BlobName → Bytes → Trouble S F → Type 0
+Judged id name bytes (troubles.Step refusal) = refusal ≡ Memory
+Judged id name bytes (troubles.Stage stage) = ⊥
+Judged id name bytes (troubles.Fetch fetch) = ⊥
+Judged id name bytes (troubles.Found why) = IsOther id name bytes why

@@ -1,0 +1,133 @@
+//! Test blobs are read back.
+ghost use Rattle.std.specs.Prelude.{◌≡◌, ◌<◌, ◌^◌, [], ◌∷◌, length, map, true, IfErr, IfOk, OnOk};
+ghost use Rattle.esr_model.specs.Values.{Has};
+ghost use Rattle.esr_hash.specs.Prints.{print_of};
+ghost use Rattle.esr_names.specs.IdText.{id_text};
+ghost use Rattle.esr_names.specs.Layout.{IsName};
+ghost use Rattle.esr_formats.specs.Names.{name_of};
+ghost use Rattle.esr_checking.specs.Caller.{caller_of};
+ghost use Rattle.esr_verify.specs.Steps.{reading};
+ghost use Rattle.esr_verify.specs.Tests.{AreTests};
+ghost use Rattle.esr_verify.specs.Went.{Went, Drew, Kept};
+ghost use Rattle.esr_verify.specs.Done.{HasDone, Fetched};
+ghost use Rattle.esr_verify.specs.Trouble.{Shown, Judged};
+
+use crate::trouble::Trouble;
+use esr_checking::VerifyDesk;
+use esr_depot::CallError;
+use esr_desk::{Desk, StepRefusal, Why};
+use esr_fetch::read_whole;
+use esr_hash::{Hasher, Print};
+use esr_names::{BlobName, Id, id_text};
+use esr_seq::{Bytes, Seq};
+use std::alloc::Global;
+
+/// The bytes of the test blob of that name, all of them.
+fn fetch_bytes<Q: VerifyDesk>(
+    alloc: Global,
+    desk: &mut Q,
+    id: Id,
+    name: BlobName,
+) -> Result<Bytes, Trouble<Q::Stage, Q::Fetch>>
+    requires alone { Q.start.alone ≡ true }
+    requires layout { IsName name }
+    requires committed { Has (caller_of Q.start (Q.seen desk.old)).committed (name_of name) }
+    requires unremoved { (caller_of Q.start (Q.seen desk.old)).removed ≡ [] }
+    requires once { Has (caller_of Q.start (Q.seen desk.old)).fetched (name_of name) → ⊥ }
+    requires drew { Drew Q.start (Q.seen desk.old) id.number }
+    ensures fetched { IfOk result (Fetched Q.start (Q.seen desk.old) (Q.seen desk.new) (name_of name)) }
+    ensures trouble { IfErr result (Shown Q.Stage.faults Q.Fetch.faults Q.start (Q.seen desk.new)) }
+    ensures kept { Kept Q.start (Q.seen desk.old) (Q.seen desk.new) id.number }
+{
+    let mut blob = match desk.fetch_test(alloc, name)? {
+        Some(blob) => blob,
+        None => {
+            let why = Why::Damaged { name };
+            return Err(Trouble::Found { why });
+        }
+    };
+    match read_whole(alloc, &mut blob) {
+        Ok(bytes) => Ok(bytes),
+        Err(CallError::Memory) => Err(Trouble::Step(StepRefusal::Memory)),
+        Err(CallError::Failed) => Err(Trouble::Fetch { fetch: blob }),
+    }
+}
+
+/// The print of fewer than 2^61 bytes.
+fn print_bytes(bytes: &[u8]) -> Print
+    requires { length bytes.now < 2 ^ 61 }
+    ensures { result ≡ print_of bytes.now }
+{
+    let mut hasher = Hasher::start();
+    hasher.feed(bytes);
+    hasher.end()
+}
+
+/// Whether the bytes that were read of a test blob are the text of the id. Other bytes have another print. Bytes of which a
+/// print can't show that, as there are so many or it is the same, count as no memory: nobody has met them.
+fn judge<S: Drop, F: Drop>(id: Id, name: BlobName, bytes: &[u8]) -> Result<(), Trouble<S, F>>
+    ensures same { OnOk result (bytes.now ≡ id_text id.number) }
+    ensures other { IfErr result (Judged id.number name bytes.now) }
+{
+    let text = id_text(id);
+    if bytes == text.as_slice() {
+        return Ok(());
+    }
+    if bytes.len() >= 1 << 61 {
+        return Err(Trouble::Step(StepRefusal::Memory));
+    }
+    let stated = print_bytes(&text);
+    let found = print_bytes(bytes);
+    if stated == found {
+        return Err(Trouble::Step(StepRefusal::Memory));
+    }
+    let why = Why::Misprinted {
+        name,
+        stated,
+        found,
+    };
+    Err(Trouble::Found { why })
+}
+
+/// Reads the test blob of that name to its end; it holds the text of the id.
+fn read_test<Q: VerifyDesk>(
+    alloc: Global,
+    desk: &mut Q,
+    id: Id,
+    name: BlobName,
+) -> Result<(), Trouble<Q::Stage, Q::Fetch>>
+    requires alone { Q.start.alone ≡ true }
+    requires layout { IsName name }
+    requires committed { Has (caller_of Q.start (Q.seen desk.old)).committed (name_of name) }
+    requires unremoved { (caller_of Q.start (Q.seen desk.old)).removed ≡ [] }
+    requires once { Has (caller_of Q.start (Q.seen desk.old)).fetched (name_of name) → ⊥ }
+    requires drew { Drew Q.start (Q.seen desk.old) id.number }
+    ensures read { OnOk result (Fetched Q.start (Q.seen desk.old) (Q.seen desk.new) (name_of name) (id_text id.number)) }
+    ensures trouble { IfErr result (Shown Q.Stage.faults Q.Fetch.faults Q.start (Q.seen desk.new)) }
+    ensures kept { Kept Q.start (Q.seen desk.old) (Q.seen desk.new) id.number }
+{
+    let bytes = fetch_bytes(alloc, desk, id, name)?;
+    judge(id, name, bytes.as_slice())
+}
+
+/// Reads the test blobs of these names, one after another; each holds the text of the id.
+pub fn read_all<Q: VerifyDesk>(
+    alloc: Global,
+    desk: &mut Q,
+    id: Id,
+    names: &Seq<BlobName>,
+) -> Result<(), Trouble<Q::Stage, Q::Fetch>>
+    requires alone { Q.start.alone ≡ true }
+    requires tests { AreTests id.number names.now }
+    requires drew { Drew Q.start (Q.seen desk.old) id.number }
+    requires written { HasDone Q.start (caller_of Q.start (Q.seen desk.old)) id.number (map name_of names.now) [] }
+    ensures went { OnOk result (Went (Q.seen desk.old) (Q.seen desk.new) (reading (map name_of names.now))) }
+    ensures done { OnOk result (HasDone Q.start (caller_of Q.start (Q.seen desk.new)) id.number (map name_of names.now) (map name_of names.now)) }
+    ensures trouble { IfErr result (Shown Q.Stage.faults Q.Fetch.faults Q.start (Q.seen desk.new)) }
+    ensures kept { Kept Q.start (Q.seen desk.old) (Q.seen desk.new) id.number }
+{
+    for name in names.as_slice() {
+        read_test(alloc, desk, id, *name)?;
+    }
+    Ok(())
+}
