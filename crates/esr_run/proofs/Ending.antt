@@ -199,7 +199,7 @@ ended : (status wanted : ℕ) (text : Bytes) (old new : Option Bytes) (old_fault
     → IsPrinted status wanted text old new old_faults new_faults → IsPrinted status (exit_of v.end) (text_of v.end) old new old_faults new_faults
 ended status wanted text old new old_faults new_faults Cause v is =
     subst (λ (n : ℕ). IsPrinted status n (text_of v.end) old new old_faults new_faults) v.status_is
-        (subst (λ (t : Bytes). IsPrinted status wanted t old new old_faults new_faults) v.text_is is)
+    (subst (λ (t : Bytes). IsPrinted status wanted t old new old_faults new_faults) v.text_is is)
 
 pub printed : (status wanted : ℕ) (text : Bytes) (old new : Option Bytes) (old_faults new_faults : ℕ) (Cause : RunEnd → Type 0)
     → IsVerdict wanted text Cause → IsPrinted status wanted text old new old_faults new_faults → IsEndOf status old new old_faults new_faults Cause

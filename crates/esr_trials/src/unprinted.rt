@@ -41,7 +41,10 @@ fn statuses_0_and_1_give_way(rt: HostRuntime) -> Result<(), Fail> {
     let alloc = rt.alloc();
     for script in [SCRIPT, "restore s1 out\n", "snapshot s1 logs/1/nowhere\n"] {
         let depot = MemDepot::new(alloc, Seq::new(alloc));
-        assert!(rt; ends(&rt, alloc, depot, &["run"], script, Seq::new(alloc), 5)?, "{script}");
+        assert!(rt;
+            ends(&rt, alloc, depot, &["run"], script, Seq::new(alloc), 5)?,
+            "{script}"
+        );
     }
     Ok(())
 }
@@ -51,7 +54,10 @@ fn bad_words_and_lines_go_before(rt: HostRuntime) -> Result<(), Fail> {
     let alloc = rt.alloc();
     for (word, script) in [("walk", SCRIPT), ("run", "walk\n")] {
         let depot = MemDepot::new(alloc, Seq::new(alloc));
-        assert!(rt; ends(&rt, alloc, depot, &[word], script, Seq::new(alloc), 2)?, "{word}");
+        assert!(rt;
+            ends(&rt, alloc, depot, &[word], script, Seq::new(alloc), 2)?,
+            "{word}"
+        );
     }
     let reads = first_fails(alloc, StreamCall::Read)?;
     let depot = MemDepot::new(alloc, Seq::new(alloc));
@@ -65,7 +71,10 @@ fn faults_damage_and_spent_numbers_go_before(rt: HostRuntime) -> Result<(), Fail
     // The opening's swap, and the settle.
     for nth in [1, 4] {
         let depot = nth_swap_fails(alloc, nth)?;
-        assert!(rt; ends(&rt, alloc, depot, &["run"], SCRIPT, Seq::new(alloc), 3)?, "{nth}");
+        assert!(rt;
+            ends(&rt, alloc, depot, &["run"], SCRIPT, Seq::new(alloc), 3)?,
+            "{nth}"
+        );
     }
     let mut damaged = MemDepot::new(alloc, Seq::new(alloc));
     put(alloc, &mut damaged, "index-0", "{}")?;
