@@ -2,10 +2,12 @@
 //! Each is proved; the bodies are empty.
 #![tactic(auto)]
 
-ghost use Rattle.std.specs.Prelude.{[], ◌∷◌, List};
+ghost use Rattle.std.specs.Prelude.{◌≡◌, ℕ, [], ◌∷◌, List, Some};
 ghost use Rattle.std.specs.FinMap as fin;
 ghost use Rattle.esr_model.specs.Values.{ShardResult};
-ghost use Rattle.esr_core.specs.Ready.{ReadyFinalize, ReadyDelete, ReadyCleanup};
+ghost use Rattle.esr_core.specs.World.{World, Op};
+ghost use Rattle.esr_core.specs.Ready.{SwapIsOut, ReadyFinalize, ReadyDelete, ReadyCleanup};
+ghost use Rattle.esr_core.specs.Turns.{AskDelete, MergeDelete};
 ghost use Rattle.esr_ready_trials.specs.Rows.{bare, delete, cleanup, one, two, with_open};
 
 /// A snapshot without shards isn't finalized behind an open delete, but before one, and where none is open.
@@ -32,4 +34,16 @@ pub fn a_cleanup_goes_alone()
     ensures alone { ReadyCleanup (with_open fin.empty (one 2 cleanup) []) 2 cleanup }
     ensures behind { ReadyCleanup (with_open fin.empty (two 1 delete 2 cleanup) []) 2 cleanup → ⊥ }
     ensures before { ReadyCleanup (with_open fin.empty (two 2 cleanup 3 delete) []) 2 cleanup → ⊥ }
+{}
+
+/// A delete that is asked for, or merged into one that waits, leaves a snapshot that an earlier delete aborted as that did.
+pub fn a_snapshot_keeps_the_delete_that_aborted_it_first()
+    ensures asked { (w new : World) (uuids : List ℕ) → AskDelete w uuids new → (o by : ℕ) (op : Op) → fin.get w.ops o ≡ Some op → op.aborted ≡ Some by → fin.get new.ops o ≡ Some op }
+    ensures merged { (w new : World) (uuids : List ℕ) (d : ℕ) → MergeDelete w uuids d new → (o by : ℕ) (op : Op) → fin.get w.ops o ≡ Some op → op.aborted ≡ Some by → fin.get new.ops o ≡ Some op }
+{}
+
+/// Nor does it abort a snapshot whose finalization is out.
+pub fn a_snapshot_that_is_being_finalized_is_not_aborted()
+    ensures asked { (w new : World) (uuids : List ℕ) → AskDelete w uuids new → (k : ℕ) (swap : SwapIsOut w.tickets w.term k) → fin.get new.ops swap.t.op ≡ fin.get w.ops swap.t.op }
+    ensures merged { (w new : World) (uuids : List ℕ) (d : ℕ) → MergeDelete w uuids d new → (k : ℕ) (swap : SwapIsOut w.tickets w.term k) → fin.get new.ops swap.t.op ≡ fin.get w.ops swap.t.op }
 {}
