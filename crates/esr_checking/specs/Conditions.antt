@@ -1,15 +1,22 @@
 -- What a step of a verification needs, by what who 0 has done.
-use Rattle.std.specs.Prelude.{◌≡◌, ℕ, ◌≤◌, List, length, Some, None}
+use Rattle.std.specs.Prelude.{◌≡◌, ℕ, ◌≤◌, List, length, Option, Some, None}
 use Rattle.esr_model.specs.Names.{BlobName}
-use Rattle.esr_model.specs.Values.{Has}
+use Rattle.esr_model.specs.Values.{Bytes, Has}
 use Rattle.esr_core.specs.World.{Caller}
 use Rattle.esr_core.specs.Restores.{IsTestOf}
+use Rattle.esr_names.specs.IdText.{id_text}
+use Rattle.esr_desk.specs.Start.{Start}
+use Rattle.esr_desk.specs.Conditions.{Holds}
 
 -- the name is that of a test blob under the id that was drawn
 pub record IsOwn (c : Caller) (name : BlobName) : Type 0 where
   pub id : ℕ
   pub drawn : c.drawn ≡ Some id
   pub test : IsTestOf id name
+
+-- a stage holds the text of the id that was drawn
+abbrev pub HoldsText : Start → Caller → Option Bytes → Type 0
+HoldsText s c contents = (id : ℕ) × (c.drawn ≡ Some id) × Holds s contents (id_text id)
 
 -- each test blob is committed once
 pub record CanCommit (c : Caller) (name : BlobName) : Type 0 where

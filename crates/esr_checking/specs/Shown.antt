@@ -1,5 +1,5 @@
 -- What shows why a verification failed.
-use Rattle.std.specs.Prelude.{◌≡◌, ℕ, true, List, ◌∷◌, ◌++◌, length, Some}
+use Rattle.std.specs.Prelude.{◌≡◌, ◌⊎◌, ℕ, true, List, ◌∷◌, ◌++◌, length, Some}
 use Rattle.esr_model.specs.Names.{BlobName}
 use Rattle.esr_model.specs.Values.{Bytes, Has}
 use Rattle.esr_core.specs.World.{Caller}
@@ -53,7 +53,20 @@ pub record IsAbsent (log : List Moment) (c : Caller) (name : BlobName) : Type 0 
   pub unremoved : Has c.removed name → ⊥
   pub missing : HadReply log c (ReadStep (ReadBlob name)) WasAbsent
 
--- what was read of a test blob isn't the text of its id, by length and digest
+-- what was read of a test blob isn't the text of its id
+pub record IsOther (s : Start) (c : Caller) (name : BlobName) : Type 0 where
+  pub id : ℕ
+  pub drawn : c.drawn ≡ Some id
+  pub committed : Has c.committed name
+  pub bytes : Bytes
+  pub read : s.tells ≡ true → WasRead c.read name bytes
+  pub differ : bytes ≡ id_text id → ⊥
+
+-- a test blob is absent, or holds something else
+abbrev pub IsDamaged : Start → List Moment → Caller → BlobName → Type 0
+IsDamaged s log c name = IsAbsent log c name ⊎ IsOther s c name
+
+-- what was read of a test blob has another print than the text of its id
 pub record IsMisprinted (s : Start) (c : Caller) (name : BlobName) (stated_len : ℕ) (stated_digest : Bytes) (found_len : ℕ) (found_digest : Bytes) : Type 0 where
   pub id : ℕ
   pub drawn : c.drawn ≡ Some id
@@ -69,7 +82,7 @@ pub record IsMisprinted (s : Start) (c : Caller) (name : BlobName) (stated_len :
 -- By its cause: an object that failed, or a step; or a test blob is absent or holds something else; or its name was taken.
 abbrev pub IsShown : {S F H T : Type 0} → Counts S F → Start → List Moment → Caller → Why → By S F H T → Type 0
 IsShown c s log caller OfDepot b = DepotShown c s log caller b
-IsShown c s log caller (OfDamage name) b = ReadShown b (IsAbsent log caller name)
+IsShown c s log caller (OfDamage name) b = ReadShown b (IsDamaged s log caller name)
 IsShown c s log caller (OfPrint name stated_len stated_digest found_len found_digest) b = ReadShown b (IsMisprinted s caller name stated_len stated_digest found_len found_digest)
 IsShown c s log caller (OfTaken name) b = StepShown b ((step : Step) × HadReply log caller step (Refused (NameTaken name)))
 -- these are of snapshots, restores and checks; ids are spent only where none was drawn

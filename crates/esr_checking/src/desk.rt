@@ -9,7 +9,7 @@ ghost use Rattle.esr_desk.specs.Entries.{why_of};
 ghost use Rattle.esr_desk.specs.Outcome.{Outcome, fetch_reply};
 ghost use Rattle.esr_desk.specs.Conditions.{Holds};
 ghost use Rattle.esr_checking.specs.Caller.{caller_of, drawn_by, fetched_by};
-ghost use Rattle.esr_checking.specs.Conditions.{IsOwn, CanCommit, CanFetch, CanRemove, CanEnd};
+ghost use Rattle.esr_checking.specs.Conditions.{IsOwn, HoldsText, CanCommit, CanFetch, CanRemove, CanEnd};
 ghost use Rattle.esr_checking.specs.Shown.{IsShown};
 
 use esr_depot::{Fetch, Stage};
@@ -47,7 +47,7 @@ pub trait VerifyDesk: Desk {
         ensures count { IfOk result (λ s. Self.Stage.faults s.stage ≡ 0) }
         ensures sure { IfOk result (λ s. Self.start.quiet ≡ true → IsTrue (Self.Stage.is_sure s.stage)) };
 
-    /// Adds the whole test blob. One that is there is refused as `NameTaken`.
+    /// Adds the whole test blob, which holds the text of the id. One that is there is refused as `NameTaken`.
     fn commit_test(
         &mut self,
         alloc: Global,
@@ -57,7 +57,7 @@ pub trait VerifyDesk: Desk {
         requires alone { Self.start.alone ≡ true }
         requires named { Self.Stage.name stage ≡ name_kind.text (name_of name) }
         requires layout { IsName name }
-        requires holds { (bytes : Bytes) × Holds Self.start (Self.Stage.contents stage) bytes }
+        requires holds { HoldsText Self.start (caller_of Self.start (Self.seen self.old)) (Self.Stage.contents stage) }
         requires may { CanCommit (caller_of Self.start (Self.seen self.old)) (name_of name) }
         ensures step { Outcome Self.start (Self.seen self.old) (Self.seen self.new) 0 (ReadStep (CommitTest (name_of name))) (λ _. WasDone) result }
         ensures own { OnOk result (caller_of Self.start (Self.seen self.new)

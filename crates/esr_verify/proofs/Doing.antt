@@ -15,7 +15,7 @@ use Rattle.esr_desk.specs.Conditions.{Holds}
 use Rattle.esr_desk.specs.Start.{Start, told_bytes}
 use Rattle.esr_desk.specs.Outcome.{Stepped}
 use Rattle.esr_checking.specs.Caller.{caller_of, drawn_by}
-use Rattle.esr_checking.specs.Conditions.{IsOwn, CanCommit, CanFetch}
+use Rattle.esr_checking.specs.Conditions.{IsOwn, HoldsText, CanCommit, CanFetch}
 use Rattle.esr_verify.specs.Idle.{IsIdle}
 use Rattle.esr_verify.specs.Went.{Drew}
 use Rattle.esr_verify.specs.Done.{HasDone, Wrote}
@@ -88,8 +88,9 @@ told_append s bytes = by_tells s.tells bytes
     by_tells true bytes = refl
     by_tells false bytes = refl
 
-pub holds_text : (s : Start) (empty full : Option Bytes) (bytes : Bytes) → Holds s empty [] → full ≡ append_known empty bytes → (held : Bytes) × Holds s full held
-holds_text s empty full bytes none is = (bytes, is ∙ ap (λ (o : Option Bytes). append_known o bytes) none ∙ told_append s bytes)
+pub holds_text : (s : Start) (old mid : List Moment) (id : ℕ) (empty full : Option Bytes) (bytes : Bytes) → Drew s old id → caller_of s mid ≡ caller_of s old → bytes ≡ id_text id → Holds s empty [] → full ≡ append_known empty bytes → HoldsText s (caller_of s mid) full
+holds_text s old mid id empty full bytes drew same text none is =
+    (id, ap (λ (c : Caller). c.drawn) same ∙ drew.is_open, subst (λ (b : Bytes). Holds s full b) text (is ∙ ap (λ (o : Option Bytes). append_known o bytes) none ∙ told_append s bytes))
 
 pub wrote_one : (s : Start) (old mid new : List Moment) (name at : BlobName) → s.alone ≡ true → at ≡ name → Stepped s old mid 0 (ReadStep (BeginTest name)) WasBegun → caller_of s mid ≡ caller_of s old
     → Stepped s mid new 0 (ReadStep (CommitTest at)) WasDone → caller_of s new ≡ record (caller_of s mid) { committed = at ∷ (caller_of s mid).committed } → Wrote s old new name

@@ -15,7 +15,7 @@ use Rattle.esr_desk.specs.Last.{IsRefusal}
 use Rattle.esr_desk.specs.Outcome.{Stepped}
 use Rattle.esr_desk.specs.Shown.{ReadShown, StepShown}
 use Rattle.esr_checking.specs.Caller.{caller_of}
-use Rattle.esr_checking.specs.Shown.{Counts, HadReply, DepotShown, IsAbsent, IsMisprinted, IsShown}
+use Rattle.esr_checking.specs.Shown.{Counts, HadReply, DepotShown, IsDamaged, IsMisprinted, IsShown}
 use Rattle.esr_verify.specs.declared.cause.Cause.{Cause}
 use Rattle.esr_verify.specs.declared.trouble.Trouble.{Trouble}
 use Rattle.esr_verify.specs.declared.trouble.Trouble.TheVariants as troubles
@@ -136,7 +136,7 @@ module _ {S F H T : Type 0} (c : Counts S F) (s : Start) (log : List Moment) whe
 
   plain_shown : (why : Why) (b : By S F H T) → IsShown c s log (caller_of s log) why b → IsShown c s log (caller_of s log) why (plain b)
   plain_shown OfDepot b h = plain_depot b h
-  plain_shown (OfDamage name) b h = plain_read b (IsAbsent log (caller_of s log) name) h
+  plain_shown (OfDamage name) b h = plain_read b (IsDamaged s log (caller_of s log) name) h
   plain_shown (OfPrint name stated_len stated_digest found_len found_digest) b h = plain_read b (IsMisprinted s (caller_of s log) name stated_len stated_digest found_len found_digest) h
   plain_shown (OfTaken name) b h = plain_step b ((step : Step) × HadReply log (caller_of s log) step (Refused (NameTaken name))) h
   plain_shown OfSource b h = absurd h

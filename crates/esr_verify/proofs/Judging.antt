@@ -1,5 +1,5 @@
 -- Test blobs that are absent, or hold something else than the text of their id.
-use Rattle.std.proofs.Common.{◌≡◌, inl, ℕ, Bool, true, false, List, [], ◌∷◌, Option, Some, None, Result, Ok, Err, IfErr, refl, sym, ap, ◌∙◌, subst}
+use Rattle.std.proofs.Common.{◌≡◌, ◌⊎◌, inl, inr, ℕ, Bool, true, false, List, [], ◌∷◌, Option, Some, None, Result, Ok, Err, IfErr, refl, sym, ap, ◌∙◌, subst}
 use Rattle.std.specs.Prelude.{if◌then◌else◌}
 use Rattle.esr_names.specs.declared.blob.BlobName.{BlobName as CodeName}
 use Rattle.esr_names.specs.IdText.{id_text}
@@ -14,15 +14,16 @@ use Rattle.esr_hash.specs.Prints.{print_of}
 use Rattle.esr_formats.specs.Formats.{formats}
 use Rattle.esr_formats.specs.Names.{name_of}
 use Rattle.esr_desk.specs.declared.entry.Why.{Why}
+use Rattle.esr_desk.specs.declared.entry.Why.TheVariants as whys
 use Rattle.esr_desk.specs.declared.refusal.StepRefusal.{StepRefusal}
 use Rattle.esr_desk.specs.declared.refusal.StepRefusal.TheVariants.{Memory}
 use Rattle.esr_desk.specs.Start.{Start, told_bytes}
 use Rattle.esr_desk.specs.Outcome.{Stepped, fetch_reply}
 use Rattle.esr_checking.specs.Caller.{caller_of, fetched_by}
-use Rattle.esr_checking.specs.Shown.{IsAbsent, IsMisprinted}
+use Rattle.esr_checking.specs.Shown.{IsAbsent, IsOther, IsDamaged, IsMisprinted}
 use Rattle.esr_verify.specs.Went.{Drew}
 use Rattle.esr_verify.specs.Done.{Fetched}
-use Rattle.esr_verify.specs.Trouble.{IsStepRefusal, IsFound, Judged, Shown}
+use Rattle.esr_verify.specs.Trouble.{IsStepRefusal, IsFound, HasOtherPrint, IsNoText, Judged, Shown}
 use Rattle.esr_verify.specs.declared.trouble.Trouble.{Trouble}
 use Rattle.esr_verify.specs.declared.trouble.Trouble.TheVariants as troubles
 use Rattle.esr_verify.proofs.Going.{stepped_went}
@@ -54,8 +55,8 @@ absent_so s old new id name alone drew committed unremoved step own = record {
 }
 
 pub absent : {F : Type 0} (left : F → Option Bytes) (o : Option F) (s : Start) (old new : List Moment) (id : ℕ) (name : BlobName) → o ≡ None → s.alone ≡ true → Drew s old id → Has (caller_of s old).committed name → (caller_of s old).removed ≡ []
-    → Stepped s old new 0 (ReadStep (ReadBlob name)) (fetch_reply o) → caller_of s new ≡ fetched_by left name o (caller_of s old) → IsAbsent new (caller_of s new) name
-absent left None s old new id name is alone drew committed unremoved step own = absent_so s old new id name alone drew committed unremoved step own
+    → Stepped s old new 0 (ReadStep (ReadBlob name)) (fetch_reply o) → caller_of s new ≡ fetched_by left name o (caller_of s old) → IsDamaged s new (caller_of s new) name
+absent left None s old new id name is alone drew committed unremoved step own = inl (absent_so s old new id name alone drew committed unremoved step own)
 absent left (Some f) s old new id name is alone drew committed unremoved step own = absurd cc
 
 -- ---- one is there, and read to its end
@@ -81,34 +82,47 @@ same_print a b len digest =
     let made : ℕ → List ℕ → Print = λ len sha256. record { len = len; sha256 = sha256 } in
     ap (λ (n : ℕ). made n a.sha256) len ∙ ap (λ (d : List ℕ). made b.len d) digest
 
-misprinted : (s : Start) (old new : List Moment) (id : ℕ) (name : BlobName) (bytes : Bytes) → Drew s new id → Has (caller_of s old).committed name → Fetched s old new name bytes → (print_of (id_text id) ≡ print_of bytes → ⊥)
-    → IsMisprinted s (caller_of s new) name (print_of (id_text id)).len (print_of (id_text id)).sha256 (print_of bytes).len (print_of bytes).sha256
-unfolding formats
-misprinted s old new id name bytes drew committed got differ =
-    let c = caller_of s old in
-    record {
-      id = id;
-      drawn = drew.is_open;
-      committed = subst (λ (l : List BlobName). Has l name) (sym (ap (λ (d : Caller). d.committed) got.own ∙ told_committed c name (told_bytes s bytes))) committed;
-      bytes = bytes;
-      read = λ tells. subst (λ (d : Caller). WasRead d.read name bytes) (sym got.own) (was_read s.tells c name bytes tells);
-      stated_len_is = refl;
-      stated_digest_is = refl;
-      found_len_is = refl;
-      found_digest_is = refl;
-      differ = λ len digest. differ (same_print (print_of (id_text id)) (print_of bytes) len digest);
-    }
+module _ (s : Start) (old new : List Moment) (id : ℕ) (name : BlobName) (bytes : Bytes) (drew : Drew s new id) (was : Has (caller_of s old).committed name) (got : Fetched s old new name bytes) where
+  still_committed : Has (caller_of s new).committed name
+  still_committed = subst (λ (l : List BlobName). Has l name) (sym (ap (λ (d : Caller). d.committed) got.own ∙ told_committed (caller_of s old) name (told_bytes s bytes))) was
+
+  read_so : s.tells ≡ true → WasRead (caller_of s new).read name bytes
+  read_so tells = subst (λ (d : Caller). WasRead d.read name bytes) (sym got.own) (was_read s.tells (caller_of s old) name bytes tells)
+
+  pub misprinted : (print_of (id_text id) ≡ print_of bytes → ⊥) → IsMisprinted s (caller_of s new) name (print_of (id_text id)).len (print_of (id_text id)).sha256 (print_of bytes).len (print_of bytes).sha256
+  unfolding formats
+  misprinted differ = record {
+    id = id;
+    drawn = drew.is_open;
+    committed = still_committed;
+    bytes = bytes;
+    read = read_so;
+    stated_len_is = refl;
+    stated_digest_is = refl;
+    found_len_is = refl;
+    found_digest_is = refl;
+    differ = λ len digest. differ (same_print (print_of (id_text id)) (print_of bytes) len digest);
+  }
+
+  pub other : (bytes ≡ id_text id → ⊥) → IsOther s (caller_of s new) name
+  other differ = record { id = id; drawn = drew.is_open; committed = still_committed; bytes = bytes; read = read_so; differ = differ }
 
 pub wanting : (s : Start) (log : List Moment) (refusal : StepRefusal) → refusal ≡ Memory → IsStepRefusal s log refusal
 wanting s log refusal is = subst (λ (r : StepRefusal). IsStepRefusal s log r) (sym is) (tt, tt)
 
+judged_why : (s : Start) (old new : List Moment) (id : ℕ) (name : CodeName) (bytes : Bytes) → Drew s new id → Has (caller_of s old).committed (name_of name) → Fetched s old new (name_of name) bytes
+    → (why : Why) → HasOtherPrint id name bytes why ⊎ IsNoText id name bytes why → IsFound s new why
+judged_why s old new id name bytes drew committed got why (inl h) = subst (λ (w : Why). IsFound s new w) (sym h.0) (misprinted s old new id (name_of name) bytes drew committed got h.1)
+judged_why s old new id name bytes drew committed got why (inr h) =
+    let found : IsDamaged s new (caller_of s new) (name_of name) = inr (other s old new id (name_of name) bytes drew committed got h.1) in
+    subst (λ (w : Why). IsFound s new w) (sym h.0) found
+
 judged_one : {S F : Type 0} (stage_faults : S → ℕ) (fetch_faults : F → ℕ) (s : Start) (old new : List Moment) (id : ℕ) (name : CodeName) (bytes : Bytes) → Drew s new id → Has (caller_of s old).committed (name_of name) → Fetched s old new (name_of name) bytes
     → (trouble : Trouble S F) → Judged id name bytes trouble → Shown stage_faults fetch_faults s new trouble
-judged_one stage_faults fetch_faults s old new id name bytes drew committed got (troubles.Step refusal) h = wanting s new refusal h
+judged_one stage_faults fetch_faults s old new id name bytes drew committed got (troubles.Step refusal) h = absurd h
 judged_one stage_faults fetch_faults s old new id name bytes drew committed got (troubles.Stage stage) h = absurd h
 judged_one stage_faults fetch_faults s old new id name bytes drew committed got (troubles.Fetch fetch) h = absurd h
-judged_one stage_faults fetch_faults s old new id name bytes drew committed got (troubles.Found why) h =
-    subst (λ (w : Why). IsFound s new w) (sym h.is) (misprinted s old new id (name_of name) bytes drew committed got h.differ)
+judged_one stage_faults fetch_faults s old new id name bytes drew committed got (troubles.Found why) h = judged_why s old new id name bytes drew committed got why h
 
 pub judged : {T S F : Type 0} (stage_faults : S → ℕ) (fetch_faults : F → ℕ) (s : Start) (old new : List Moment) (id : ℕ) (name : CodeName) (bytes read : Bytes) (result : Result T (Trouble S F)) → read ≡ bytes → Drew s new id → Has (caller_of s old).committed (name_of name)
     → Fetched s old new (name_of name) bytes → IfErr result (Judged id name read) → IfErr result (Shown stage_faults fetch_faults s new)

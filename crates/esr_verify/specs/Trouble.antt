@@ -1,5 +1,5 @@
 -- What shows a trouble.
-use Rattle.std.specs.Prelude.{◌≡◌, ℕ, List, Option, Some, None}
+use Rattle.std.specs.Prelude.{◌≡◌, ◌⊎◌, ◌≤◌, ◌^◌, ℕ, List, length, Option, Some, None}
 use Rattle.esr_model.specs.Values.{Bytes}
 use Rattle.esr_core.specs.Entry.{Step, Refused, Refusal, Moment}
 use Rattle.esr_hash.specs.Prints.{print_of}
@@ -9,14 +9,13 @@ use Rattle.esr_formats.specs.Names.{name_of}
 use Rattle.esr_desk.specs.declared.entry.Why.{Why}
 use Rattle.esr_desk.specs.declared.entry.Why.TheVariants as whys
 use Rattle.esr_desk.specs.declared.refusal.StepRefusal.{StepRefusal}
-use Rattle.esr_desk.specs.declared.refusal.StepRefusal.TheVariants.{Memory}
 use Rattle.esr_desk.specs.Refusals.{told_refusal}
 use Rattle.esr_desk.specs.Start.{Start}
 use Rattle.esr_desk.specs.Outcome.{Spends}
 use Rattle.esr_desk.specs.Last.{IsLast}
 use Rattle.esr_desk.specs.Shown.{Faulty}
 use Rattle.esr_checking.specs.Caller.{caller_of}
-use Rattle.esr_checking.specs.Shown.{HadReply, IsAbsent, IsMisprinted}
+use Rattle.esr_checking.specs.Shown.{HadReply, IsDamaged, IsMisprinted}
 use Rattle.esr_verify.specs.declared.trouble.Trouble.{Trouble}
 use Rattle.esr_verify.specs.declared.trouble.Trouble.TheVariants as troubles
 
@@ -31,7 +30,7 @@ IsStepRefusal s log e = WasStepRefused s log (told_refusal e) × Spends s log e
 
 -- a test blob is absent, or holds something else than the text of its id
 abbrev pub IsFound : Start → List Moment → Why → Type 0
-IsFound s log (whys.Damaged name) = IsAbsent log (caller_of s log) (name_of name)
+IsFound s log (whys.Damaged name) = IsDamaged s log (caller_of s log) (name_of name)
 IsFound s log (whys.Misprinted name stated found) = IsMisprinted s (caller_of s log) (name_of name) stated.len stated.sha256 found.len found.sha256
 IsFound s log why = ⊥
 
@@ -43,13 +42,16 @@ Shown stage_faults fetch_faults s log (troubles.Fetch fetch) = Faulty s (fetch_f
 Shown stage_faults fetch_faults s log (troubles.Found why) = IsFound s log why
 
 -- these bytes have another print than the text of the id
-pub record IsOther (id : ℕ) (name : BlobName) (bytes : Bytes) (why : Why) : Type 0 where
-  pub is : why ≡ whys.Misprinted name (print_of (id_text id)) (print_of bytes)
-  pub differ : print_of (id_text id) ≡ print_of bytes → ⊥
+abbrev pub HasOtherPrint : ℕ → BlobName → Bytes → Why → Type 0
+HasOtherPrint id name bytes why = (why ≡ whys.Misprinted name (print_of (id_text id)) (print_of bytes)) × (print_of (id_text id) ≡ print_of bytes → ⊥)
 
--- they have, or their print can't be told from the text's
+-- they aren't that text, though they have its print, or are too many to have one
+abbrev pub IsNoText : ℕ → BlobName → Bytes → Why → Type 0
+IsNoText id name bytes why = (why ≡ whys.Damaged name) × (bytes ≡ id_text id → ⊥) × ((2 ^ 61 ≤ length bytes) ⊎ (print_of (id_text id) ≡ print_of bytes))
+
+-- what is found where the bytes aren't the text of the id
 abbrev pub Judged : {S F : Type 0} → ℕ → BlobName → Bytes → Trouble S F → Type 0
-Judged id name bytes (troubles.Step refusal) = refusal ≡ Memory
+Judged id name bytes (troubles.Step refusal) = ⊥
 Judged id name bytes (troubles.Stage stage) = ⊥
 Judged id name bytes (troubles.Fetch fetch) = ⊥
-Judged id name bytes (troubles.Found why) = IsOther id name bytes why
+Judged id name bytes (troubles.Found why) = HasOtherPrint id name bytes why ⊎ IsNoText id name bytes why

@@ -63,8 +63,8 @@ fn print_bytes(bytes: &[u8]) -> Print
     hasher.end()
 }
 
-/// Whether the bytes that were read of a test blob are the text of the id. Other bytes have another print. Bytes of which a
-/// print can't show that, as there are so many or it is the same, count as no memory: nobody has met them.
+/// Whether the bytes that were read of a test blob are the text of the id. Other bytes are told with their print; where that is
+/// the text's own, or they are too many to have one, the blob is told as damaged.
 fn judge<S: Drop, F: Drop>(id: Id, name: BlobName, bytes: &[u8]) -> Result<(), Trouble<S, F>>
     ensures same { OnOk result (bytes.now ≡ id_text id.number) }
     ensures other { IfErr result (Judged id.number name bytes.now) }
@@ -74,12 +74,14 @@ fn judge<S: Drop, F: Drop>(id: Id, name: BlobName, bytes: &[u8]) -> Result<(), T
         return Ok(());
     }
     if bytes.len() >= 1 << 61 {
-        return Err(Trouble::Step(StepRefusal::Memory));
+        let why = Why::Damaged { name };
+        return Err(Trouble::Found { why });
     }
     let stated = print_bytes(&text);
     let found = print_bytes(bytes);
     if stated == found {
-        return Err(Trouble::Step(StepRefusal::Memory));
+        let why = Why::Damaged { name };
+        return Err(Trouble::Found { why });
     }
     let why = Why::Misprinted {
         name,

@@ -46,8 +46,9 @@ returns-then-is_err-clause-kept g c =
 
 pub commit_test-requires-clause-holds : goal.commit_test-requires-clause-holds
 commit_test-requires-clause-holds g c =
-    holds_text g.Q.Desk.start (g.Q.Stage.Stage.contents c.in_ok-named.named.stage) (g.Q.Stage.Stage.contents c.write.new.self) c.id_text-text.result c.in_ok-named.ensures.contents
-    (on_ok c.write.result _ (sym c.is_err.ensures.value ∙ c.if-is_err.false) c.write.ensures.written)
+    let s = g.Q.Desk.start in
+    holds_text s (g.Q.Desk.seen c.args.desk.now) (g.Q.Desk.seen c.begin_test.new.self) c.args.id.number (g.Q.Stage.Stage.contents c.in_ok-named.named.stage) (g.Q.Stage.Stage.contents c.write.new.self) c.id_text-text.result c.requires.drew c.begin_test.ensures.own
+    c.id_text-text.ensures.text c.in_ok-named.ensures.contents (on_ok c.write.result _ (sym c.is_err.ensures.value ∙ c.if-is_err.false) c.write.ensures.written)
 
 pub commit_test-requires-clause-may : goal.commit_test-requires-clause-may
 commit_test-requires-clause-may g c =

@@ -1,4 +1,5 @@
 use Rattle.esr_core.specs.Entry.{ReadStep, CommitTest}
+use Rattle.esr_names.specs.IdText.{id_text}
 use Rattle.esr_formats.specs.Names.{name_of}
 use Rattle.esr_solo.proofs.Stepping.{outcome, waited, spends}
 use Rattle.esr_solo.proofs.Alone.{keeps_alone}
@@ -9,6 +10,9 @@ returns-then-self-eq0-clause-step g c = (
   waited g.K.Told.start c.self.inside.repo c.args.self.now 0 c.self.view_is c.is_legal.ensures,
   spends g.K.Told.start c.self.inside.repo c.args.self.now c.self.inside.left c.self.view_is c.self.invariant.0 c.if-self-eq0.true,
 )
+
+pub commit_test-answer-requires-clause-holds : goal.commit_test-answer-requires-clause-holds
+commit_test-answer-requires-clause-holds g c = (id_text c.requires.holds.0, c.requires.holds.2)
 
 pub invariant_of-self : goal.invariant_of-self
 invariant_of-self g c = keeps_alone _ g.K.Told.start c.self.inside.repo c.commit_test-answer.new.self (CommitTest (name_of c.args.name)) _ c.commit_test-answer.result c.self.inside.faults.items c.self.inside.left c.turns.result _ c.self.invariant c.if-self-eq0.false c.turns.ensures c.commit_test-answer.ensures.step
