@@ -1,5 +1,5 @@
 -- How shards and names of blobs are compared: as equal exactly where they are.
-use Rattle.std.proofs.Common.{◌≡◌, ℕ, ◌==◌, ◌&&◌, Bool, true, false, List, [], ◌∷◌, map, Option, Some, cond, option_map, refl, sym, ap, ◌∙◌, inl, inr}
+use Rattle.std.proofs.Common.{◌≡◌, ℕ, ◌==◌, ◌&&◌, Bool, true, false, List, [], ◌∷◌, map, Option, Some, cond, option_map, refl, sym, ap, ◌∙◌, subst, inl, inr}
 use Rattle.std.proofs.lemmas.Bool.{cases_Bool}
 use Rattle.std.proofs.lemmas.Bool.Decides.{eqb_tells}
 use Rattle.std.proofs.lemmas.Map.Lookups.{exact_unsigned}
@@ -100,31 +100,40 @@ under_same : (f : ShardId → Id → BlobName) (s r : ShardId) (u v : Id) → or
 under_same f s r u v e =
     ap (λ (t : ShardId). f t u) (shard_same s r (then_first (shard_cmp s r) (nat_cmp u.number v.number) e)) ∙ ap (λ (w : Id). f r w) (id_same u v (then_second (shard_cmp s r) (nat_cmp u.number v.number) e))
 
+-- two names that compare as equal are of one kind: elsewhere the order of kinds decides
+abbrev IsTie : Ordering → Type 0
+IsTie Less = ⊥
+IsTie Equal = Unit {0}
+IsTie Greater = ⊥
+
+tied : {o : Ordering} → o ≡ Equal → IsTie o
+tied e = subst IsTie (sym e) tt
+
 pub name_same : (a b : BlobName) → name_cmp a b ≡ Equal → a ≡ b
 name_same (code.Root n) (code.Root m) e = ap code.Root (exact_unsigned n m e)
-name_same (code.Root n) b e = absurd (cc)
+name_same (code.Root n) b e = absurd (tied e)
 name_same code.Latest code.Latest e = refl
-name_same code.Latest b e = absurd (cc)
+name_same code.Latest b e = absurd (tied e)
 name_same (code.Snap u) (code.Snap v) e = ap code.Snap (id_same u v e)
-name_same (code.Snap u) b e = absurd (cc)
+name_same (code.Snap u) b e = absurd (tied e)
 name_same (code.Meta u) (code.Meta v) e = ap code.Meta (id_same u v e)
-name_same (code.Meta u) b e = absurd (cc)
+name_same (code.Meta u) b e = absurd (tied e)
 name_same (code.IndexMeta i u) (code.IndexMeta j v) e = ids_same code.IndexMeta i u j v e
-name_same (code.IndexMeta i u) b e = absurd (cc)
+name_same (code.IndexMeta i u) b e = absurd (tied e)
 name_same (code.ShardSnap s u) (code.ShardSnap r v) e = under_same code.ShardSnap s r u v e
-name_same (code.ShardSnap s u) b e = absurd (cc)
+name_same (code.ShardSnap s u) b e = absurd (tied e)
 name_same (code.ShardIndex s g) (code.ShardIndex r h) e = under_same code.ShardIndex s r g h e
-name_same (code.ShardIndex s g) b e = absurd (cc)
+name_same (code.ShardIndex s g) b e = absurd (tied e)
 name_same (code.Whole s x) (code.Whole r y) e = under_same code.Whole s r x y e
-name_same (code.Whole s x) b e = absurd (cc)
+name_same (code.Whole s x) b e = absurd (tied e)
 name_same (code.Part s x p) (code.Part r y q) e =
     let rest = ordering_then (nat_cmp x.number y.number) (nat_cmp p q) in
     let last = then_second (shard_cmp s r) rest e in
     ap (λ (t : ShardId). code.Part t x p) (shard_same s r (then_first (shard_cmp s r) rest e)) ∙ ap (λ (u : Id). code.Part r u p) (id_same x y (then_first (nat_cmp x.number y.number) (nat_cmp p q) last))
     ∙ ap (λ (n : ℕ). code.Part r y n) (exact_unsigned p q (then_second (nat_cmp x.number y.number) (nat_cmp p q) last))
-name_same (code.Part s x p) b e = absurd (cc)
+name_same (code.Part s x p) b e = absurd (tied e)
 name_same (code.TestMaster v) (code.TestMaster w) e = ap code.TestMaster (id_same v w e)
-name_same (code.TestMaster v) b e = absurd (cc)
+name_same (code.TestMaster v) b e = absurd (tied e)
 name_same (code.TestNode v n) (code.TestNode w m) e =
     ap (λ (u : Id). code.TestNode u n) (id_same v w (then_first (nat_cmp v.number w.number) (nat_cmp n m) e)) ∙ ap (λ (k : ℕ). code.TestNode w k) (exact_unsigned n m (then_second (nat_cmp v.number w.number) (nat_cmp n m) e))
-name_same (code.TestNode v n) b e = absurd (cc)
+name_same (code.TestNode v n) b e = absurd (tied e)
