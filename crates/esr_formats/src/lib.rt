@@ -7,8 +7,6 @@ mod metas;
 mod names;
 mod roots;
 mod shards;
-#[cfg(test)]
-mod tests;
 
 pub use cluster::{read_cluster, write_cluster};
 pub use laws::{

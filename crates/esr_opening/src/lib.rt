@@ -3,8 +3,6 @@
 
 mod agreement;
 mod blob;
-#[cfg(test)]
-mod held;
 mod ids;
 mod infos;
 mod laws;
@@ -14,8 +12,6 @@ mod record;
 mod refusal;
 mod root;
 mod term;
-#[cfg(test)]
-mod tests;
 
 pub use infos::SnapInfos;
 pub use laws::{agreement_is, kept_images_open};

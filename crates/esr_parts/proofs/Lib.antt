@@ -1,3 +1,2 @@
-pub mod Listed
 pub mod Pieces
 pub mod Taking

@@ -5,8 +5,6 @@ mod back;
 mod copy;
 mod hash;
 mod plan;
-#[cfg(test)]
-mod tests;
 
 pub use back::{BackError, Extent, hash_back, read_back};
 pub use copy::{CopyError, copy_part};

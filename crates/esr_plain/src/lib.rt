@@ -12,8 +12,6 @@ mod shard;
 mod shelf;
 mod snap;
 mod stands;
-#[cfg(test)]
-mod tests;
 
 pub use image::Image;
 pub use reached::{Names, reach};

@@ -15,8 +15,6 @@ mod restore;
 mod restoring;
 mod seats;
 mod shard;
-#[cfg(test)]
-mod tests;
 mod unit;
 
 pub use command::{Accepted, AskedIndex, AskedIndices, Command};

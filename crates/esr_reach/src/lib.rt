@@ -4,8 +4,6 @@
 mod doomed;
 mod held;
 mod reached;
-#[cfg(test)]
-mod tests;
 
 pub use doomed::doomed_by_delete;
 pub use held::ShardIndices;

@@ -13,8 +13,5 @@ mod told;
 
 pub use ended::{Ending, end_of_run};
 pub use history::replies;
-pub use lines::report;
+pub use lines::{push_line, report};
 pub use reply::{Replies, Reply};
-
-#[cfg(test)]
-mod tests;

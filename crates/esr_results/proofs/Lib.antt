@@ -9,4 +9,3 @@ pub mod Steps
 pub mod Shards
 pub mod Growing
 pub mod Finalizing
-pub mod Examples

@@ -6,6 +6,3 @@ mod result;
 
 pub use new_root::finalized;
 pub use result::{ShardResult, ShardResults};
-
-#[cfg(test)]
-mod tests;

@@ -2,7 +2,5 @@
 #![tactic(auto)]
 
 mod reuse;
-#[cfg(test)]
-mod tests;
 
 pub use reuse::{Planned, Plans, ReadFile, ReadFiles, plan, reusable};

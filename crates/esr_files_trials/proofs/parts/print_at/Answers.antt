@@ -1,7 +1,7 @@
 use Rattle.std.proofs.Common.{◌<◌, List, length, ap, arith}
 use Rattle.esr_source.specs.declared.files.ListedFile.{ListedFile}
-use Rattle.esr_parts.proofs.Listed.{len_at}
-use Rattle.esr_parts.proofs.tests.print_at.Goals as goal
+use Rattle.esr_files_trials.proofs.Listed.{len_at}
+use Rattle.esr_files_trials.proofs.parts.print_at.Goals as goal
 
 pub hash_file-requires-clause-told : goal.hash_file-requires-clause-told
 hash_file-requires-clause-told g c =

@@ -1,6 +1,6 @@
 use Rattle.std.proofs.Common.{codes, ◌∙◌}
-use Rattle.esr_results.proofs.Examples.{first_may, first_is}
-use Rattle.esr_results.proofs.tests.first_root.Goals as goal
+use Rattle.esr_list_trials.proofs.Examples.{first_may, first_is}
+use Rattle.esr_list_trials.proofs.results.first_root.Goals as goal
 
 pub finalized-requires : goal.finalized-requires
 finalized-requires c =

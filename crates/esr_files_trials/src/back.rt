@@ -1,13 +1,15 @@
 //! Stored files are read back.
 ghost use Rattle.std.specs.Prelude.{◌≤◌, None, false, IfOk, IsSomeAnd};
 
-use crate::{BackError, Extent, hash_back, read_back};
 use esr_depot::{CallError, Counted, Failed, Fetch};
 use esr_hash::{Hasher, Print, print_read};
+use esr_parts::{BackError, Extent, hash_back, read_back};
 use esr_seq::Seq;
 use esr_source::{Address, Call, FailingAt, MemTarget, MemTargets, Target, Targets};
 use std::alloc::Global;
 use std::test::Fail;
+
+const OF_NOTHING: &[u8] = b"e3b0c44298fc1c149afbf4c8996fb92427ae41e4649b934ca495991b7852b855";
 
 const OF_A: &[u8] = b"ca978112ca1bbdcafac231b39a23dc4da786eff8147c4e72b9807785afee48bb";
 
@@ -124,7 +126,7 @@ fn an_empty_file_is_whole(rt: HostRuntime) -> Result<(), Fail> {
     let (extent, target, print) = back_of(rt.alloc(), b"", 0)?;
     assert_eq!(rt; extent, Extent::Whole);
     assert_eq!(rt; written(&target), b"".as_slice());
-    assert_eq!(rt; Some(print), print_read(0, super::OF_NOTHING));
+    assert_eq!(rt; Some(print), print_read(0, OF_NOTHING));
     Ok(())
 }
 

@@ -1,6 +1,7 @@
-use crate::{ReadFile, plan};
+//! Files that a base has, and others.
 use esr_hash::Print;
 use esr_names::Id;
+use esr_reuse::{ReadFile, plan};
 use esr_seq::Seq;
 use esr_shardidx::{FileEntry, PhysicalName, ShardIndex, ShardSnap};
 use std::alloc::Global;

@@ -1,11 +1,13 @@
 //! What an earlier run left, and what opening answers.
 use crate::held::{Faulty, Held, HeldBlob, HeldFetch};
-use crate::{OpenRefusal, Opening, Why, open_container};
 use esr_formats::write_info;
 use esr_json::{Key, Reason};
+use esr_meta::SnapInfo;
 use esr_names::{BlobName, Id};
+use esr_opening::{OpenRefusal, Opening, Why, open_container};
 use esr_seq::{Bytes, Seq, Text};
 use std::alloc::{AllocError, Global};
+use std::process::Abort;
 use std::test::Fail;
 
 /// The root after one snapshot `s1` of an index `logs` of one shard, and the record and info beside it.
@@ -125,57 +127,101 @@ fn outcome(alloc: Global, held: Held) -> Result<(Bytes, Option<Why>), AllocError
     }
 }
 
-/// The texts of the infos of the container, once it is opened.
-fn info_texts(alloc: Global, held: Held) -> Result<Bytes, AllocError> {
+/// The texts of infos, one after another.
+fn texts_of(alloc: Global, infos: &[SnapInfo]) -> Result<Bytes, AllocError> {
     let mut texts = Bytes::new(alloc);
-    if let Ok(opening) = open_container(alloc, held) {
-        for info in opening.infos.as_slice() {
-            texts.extend_from_slice(write_info(alloc, info)?.as_slice())?;
-        }
+    for info in infos {
+        texts.extend_from_slice(write_info(alloc, info)?.as_slice())?;
     }
     Ok(texts)
 }
 
-#[test]
-fn what_was_left_is_opened_or_refused(rt: HostRuntime) -> Result<(), Fail> {
-    let alloc = rt.alloc();
-    let disagrees = Why::Disagrees {
-        with: BlobName::Root(0),
-    };
-    let missing = |key| Why::Unreadable {
+/// The texts of the infos of the container, once it is opened.
+fn info_texts(alloc: Global, held: Held) -> Result<Bytes, AllocError> {
+    match open_container(alloc, held) {
+        Ok(opening) => texts_of(alloc, opening.infos.as_slice()),
+        Err(_) => Ok(Bytes::new(alloc)),
+    }
+}
+
+/// What was left: the record, root and info, what opening them answers, and why.
+type Case = (
+    &'static str,
+    &'static str,
+    &'static str,
+    &'static str,
+    Option<Why>,
+);
+
+fn assert_answer(rt: &impl Abort, alloc: Global, case: &Case) -> Result<(), Fail> {
+    let (record, root, info, text, why) = *case;
+    let left = held(alloc, record, root, info, Faulty::Nothing)?;
+    let (bytes, found) = outcome(alloc, left)?;
+    assert_eq!(rt; bytes.as_slice(), text.as_bytes(), "{text}");
+    assert_eq!(rt; found, why, "{text}");
+    Ok(())
+}
+
+fn missing(key: Key) -> Option<Why> {
+    Some(Why::Unreadable {
         reason: Reason::Missing { key },
-    };
+    })
+}
+
+#[test]
+fn what_was_left_is_opened(rt: HostRuntime) -> Result<(), Fail> {
+    let cases = [
+        ("", "", "", FIRST, None),
+        (CREATES, "", "", SECOND, None),
+        (AHEAD, ROOT, INFO, THIRD, None),
+    ];
+    for case in &cases {
+        assert_answer(&rt, rt.alloc(), case)?;
+    }
+    Ok(())
+}
+
+#[test]
+fn a_record_that_cannot_be_continued_is_refused(rt: HostRuntime) -> Result<(), Fail> {
+    let foreign = Why::ForeignId { id: Id::new(1, 0) };
+    let cases = [
+        ("", ROOT, INFO, "index-0", Some(Why::NoRecord)),
+        ("{}", "", "", "record", missing(Key::Ops)),
+        (EARLY, ROOT, INFO, "index-0", Some(foreign)),
+        (DELETES, "", "", "record", Some(Why::OpenDelete { op: 5 })),
+        (LAST, "", "", "last term", None),
+    ];
+    for case in &cases {
+        assert_answer(&rt, rt.alloc(), case)?;
+    }
+    Ok(())
+}
+
+#[test]
+fn a_damaged_root_or_info_is_refused(rt: HostRuntime) -> Result<(), Fail> {
     let no_json = Why::Unreadable {
         reason: Reason::Json,
     };
     let cases = [
-        ("", "", "", FIRST, None),
-        ("", ROOT, INFO, "index-0", Some(Why::NoRecord)),
-        ("{}", "", "", "record", Some(missing(Key::Ops))),
         (RECORD, "", INFO, "index-0", Some(Why::Absent)),
         (RECORD, "x", INFO, "index-0", Some(no_json)),
         (RECORD, ROOT, "", SNAP, Some(Why::Absent)),
-        (RECORD, ROOT, "{}", SNAP, Some(missing(Key::Bytes))),
-        (RECORD, ROOT, PARTIAL, SNAP, Some(disagrees)),
-        (RECORD, ROOT, WIDE, SNAP, Some(disagrees)),
-        (RECORD, ROOT, BARE, SNAP, Some(disagrees)),
-        (
-            EARLY,
-            ROOT,
-            INFO,
-            "index-0",
-            Some(Why::ForeignId { id: Id::new(1, 0) }),
-        ),
-        (DELETES, "", "", "record", Some(Why::OpenDelete { op: 5 })),
-        (LAST, "", "", "last term", None),
-        (CREATES, "", "", SECOND, None),
-        (AHEAD, ROOT, INFO, THIRD, None),
+        (RECORD, ROOT, "{}", SNAP, missing(Key::Bytes)),
     ];
-    for (record, root, info, text, why) in cases {
-        let left = held(alloc, record, root, info, Faulty::Nothing)?;
-        let (bytes, found) = outcome(alloc, left)?;
-        assert_eq!(rt; bytes.as_slice(), text.as_bytes(), "{text}");
-        assert_eq!(rt; found, why, "{text}");
+    for case in &cases {
+        assert_answer(&rt, rt.alloc(), case)?;
+    }
+    Ok(())
+}
+
+#[test]
+fn an_info_at_odds_with_its_root_is_refused(rt: HostRuntime) -> Result<(), Fail> {
+    let alloc = rt.alloc();
+    for info in [PARTIAL, WIDE, BARE] {
+        let disagrees = Why::Disagrees {
+            with: BlobName::Root(0),
+        };
+        assert_answer(&rt, alloc, &(RECORD, ROOT, info, SNAP, Some(disagrees)))?;
     }
     Ok(())
 }

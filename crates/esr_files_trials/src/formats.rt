@@ -1,5 +1,9 @@
 //! The worked texts of the formats, each read and written again.
-use super::*;
+use esr_formats::{
+    read_cluster, read_global, read_index_meta, read_info, read_name, read_root, read_shard_index,
+    read_shard_snap, write_cluster, write_global, write_index_meta, write_info, write_name,
+    write_root, write_shard_index, write_shard_snap,
+};
 use esr_names::{BlobName, Id, ShardId, is_name};
 use std::test::Fail;
 
@@ -26,20 +30,56 @@ const SHARD_INDEX: &str =
 const NAME: &str = "indices/AAAAAAAAAAEAAAAAAAAAAQ/0/index-AAAAAAAAAAEAAAAAAAAAAw";
 
 #[test]
-fn worked_texts_are_read_and_written(rt: HostRuntime) -> Result<(), Fail> {
+fn a_worked_root_is_read_and_written(rt: HostRuntime) -> Result<(), Fail> {
     let alloc = rt.alloc();
     let root = write_root(alloc, &read_root(alloc, ROOT.as_bytes())?)?;
     assert_eq!(rt; (root.len(), root.as_slice()), (208, ROOT.as_bytes()));
+    Ok(())
+}
+
+#[test]
+fn a_worked_record_is_read_and_written(rt: HostRuntime) -> Result<(), Fail> {
+    let alloc = rt.alloc();
     let cluster = write_cluster(alloc, &read_cluster(alloc, CLUSTER.as_bytes())?)?;
     assert_eq!(rt; cluster.as_slice(), CLUSTER.as_bytes());
+    Ok(())
+}
+
+#[test]
+fn a_worked_info_is_read_and_written(rt: HostRuntime) -> Result<(), Fail> {
+    let alloc = rt.alloc();
     let info = write_info(alloc, &read_info(alloc, INFO.as_bytes())?)?;
     assert_eq!(rt; info.as_slice(), INFO.as_bytes());
+    Ok(())
+}
+
+#[test]
+fn worked_global_metadata_is_read_and_written(rt: HostRuntime) -> Result<(), Fail> {
+    let alloc = rt.alloc();
     let global = write_global(alloc, &read_global(alloc, GLOBAL.as_bytes())?)?;
     assert_eq!(rt; global.as_slice(), GLOBAL.as_bytes());
+    Ok(())
+}
+
+#[test]
+fn worked_metadata_of_an_index_is_read_and_written(rt: HostRuntime) -> Result<(), Fail> {
+    let alloc = rt.alloc();
     let meta = write_index_meta(alloc, &read_index_meta(alloc, INDEX_META.as_bytes())?)?;
     assert_eq!(rt; meta.as_slice(), INDEX_META.as_bytes());
+    Ok(())
+}
+
+#[test]
+fn a_worked_snapshot_of_a_shard_is_read_and_written(rt: HostRuntime) -> Result<(), Fail> {
+    let alloc = rt.alloc();
     let snap = write_shard_snap(alloc, &read_shard_snap(alloc, SHARD_SNAP.as_bytes())?)?;
     assert_eq!(rt; snap.as_slice(), SHARD_SNAP.as_bytes());
+    Ok(())
+}
+
+#[test]
+fn a_worked_index_of_a_shard_is_read_and_written(rt: HostRuntime) -> Result<(), Fail> {
+    let alloc = rt.alloc();
     let index = write_shard_index(alloc, &read_shard_index(alloc, SHARD_INDEX.as_bytes())?)?;
     assert_eq!(rt; index.as_slice(), SHARD_INDEX.as_bytes());
     Ok(())

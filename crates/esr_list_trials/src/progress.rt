@@ -2,8 +2,8 @@
 ghost use Rattle.std.specs.Prelude.{◌<◌, ◌^◌, IfOk};
 ghost use Rattle.esr_progress.specs.Asked.{asked_of, IsAskable};
 
-use crate::{Accepted, AskedIndex, Command, Progress, Refusal};
 use esr_names::{Id, IndexName, SnapName};
+use esr_progress::{Accepted, AskedIndex, Command, Progress, Refusal};
 use esr_root::RootData;
 use esr_seq::{Seq, Text};
 use std::alloc::Global;

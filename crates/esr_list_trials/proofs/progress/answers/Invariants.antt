@@ -2,7 +2,7 @@ use Rattle.std.proofs.Common.{◌≡◌, ◌+◌, ◌<◌, ℕ, [], None}
 use Rattle.std.specs.FinMap as fin
 use Rattle.esr_model.specs.Kept.{first_id}
 use Rattle.esr_core.specs.Tracked.{Named}
-use Rattle.esr_progress.proofs.tests.answers.Given as goal
+use Rattle.esr_list_trials.proofs.progress.answers.Given as goal
 
 -- so many ops are open, no restore is, and no ticket was given
 abbrev pub invariant-loop-number : goal.invariant-loop-number

@@ -1,10 +1,9 @@
+//! Files of shards are hashed and copied in pieces.
 ghost use Rattle.std.specs.Prelude.{None, false, [], ◌<◌, length, IsSomeAnd};
 
-mod back;
-
-use crate::{copy_part, hash_file, part_plan};
 use esr_depot::{CallError, Counted, Failed, Stage};
 use esr_hash::{Hasher, Print, print_read};
+use esr_parts::{copy_part, hash_file, part_plan};
 use esr_seq::Seq;
 use esr_source::{Address, MemFile, MemShard, MemSource, MemSources, NoGate, Shard, Sources};
 use std::alloc::{AllocError, Global};

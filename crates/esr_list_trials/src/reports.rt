@@ -1,10 +1,9 @@
 //! What lines are answered by short histories.
-use super::*;
-use crate::lines::push_line;
 use esr_desk::{Answer, Entry, EntryRefusal, Given, History, Read, Step, Why};
 use esr_hash::Print;
 use esr_names::{BlobName, Id, IndexName, IndexRef, IndexRefs, ShardId, SnapName};
 use esr_progress::{AskedIndices, Command};
+use esr_report::{Reply, end_of_run, push_line, replies, report};
 use esr_root::{RootSnaps, root_read};
 use esr_script::{Script, script_read};
 use esr_seq::{Bytes, Text};

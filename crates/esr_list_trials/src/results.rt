@@ -2,9 +2,9 @@
 ghost use Rattle.std.specs.Prelude.{◌≡◌, ◌∷◌, [], ◌+◌, ◌^◌, codes, Some, IfOk};
 ghost use Rattle.esr_formats.specs.Roots.{root_of};
 
-use crate::{ShardResult, ShardResults, finalized};
 use esr_meta::SnapInfo;
-use esr_names::{Id, IndexName, IndexRef, ShardId, SnapName};
+use esr_names::{Id, IndexName, IndexRef, IndexRefs, ShardId, SnapName};
+use esr_results::{ShardResult, ShardResults, finalized};
 use esr_root::{RootData, root_text};
 use esr_seq::Seq;
 use std::alloc::{AllocError, Global};
@@ -18,6 +18,19 @@ const FIRST: &str =
 const SECOND: &str =
     "{\"indices\":{\"logs\":{\"id\":\"AAAAAAAAAAEAAAAAAAAAAQ\",\"shard_generations\":[\"AAAAAAAAAAEAAAAAAAAAAw\"],\"snapshots\":[\"AAAAAAAAAAEAAAAAAAAAAA\",\"AAAAAAAAAAEAAAAAAAAABA\"]}},\"snapshots\":[{\"name\":\"s1\",\"state\":1,\"uuid\":\"AAAAAAAAAAEAAAAAAAAAAA\"},{\"name\":\"s2\",\"state\":1,\"uuid\":\"AAAAAAAAAAEAAAAAAAAABA\"}]}";
 
+/// The index `logs` of one shard.
+fn logs_index(alloc: Global) -> Result<IndexRefs, Fail>
+    ensures { IfOk result (λ r. r ≡ record { id = record { number = 2 ^ 64 + 1 }; name = codes "logs"; shards = 1 } ∷ []) }
+{
+    let mut indices = Seq::new(alloc);
+    indices.push(IndexRef {
+        id: Id::new(1, 1),
+        name: IndexName::new(alloc, "logs")?,
+        shards: 1,
+    })?;
+    Ok(indices)
+}
+
 /// The info of a snapshot of `logs`.
 fn logs_info(alloc: Global, name: &str, uuid: Id) -> Result<SnapInfo, Fail>
     ensures { IfOk result (λ i. i ≡ record {
@@ -30,16 +43,10 @@ fn logs_info(alloc: Global, name: &str, uuid: Id) -> Result<SnapInfo, Fail>
       indices = record { id = record { number = 2 ^ 64 + 1 }; name = codes "logs"; shards = 1 } ∷ [];
     }) }
 {
-    let mut indices = Seq::new(alloc);
-    indices.push(IndexRef {
-        id: Id::new(1, 1),
-        name: IndexName::new(alloc, "logs")?,
-        shards: 1,
-    })?;
     Ok(SnapInfo {
         bytes: 0,
         files: 0,
-        indices,
+        indices: logs_index(alloc)?,
         moment: 0,
         name: SnapName::new(alloc, name)?,
         state: 1,

@@ -1,7 +1,10 @@
 -- The snapshots of the tests may be finalized, and what the first root is.
-use Rattle.std.proofs.Common.{◌≡◌, ℕ, ◌+◌, ◌^◌, List, [], ◌∷◌, map, Some, codes, refl, sym, ap, ◌∙◌, subst, arith, inl, inr}
+use Rattle.std.proofs.Common.{◌≡◌, ℕ, ◌+◌, ◌^◌, ◌<◌, List, [], ◌∷◌, map, None, Some, codes, refl, sym, ap, ◌∙◌, subst, arith, inl, inr}
+use Rattle.esr_names.specs.NameRule.{name_fault, snap_name_fault}
 use Rattle.esr_names.specs.declared.ids.Id.{Id}
-use Rattle.esr_meta.specs.Info.{Info}
+use Rattle.esr_names.specs.declared.index_ref.IndexRef.{IndexRef as Ref}
+use Rattle.esr_meta.specs.Indices.{AreRefs}
+use Rattle.esr_meta.specs.Info.{Info, IsInfo}
 use Rattle.esr_root.specs.Root.{Root, empty_root}
 use Rattle.esr_formats.specs.Infos.{info_of_code}
 use Rattle.esr_formats.specs.Roots.{root_of}
@@ -68,3 +71,16 @@ second_may root info results uuid generation r i s u =
     (subst (λ (a : Info). MayFinalize (one_root (2 ^ 64) (2 ^ 64 + 3)) (info_of_code a) (map result_of results)) (sym i)
     (subst (λ (rs : List ShardResult). MayFinalize (one_root (2 ^ 64) (2 ^ 64 + 3)) (info_of_code (logs_info (codes "s2") uuid)) (map result_of rs)) (sym s)
     (second_one uuid generation u)))
+
+pub info_is : (refs : List Ref) (name text : Bytes) (uuid : Id) → refs ≡ record { id = record { number = 2 ^ 64 + 1 }; name = codes "logs"; shards = 1 } ∷ [] → name ≡ text → snap_name_fault text ≡ None → uuid.number < 2 ^ 128
+    → IsInfo (record { bytes = 0; files = 0; indices = refs; moment = 0; name = name; state = 1; uuid = uuid })
+unfolding name_fault
+info_is refs name text uuid e same good small = record {
+  bytes = omega arith;
+  files = omega arith;
+  indices = subst (AreRefs []) (sym e) (record { id = omega arith; name = refl; least = omega arith; most = omega arith }, refl, tt);
+  moment = omega arith;
+  name = subst (λ (n : Bytes). snap_name_fault n ≡ None) (sym same) good;
+  state = omega arith;
+  uuid = small;
+}

@@ -1,7 +1,7 @@
 //! Small roots, typed out, with the indices of their shards.
-use super::*;
 use esr_formats::append_name;
 use esr_names::{Id, ShardId};
+use esr_reach::{Names, ShardIndices, doomed_by_delete, reach};
 use esr_root::root_read;
 use esr_seq::Bytes;
 use esr_shardidx::shard_index_read;

@@ -1,6 +1,6 @@
 use Rattle.esr_formats.specs.Roots.{root_of}
-use Rattle.esr_results.proofs.Examples.{second_may}
-use Rattle.esr_results.proofs.tests.second_root.Goals as goal
+use Rattle.esr_list_trials.proofs.Examples.{second_may}
+use Rattle.esr_list_trials.proofs.results.second_root.Goals as goal
 
 pub finalized-requires : goal.finalized-requires
 finalized-requires c =

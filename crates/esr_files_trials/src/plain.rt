@@ -1,8 +1,7 @@
 //! Small images, typed out.
-use super::*;
-use crate::reading::root_at;
-use esr_formats::read_name;
+use esr_formats::{read_name, read_root};
 use esr_names::Id;
+use esr_plain::{Command, Image, Shelf, ShelfShard, Shelved, picked, reach, shelf_after, whole};
 use esr_seq::{Bytes, Seq, Text};
 use std::alloc::{AllocError, Global};
 use std::test::Fail;
@@ -286,12 +285,12 @@ fn stands_for(alloc: Global, image: &Image, n: u64, shelf: &str) -> Result<bool,
     Ok(tell(alloc, whole(alloc, image, n)?)?.as_slice() == shelf.as_bytes())
 }
 
-/// Whether the root reaches just these names.
-fn reaches(alloc: Global, image: &Image, n: u64, texts: &[&str]) -> Result<bool, AllocError> {
-    let Some(root) = root_at(alloc, image, n)? else {
+/// Whether the root of this name reaches just these names.
+fn reaches(alloc: Global, image: &Image, root: &str, texts: &[&str]) -> Result<bool, Fail> {
+    let Some(bytes) = image.get(root.as_bytes()) else {
         return Ok(false);
     };
-    let names = reach(alloc, image, &root)?;
+    let names = reach(alloc, image, &read_root(alloc, bytes)?)?;
     for text in texts {
         match read_name(text.as_bytes()) {
             Some(name) if names.as_slice().contains(&name) => {}
@@ -306,7 +305,7 @@ fn a_snapshot_stands(rt: HostRuntime) -> Result<(), Fail> {
     let alloc = rt.alloc();
     let image = image_but(alloc, &ONE, "")?;
     assert!(rt; stands_for(alloc, &image, 0, "s1 logs/0 _0.cfs=abc;\n")?);
-    assert!(rt; reaches(alloc, &image, 0, &ONE_REACHES)?);
+    assert!(rt; reaches(alloc, &image, "index-0", &ONE_REACHES)?);
     assert!(rt; whole(alloc, &image, 1)?.is_none());
     assert!(rt; picked(alloc, &image, 0)?.is_some_and(|shelf| shelf.is_empty()));
     assert!(rt; picked(alloc, &image, 1)?.is_some_and(|shelf| shelf.len() == 1));
@@ -357,7 +356,7 @@ fn files_of_unlisted_snapshots_are_reached(rt: HostRuntime) -> Result<(), Fail> 
     );
     put(alloc, &mut image, LATER.0, LATER.1)?;
     assert!(rt; stands_for(alloc, &image, 2, "s2 logs/0 _0.cfs=xyz;\n")?);
-    assert!(rt; reaches(alloc, &image, 2, &LATER_REACHES)?);
+    assert!(rt; reaches(alloc, &image, "index-2", &LATER_REACHES)?);
     Ok(())
 }
 

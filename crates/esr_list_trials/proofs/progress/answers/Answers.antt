@@ -2,7 +2,7 @@ use Rattle.std.proofs.Common.{◌≡◌, ℕ, suc, ◌+◌, ◌<◌, [], false, 
 use Rattle.std.specs.FinMap as fin
 use Rattle.esr_model.specs.Values.{RootData}
 use Rattle.esr_model.specs.Kept.{first_id}
-use Rattle.esr_core.specs.World.{World, Op, Restoring, Reader, no_caller}
+use Rattle.esr_core.specs.World.{World, Op, Restoring, no_caller}
 use Rattle.esr_core.specs.After.{asked_op, new_names}
 use Rattle.esr_core.specs.Tracked.{Named}
 use Rattle.esr_core.proofs.Naming.{named_asked}
@@ -11,10 +11,10 @@ use Rattle.esr_progress.specs.declared.command.Accepted.{Accepted}
 use Rattle.esr_progress.specs.declared.command.Command.{Command}
 use Rattle.esr_progress.specs.declared.command.Command.TheVariants as commands
 use Rattle.esr_progress.specs.Asked.{asked_of, asked_index_of, IsAskable}
-use Rattle.esr_progress.specs.Plan.{Plan, RestorePlan, ReaderSeat, IsAskedIn, seat_of, restore_plan, reader_seat}
+use Rattle.esr_progress.specs.Plan.{Plan, RestorePlan, IsAskedIn, seat_of, restore_plan, reader_seat}
 use Rattle.esr_progress.specs.Accepting.{MayAccept, IsAccepted, name_asked}
 use Rattle.esr_progress.proofs.Lists.{none_some}
-use Rattle.esr_progress.proofs.tests.answers.Goals as goal
+use Rattle.esr_list_trials.proofs.progress.answers.Goals as goal
 
 nothing_open : (o : ℕ) (op : Op) → fin.get (fin.empty {K = ℕ} {X = Op} {R = nat_cmp}) o ≡ Some op → ⊥
 nothing_open o op got = none_some op (sym (fin.get-empty nat_cmp o) ∙ got)
