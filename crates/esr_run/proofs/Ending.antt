@@ -1,6 +1,6 @@
 -- How a run ends.
-use Rattle.std.proofs.Common.{◌≡◌, ◌⊎◌, ℕ, zero, suc, ◌<◌, ◌≤◌, ◌^◌, Bool, true, false, List, [], ◌++◌, Option, Some, None, is_some, inl, inr, arith, refl, sym, ap, ◌∙◌, subst}
-use Rattle.std.specs.Prelude.{unwrap_or, ◌&&◌}
+use Rattle.std.proofs.Common.{◌≡◌, ◌⊎◌, ℕ, zero, suc, ◌<◌, ◌≤◌, ◌^◌, Bool, true, false, List, [], ◌∷◌, ◌++◌, Option, Some, None, is_some, inl, inr, arith, refl, sym, ap, ◌∙◌, subst}
+use Rattle.std.specs.Prelude.{unwrap_or, ◌&&◌, ◌||◌}
 use Rattle.esr_model.specs.Values.{Bytes}
 use Rattle.esr_core.specs.Entry.{Step, Entry, Moment}
 use Rattle.esr_core.specs.World.{World}
@@ -15,7 +15,9 @@ use Rattle.esr_desk.specs.Once.{AreOnce, NoneTwice}
 use Rattle.esr_repo.specs.Calm.{IsCalm}
 use Rattle.esr_quiet.specs.Asked.{asked_steps}
 use Rattle.esr_complete.specs.Lines.{steps_of}
-use Rattle.esr_run.specs.Made.{MadeFirst}
+use Rattle.esr_report.specs.Status.{Ending, AllOk, SomeRefused, SwapFailed, BlobDamaged, NumbersSpent, ending, status_of}
+use Rattle.esr_run.specs.Made.{MadeFirst, HasStopped, AreDone}
+use Rattle.std.specs.Io.KnownBytes.{Appends}
 use Rattle.esr_opening.specs.Opening.{Kept, IsFault, IsOpening, IsOpenRefused}
 use Rattle.esr_opening.specs.declared.refusal.OpenRefusal.{OpenRefusal}
 use Rattle.esr_opening.specs.declared.refusal.OpenRefusal.TheVariants as refusals
@@ -28,7 +30,7 @@ use Rattle.esr_repo.specs.Log.{log_of}
 use Rattle.esr_run.specs.Asked.{wanted_of, part_size_of}
 use Rattle.esr_run.specs.Ends.{RunEnd, BadWords, Unreadable, BadScript, BadLine, OpenFault, Damaged, NoTerm, Carried, exit_of, text_of}
 use Rattle.esr_run.specs.Faults.{listed, fetch_of, HasFetch}
-use Rattle.esr_run.specs.Start.{Telling, formats_by, start_of, LegalRun}
+use Rattle.esr_run.specs.Start.{Telling, is_absent, formats_by, start_of, LegalRun}
 use Rattle.esr_run.specs.Laws.{Laws}
 use Rattle.esr_run.specs.Stops.{StoppedBy}
 use Rattle.esr_run.specs.Causes.{Given, IsScript, IsOpenedRun, IsUntouched, IsUnopened, IsRunOf, IsCauseOf, IsOpenCause, IsTextOf, IsVerdict, IsTold, exit_unprinted, IsPrinted, IsEndOf, end_of_refusal}
@@ -39,13 +41,15 @@ use Rattle.esr_run.proofs.Keeping.{untouched_kept, refused_kept, every_image_kep
 
 pub are_sources : (files : Telling) (size : ℕ) (quiet : Bool) (l : Look) (w : World) → AreSources (start_of files size quiet l w) files.files files.is_there files.is_quiet
 are_sources files size quiet l w = record {
-  told = λ place name number known. inl (by (files.files place name number) known);
+  told = λ place name number known. by (files.files place name number) (files.is_there place name number) known;
   steady = λ place name number e. both files.is_quiet (files.is_there place name number) e;
 }
   where
-    by : (o : Option (List (Bytes × Bytes))) → is_some o ≡ true → o ≡ Some (unwrap_or o [])
-    by None e = absurd cc
-    by (Some x) e = refl
+    by : (o : Option (List (Bytes × Bytes))) (there : Option Bool) → (is_some o || is_absent there) ≡ true → (o ≡ Some (unwrap_or o [])) ⊎ (there ≡ Some false)
+    by (Some x) there e = inl refl
+    by None None e = absurd cc
+    by None (Some true) e = absurd cc
+    by None (Some false) e = inr refl
 
     both : (a : Bool) (o : Option Bool) → (a && unwrap_or o false) ≡ true → (a ≡ true) × (o ≡ Some true)
     both true None e = absurd cc
@@ -106,14 +110,38 @@ opened_run {S} {F} {H} {T} laws count files size moment lines quiet before mid a
 
 -- ---- verdicts
 
-pub verdict_carried : (status : ℕ) (text : Bytes) (lines : List ScriptLine) (history : List Entry) (Cause : RunEnd → Type 0) → IsTold status text (Some (Carried lines history)) → Cause (Carried lines history) → IsVerdict status text Cause
-verdict_carried status text lines history Cause (inl wanting) cause = inl wanting
-verdict_carried status text lines history Cause (inr told) cause = inr (record { end = Carried lines history; status_is = told.0; text_is = told.1; cause = cause })
+not_wanting : (e : Ending) → status_of e ≡ 8 → ⊥
+not_wanting AllOk is = cc
+not_wanting SomeRefused is = cc
+not_wanting SwapFailed is = cc
+not_wanting (BlobDamaged name) is = cc
+not_wanting NumbersSpent is = cc
 
-pub verdict_opening : {S F H T : Type 0} (status : ℕ) (text : Bytes) (count : Counts S F H T) (files : Telling) (size moment : ℕ) (before after : Look) (old_faults new_faults : ℕ) (lines : List ScriptLine) (history : List Entry) (faults : List (Fault S F H T))
-    → IsTold status text (Some (Carried lines history)) → IsOpenedRun count files size moment lines before after history faults → IsVerdict status text (IsOpenCause count files size moment before after old_faults new_faults lines history faults)
-verdict_opening status text count files size moment before after old_faults new_faults lines history faults told run =
-    verdict_carried status text lines history (IsOpenCause count files size moment before after old_faults new_faults lines history faults) told (refl, refl, run)
+pub verdict_opening : {S F H T : Type 0} (laws : Laws) (count : Counts S F H T) (files : Telling) (size moment : ℕ) (lines : List ScriptLine) (quiet : Bool) (before mid after : Look) (k : Kept) (history : List Entry) (faults : List (Fault S F H T))
+    (old_faults new_faults status : ℕ) (text : Bytes) → IsOpening before mid k → (2 ^ 62 ≤ before.sure → quiet ≡ true)
+    → LegalRun (Begun files size quiet mid k) mid.clock after history → IsPast (Begun files size quiet mid k) mid.clock mid.since after history → AreShown count (Begun files size quiet mid k) (log_of after mid.clock history) faults
+    → AreOnce (Begun files size quiet mid k) (log_of after mid.clock history) → NoneTwice (log_of after mid.clock history) → IsCalm quiet after.sure history → MadeFirst (Begun files size quiet mid k) (steps_of moment lines) [] (log_of after mid.clock history)
+    → IsTold status text (Some (Carried lines history))
+    → (status ≡ 8) ⊎ (AreDone (Begun files size quiet mid k) moment lines [] (log_of after mid.clock history) ⊎ HasStopped (log_of after mid.clock history))
+    → IsVerdict status text (IsOpenCause count files size moment before after old_faults new_faults lines history faults)
+unfolding opened_run
+verdict_opening laws count files size moment lines quiet before mid after k history faults old_faults new_faults status text o quiet_is legal past shown once single calm made (inl wanting) done = inl wanting
+verdict_opening laws count files size moment lines quiet before mid after k history faults old_faults new_faults status text o quiet_is legal past shown once single calm made (inr told) (inl wanting) =
+    absurd (not_wanting (ending lines history) (sym told.0 ∙ wanting))
+verdict_opening laws count files size moment lines quiet before mid after k history faults old_faults new_faults status text o quiet_is legal past shown once single calm made (inr told) (inr done) =
+    inr (record {
+      end = Carried lines history;
+      status_is = told.0;
+      text_is = told.1;
+      cause = (
+        refl,
+        refl,
+        (
+          opened_run laws count files size moment lines quiet before mid after k history faults o quiet_is legal past shown once single calm made,
+          subst (λ (s : Start). AreDone s moment lines [] (log_of after mid.clock history) ⊎ HasStopped (log_of after mid.clock history)) (start_is files size quiet before mid k o) done,
+        ),
+      );
+    })
 
 told_end : (status : ℕ) (text : Bytes) (Cause : RunEnd → Type 0) (end : RunEnd) → IsTold status text (Some end) → Cause end → IsVerdict status text Cause
 told_end status text Cause end (inl wanting) cause = inl wanting
@@ -121,7 +149,7 @@ told_end status text Cause end (inr told) cause = inr (record { end = end; statu
 
 told_none : (status : ℕ) (text : Bytes) (Cause : RunEnd → Type 0) → IsTold status text None → IsVerdict status text Cause
 told_none status text Cause (inl wanting) = inl wanting
-told_none status text Cause (inr told) = inl told.0
+told_none status text Cause (inr told) = inl told
 
 -- the fetch of the opening is listed
 has_fetch : {S F H T : Type 0} (count : Counts S F H T) (faults : List (Fault S F H T)) (old_faults new_faults : ℕ) (fetch : Option F) → faults ≡ listed fetch → IsFault count.fetch old_faults new_faults fetch
@@ -154,7 +182,7 @@ verdict_stopped status text count given files reader before after old_faults new
 with_script : {S F H T : Type 0} (count : Counts S F H T) (given : Given) (files : Telling) (reader size : ℕ) (before after : Look) (old_faults new_faults : ℕ) (lines : List ScriptLine) (history : List Entry) (faults : List (Fault S F H T)) (end : RunEnd)
     → part_size_of (wanted_of (job_of given.words)) ≡ Some size → IsScript given lines → IsOpenCause count files size given.moment before after old_faults new_faults lines history faults end → IsCauseOf count given files reader before after old_faults new_faults history faults end
 with_script count given files reader size before after old_faults new_faults lines history faults (Carried script entries) size_is is cause =
-    (cause.1, (record { size = size; size_is = size_is; lines = lines; script = is; run = cause.2 }, sym cause.0))
+    (cause.1, (record { size = size; size_is = size_is; lines = lines; script = is; run = cause.2.0 }, sym cause.0, cause.2.1))
 with_script count given files reader size before after old_faults new_faults lines history faults OpenFault size_is is cause = ((lines, is), cause)
 with_script count given files reader size before after old_faults new_faults lines history faults (Damaged name) size_is is cause = ((lines, is), cause)
 with_script count given files reader size before after old_faults new_faults lines history faults NoTerm size_is is cause = ((lines, is), cause)
@@ -201,9 +229,19 @@ ended status wanted text old new old_faults new_faults Cause v is =
     subst (λ (n : ℕ). IsPrinted status n (text_of v.end) old new old_faults new_faults) v.status_is
     (subst (λ (t : Bytes). IsPrinted status wanted t old new old_faults new_faults) v.text_is is)
 
+front_none : (front rest : Bytes) → [] ≡ front ++ rest → front ≡ []
+front_none [] rest e = refl
+front_none (x ∷ front) rest e = absurd cc
+
+-- where memory was wanting nothing was printed
+printed_none : (status wanted : ℕ) (text : Bytes) (old new : Option Bytes) (old_faults new_faults : ℕ) → IsPrinted status wanted text old new old_faults new_faults → text ≡ [] → Appends old new []
+printed_none status wanted text old new old_faults new_faults (inl done) none = subst (λ (t : Bytes). Appends old new t) none done.1
+printed_none status wanted text old new old_faults new_faults (inr cut) none = subst (λ (t : Bytes). Appends old new t) (front_none cut.front.front cut.front.rest (sym none ∙ cut.front.whole)) cut.front.took
+
 pub printed : (status wanted : ℕ) (text : Bytes) (old new : Option Bytes) (old_faults new_faults : ℕ) (Cause : RunEnd → Type 0)
     → IsVerdict wanted text Cause → IsPrinted status wanted text old new old_faults new_faults → IsEndOf status old new old_faults new_faults Cause
-printed status wanted text old new old_faults new_faults Cause (inl wanting) is = inl (stays_wanting status wanted text old new old_faults new_faults is wanting)
+printed status wanted text old new old_faults new_faults Cause (inl wanting) is =
+    inl (stays_wanting status wanted text old new old_faults new_faults is wanting.0, printed_none status wanted text old new old_faults new_faults is wanting.1)
 printed status wanted text old new old_faults new_faults Cause (inr v) is =
     inr (record { end = v.end; cause = v.cause; printed = ended status wanted text old new old_faults new_faults Cause v is })
 

@@ -1,32 +1,11 @@
 -- A script that is read piece by piece.
-use Rattle.std.proofs.Common.{◌≡◌, ℕ, ◌+◌, ◌-◌, ◌≤◌, min, List, [], ◌++◌, length, take, drop, Option, Some, None, Result, Ok, Err, OnOk, append_assoc, sym, ap, ◌∙◌, refl, subst, arith, append-nil}
+use Rattle.std.proofs.Common.{◌≡◌, ℕ, ◌+◌, ◌-◌, ◌≤◌, min, List, [], ◌∷◌, ◌++◌, length, take, drop, Option, Some, None, Result, Ok, Err, OnOk, append_assoc, sym, ap, ◌∙◌, refl, subst, arith, append-nil}
 use Rattle.std.proofs.lemmas.Grind.{common_steps}
-use Rattle.std.proofs.lemmas.List.{length-take}
-use Rattle.std.proofs.Math.Seq.{take-append-add}
-use Rattle.std.specs.Io.KnownBytes.{Consumes, IsAtEnd, Appends}
-use Rattle.esr_run.specs.Script.{AreBytes, kept_of}
+use Rattle.std.proofs.lemmas.List.{take_all, length-append}
+use Rattle.std.specs.Io.KnownBytes.{Consumes, Keeps, IsAtEnd, Appends}
+use Rattle.esr_run.specs.Script.{AreBytes}
+use Rattle.esr_run.specs.Causes.{IsReadInPart}
 use Rattle.esr_run.specs.Stops.{IsKept}
-
-cut : (n : ℕ) (ys : List ℕ) → take n ys ≡ take (min (length ys) n) ys
-cut n ys = grind (arith, common_steps)
-
--- a list that goes on, cut at a length
-pub take_over : (n : ℕ) (xs ys : List ℕ) → length xs ≤ n → take n (xs ++ ys) ≡ xs ++ take (min (length ys) (n - length xs)) ys
-take_over n xs ys le =
-    let here : n ≡ length xs + (n - length xs) = omega (arith, le) in
-    ap (λ (k : ℕ). take k (xs ++ ys)) here ∙ take-append-add xs ys (n - length xs) ∙ ap (λ (l : List ℕ). xs ++ l) (cut (n - length xs) ys)
-
--- what is kept of more bytes
-pub kept_more : {T E : Type 0} (r : Result T E) (old bytes new : List ℕ) (len count : ℕ) → len ≡ length old → count ≡ min (length bytes) (4194305 - len) → length old ≤ 4194305
-    → OnOk r (new ≡ old ++ take count bytes) → OnOk r (new ≡ kept_of (old ++ bytes))
-kept_more (Ok x) old bytes new len count len_is count_is le h =
-    let is : count ≡ min (length bytes) (4194305 - length old) = count_is ∙ ap (λ (k : ℕ). min (length bytes) (4194305 - k)) len_is in
-    h ∙ ap (λ (k : ℕ). old ++ take k bytes) is ∙ sym (take_over 4194305 old bytes le)
-kept_more (Err e) old bytes new len count len_is count_is le h = tt
-
--- cut twice
-pub take_again : (n : ℕ) (xs ys : List ℕ) → take n (take n xs ++ ys) ≡ take n (xs ++ ys)
-take_again n xs ys = grind (arith, common_steps)
 
 pub took_none : (old : Option (List ℕ)) → Consumes old old []
 took_none None = tt
@@ -54,22 +33,44 @@ read_whole None new whole took end = tt
 read_whole (Some xs) None whole took end = absurd took
 read_whole (Some xs) (Some ys) whole took end = sym (took ∙ ap (λ (rest : List ℕ). whole ++ rest) end ∙ append-nil whole)
 
--- the last read gave nothing
-pub read_end : (first mid new : Option (List ℕ)) (whole buf kept : List ℕ) (count : ℕ) → Consumes first mid whole → kept ≡ kept_of whole → Consumes mid new (take count buf) → count ≡ 0 → IsAtEnd new → IsKept first kept
-read_end first mid new whole buf kept count took kept_is more none end =
-    let same : whole ++ take count buf ≡ whole = ap (λ (k : ℕ). whole ++ take k buf) none ∙ append-nil whole in
+-- a script that was read to its end
+pub read_end : (first mid new : Option (List ℕ)) (kept piece : List ℕ) → Consumes first mid kept → Consumes mid new piece → piece ≡ [] → IsAtEnd new → length kept ≤ 4194305 → IsKept first kept
+read_end first mid new kept piece took more none end few =
+    let same : kept ++ piece ≡ kept = ap (λ (l : List ℕ). kept ++ l) none ∙ append-nil kept in
     record {
-      bytes = whole ++ take count buf;
-      bytes_are = read_whole first new (whole ++ take count buf) (took_more first mid new whole (take count buf) took more) end;
-      kept_is = kept_is ∙ ap kept_of (sym same);
+      bytes = kept;
+      bytes_are = read_whole first new kept (subst (λ (l : List ℕ). Consumes first new l) same (took_more first mid new kept piece took more)) end;
+      kept_is = sym (take_all 4194305 kept few);
     }
 
-pub kept_short : (kept whole : List ℕ) → kept ≡ kept_of whole → length kept ≤ 4194305
-kept_short kept whole is = subst (λ (l : List ℕ). length l ≤ 4194305) (sym is) (omega (arith, length-take 4194305 whole))
+front_is : (n : ℕ) (xs ys : List ℕ) → length xs ≡ n → take n (xs ++ ys) ≡ xs
+front_is n xs ys is = grind (arith, common_steps)
 
-pub kept_next : (new kept whole slice piece : List ℕ) → new ≡ kept_of (kept ++ slice) → kept ≡ kept_of whole → slice ≡ piece → new ≡ kept_of (whole ++ piece)
-kept_next new kept whole slice piece is kept_is slice_is =
-    is ∙ ap (λ (l : List ℕ). kept_of (l ++ slice)) kept_is ∙ take_again 4194305 whole slice ∙ ap (λ (l : List ℕ). kept_of (whole ++ l)) slice_is
+-- a script of which as much was read as is read at most
+pub read_full : (old new : Option (List ℕ)) (kept : List ℕ) → Consumes old new kept → length kept ≡ 4194305 → IsKept old kept
+read_full None new kept took full = record { bytes = kept; bytes_are = tt; kept_is = sym (take_all 4194305 kept (omega (arith, full))) }
+read_full (Some xs) None kept took full = absurd took
+read_full (Some xs) (Some ys) kept took full = record { bytes = xs; bytes_are = refl; kept_is = sym (ap (λ (l : List ℕ). take 4194305 l) took ∙ front_is 4194305 kept ys full) }
+
+-- how much was read, where the last piece is in it or nothing more was given
+pub in_part : (old new : Option (List ℕ)) (kept : List ℕ) → Consumes old new kept → length kept ≤ 4194305 → IsReadInPart old new
+in_part old new kept took few = record { bytes = kept; took = took; few = few }
+
+pub in_part_more : (old mid new : Option (List ℕ)) (kept piece : List ℕ) → Consumes old mid kept → Consumes mid new piece → length kept + length piece ≤ 4194305 → IsReadInPart old new
+in_part_more old mid new kept piece took more few = record { bytes = kept ++ piece; took = took_more old mid new kept piece took more; few = omega (arith, few, length-append kept piece) }
+
+kept_on : (old mid new : Option (List ℕ)) (kept : List ℕ) → Consumes old mid kept → Keeps mid new → Consumes old new kept
+kept_on None mid new kept took keeps = tt
+kept_on (Some xs) None new kept took keeps = absurd took
+kept_on (Some xs) (Some ys) None kept took keeps = absurd keeps
+kept_on (Some xs) (Some ys) (Some zs) kept took keeps = took ∙ ap (λ (l : List ℕ). kept ++ l) (sym keeps)
+
+pub nil_of : (xs : List ℕ) → length xs ≡ 0 → xs ≡ []
+nil_of [] e = refl
+nil_of (x ∷ xs) e = absurd (cc)
+
+pub in_part_kept : (old mid new : Option (List ℕ)) (kept : List ℕ) → Consumes old mid kept → Keeps mid new → length kept ≤ 4194305 → IsReadInPart old new
+in_part_kept old mid new kept took keeps few = in_part old new kept (kept_on old mid new kept took keeps) few
 
 -- what a buffer has after a read
 pub buffer_after : (len : ℕ) (new old : List ℕ) → length new ≡ length old → len ≡ length old → take len (new ++ drop (length new) old) ≡ new

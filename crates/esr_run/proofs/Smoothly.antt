@@ -22,7 +22,7 @@ use Rattle.esr_repo.specs.Past.{IsPast}
 use Rattle.esr_repo.specs.Calm.{IsCalm}
 use Rattle.esr_repo.specs.Deposed.{AreDeposedSo}
 use Rattle.esr_complete.specs.Lines.{steps_of}
-use Rattle.esr_run.specs.Asked.{Wanted, ReadScript, OneCommand, NoRun, wanted_of, part_size_of}
+use Rattle.esr_run.specs.Asked.{Wanted, ReadScript, OneCommand, NoCommand, NoRun, wanted_of, part_size_of}
 use Rattle.esr_run.specs.Script.{AreBytes, first_bad, bad_line}
 use Rattle.esr_run.specs.Ends.{RunEnd, BadWords, Unreadable, BadScript, BadLine, OpenFault, Damaged, NoTerm, Carried}
 use Rattle.esr_run.specs.Start.{Telling, is_calm_by, start_of, LegalRun}
@@ -58,7 +58,7 @@ taken_calm before mid spent enough = go (nat_lt mid (2 ^ 41)) refl
 -- ---- from the opening on
 
 carried_status : (status : ℕ) (text : Bytes) (lines : List ScriptLine) (history : List Entry) → IsTold status text (Some (Carried lines history)) → (status ≡ 8) ⊎ (status ≡ status_of (ending lines history))
-carried_status status text lines history (inl wanting) = inl wanting
+carried_status status text lines history (inl wanting) = inl wanting.0
 carried_status status text lines history (inr told) = inr told.0
 
 pub opens_well : {S F H T : Type 0} (laws : Laws) (quiet_laws : QuietLaws S F H T) (count : Counts S F H T) (files : Telling) (size moment : ℕ) (lines : List ScriptLine) (quiet : Bool) (before mid after : Look) (k : Kept) (history : List Entry) (faults : List (Fault S F H T))
@@ -99,7 +99,7 @@ opens_well {S} {F} {H} {T} laws quiet_laws count files size moment lines quiet b
     same = start_is files size quiet before mid k o ∙ ap (λ (b : Bool). start_of files size b before world) yes_quiet
 
 wanting_told : (status : ℕ) (text : Bytes) → IsTold status text None → status ≡ 8
-wanting_told status text (inl wanting) = wanting
+wanting_told status text (inl wanting) = wanting.0
 wanting_told status text (inr told) = told.0
 
 -- a container that is refused
@@ -132,6 +132,7 @@ same_wanted (ReadScript size) script bytes a b told first second =
     (subst (λ (x : Bytes). script_of x ≡ Ok a) (bytes_one bytes script first.bytes told first.bytes_are) first.read)
     (subst (λ (x : Bytes). script_of x ≡ Ok b) (bytes_one bytes script second.bytes told second.bytes_are) second.read)
 same_wanted (OneCommand size item) script bytes a b told first second = first ∙ sym second
+same_wanted NoCommand script bytes a b told first second = absurd first
 same_wanted NoRun script bytes a b told first second = absurd first
 
 pub complete_opened : {S F H T : Type 0} (count : Counts S F H T) (given : Given) (files : Telling) (reader size : ℕ) (lines : List ScriptLine) (before after : Look) (old_out new_out : ℕ) (history : List Entry) (faults : List (Fault S F H T)) (status : ℕ)
@@ -159,12 +160,13 @@ not_stopped (ReadScript size) script bytes old new lines BadScript told is read 
     let same = sym first ∙ second in cc
 not_stopped (ReadScript size) script bytes old new lines (BadLine number) told is read stop =
     let first = subst (λ (x : Bytes). script_of x ≡ Ok lines) (bytes_one bytes script is.are.bytes told is.are.bytes_are) is.are.read in
-    let second = subst (λ (x : Bytes). bad_line (script_of x) ≡ Some number) (bytes_one bytes script stop.1.0 told stop.1.1) stop.1.2 in
+    let second = subst (λ (x : Bytes). bad_line (script_of x) ≡ Some number) (bytes_one bytes script stop.0 told stop.1) stop.2 in
     no_bad lines number is.good (sym (ap bad_line first) ∙ second)
 not_stopped (OneCommand size item) script bytes old new lines BadWords told is read stop = absurd cc
 not_stopped (OneCommand size item) script bytes old new lines Unreadable told is read stop = stop.0
 not_stopped (OneCommand size item) script bytes old new lines BadScript told is read stop = stop.0
-not_stopped (OneCommand size item) script bytes old new lines (BadLine number) told is read stop = stop.0
+not_stopped (OneCommand size item) script bytes old new lines (BadLine number) told is read stop = stop
+not_stopped NoCommand script bytes old new lines end told is read stop = is.are
 not_stopped NoRun script bytes old new lines end told is read stop = is.are
 not_stopped wanted script bytes old new lines OpenFault told is read stop = stop
 not_stopped wanted script bytes old new lines (Damaged name) told is read stop = stop

@@ -14,12 +14,14 @@ pub data Wanted : Type 0 where
   ReadScript : (size : ℕ) → Wanted
   -- this command alone, without a script
   OneCommand : (size : ℕ) (item : Item) → Wanted
-  -- nothing, or a command that is not there yet
+  -- a command that is not there yet
+  NoCommand : Wanted
+  -- nothing
   NoRun : Wanted
 
 abbrev pub wanted_by : JobWork → ℕ → Wanted
 wanted_by work.Run size = ReadScript size
-wanted_by (work.Single item) size = if is_carried item then OneCommand size item else NoRun
+wanted_by (work.Single item) size = if is_carried item then OneCommand size item else NoCommand
 wanted_by (work.Generate seed) size = NoRun
 
 -- what the words ask for, by the job that was read of them
@@ -31,12 +33,14 @@ wanted_of (Err refusal) = NoRun
 abbrev pub part_size_of : Wanted → Option ℕ
 part_size_of (ReadScript size) = Some size
 part_size_of (OneCommand size item) = Some size
+part_size_of NoCommand = None
 part_size_of NoRun = None
 
 -- a script is to be read
 abbrev pub AsksScript : Wanted → Type 0
 AsksScript (ReadScript size) = Unit {0}
 AsksScript (OneCommand size item) = ⊥
+AsksScript NoCommand = ⊥
 AsksScript NoRun = ⊥
 
 -- the script of a command alone: its line 1

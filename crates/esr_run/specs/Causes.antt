@@ -1,6 +1,6 @@
 -- Why a run ended as it did.
-use Rattle.std.specs.Prelude.{◌≡◌, ◌⊎◌, ℕ, zero, suc, ◌^◌, ◌≤◌, Bool, true, List, [], ◌++◌, Option, Some, None, Ok, Err}
-use Rattle.std.specs.Io.KnownBytes.{Appends}
+use Rattle.std.specs.Prelude.{◌≡◌, ◌⊎◌, ℕ, zero, suc, ◌^◌, ◌≤◌, Bool, true, List, [], ◌++◌, length, Option, Some, None, Ok, Err}
+use Rattle.std.specs.Io.KnownBytes.{Appends, Consumes}
 use Rattle.esr_model.specs.Values.{Bytes}
 use Rattle.esr_core.specs.World.{World, Opened}
 use Rattle.esr_core.specs.Entry.{Step, Entry}
@@ -22,12 +22,13 @@ use Rattle.esr_complete.specs.Lines.{steps_of}
 use Rattle.esr_desk.specs.declared.fault.Fault.{Fault}
 use Rattle.esr_run.specs.Counts.{Counts, AreShown}
 use Rattle.esr_desk.specs.Once.{AreOnce, NoneTwice}
-use Rattle.esr_run.specs.Asked.{Wanted, ReadScript, OneCommand, NoRun, AsksScript, wanted_of, part_size_of, single_script}
+use Rattle.esr_run.specs.Asked.{Wanted, ReadScript, OneCommand, NoCommand, NoRun, AsksScript, wanted_of, part_size_of, single_script}
 use Rattle.esr_run.specs.Script.{AreBytes, first_bad, bad_line}
 use Rattle.esr_run.specs.Ends.{RunEnd, BadWords, Unreadable, BadScript, BadLine, OpenFault, Damaged, NoTerm, Carried, text_of, exit_of, exit_at, text_at}
 use Rattle.esr_run.specs.Faults.{listed, fetch_of, HasFetch}
 use Rattle.esr_run.specs.Start.{Telling, formats_by, start_of, LegalRun}
 use Rattle.esr_run.specs.Images.{StaysKept, EveryImageKept, AnsweredStay}
+use Rattle.esr_run.specs.Made.{HasStopped, AreDone}
 use Rattle.esr_run.specs.Complete.{IsQuietFor, IsLastTerm, Completes}
 
 -- what a run is given
@@ -49,6 +50,7 @@ pub record AreRead (script : Option Bytes) (lines : List ScriptLine) : Type 0 wh
 abbrev pub AreWanted : Wanted → Option Bytes → List ScriptLine → Type 0
 AreWanted (ReadScript size) script lines = AreRead script lines
 AreWanted (OneCommand size item) script lines = lines ≡ single_script item
+AreWanted NoCommand script lines = ⊥
 AreWanted NoRun script lines = ⊥
 
 -- these lines are wanted, and each can be carried out
@@ -69,18 +71,32 @@ pub record IsUnread (old new : Option Bytes) (old_faults new_faults : ℕ) : Typ
   pub left : new ≡ old
   pub faults : new_faults ≡ old_faults
 
--- the reader of the script is read only where a script is wanted
+-- of the script so much was read: not more than one byte beyond what it may have
+pub record IsReadInPart (old new : Option Bytes) : Type 0 where
+  pub bytes : Bytes
+  pub took : Consumes old new bytes
+  pub few : length bytes ≤ 4194305
+
+-- the reader of the script is read only where a script is wanted, and no further than needed
 abbrev pub IsReadFor : Wanted → Option Bytes → Option Bytes → ℕ → ℕ → Type 0
-IsReadFor (ReadScript size) old new old_faults new_faults = Unit {0}
+IsReadFor (ReadScript size) old new old_faults new_faults = IsReadInPart old new
 IsReadFor (OneCommand size item) old new old_faults new_faults = IsUnread old new old_faults new_faults
+IsReadFor NoCommand old new old_faults new_faults = IsUnread old new old_faults new_faults
 IsReadFor NoRun old new old_faults new_faults = IsUnread old new old_faults new_faults
+
+-- the first bad line of the script has this number; or it is the one command, which is not there yet
+abbrev pub IsBadLine : Wanted → Option Bytes → ℕ → Type 0
+IsBadLine (ReadScript size) script number = (bytes : Bytes) × AreBytes script bytes × (bad_line (script_of bytes) ≡ Some number)
+IsBadLine (OneCommand size item) script number = ⊥
+IsBadLine NoCommand script number = number ≡ 1
+IsBadLine NoRun script number = ⊥
 
 -- Why nothing was begun, by what is wanted, the script, and the faults that its reader had and has.
 abbrev pub IsStoppedFor : Wanted → Option Bytes → ℕ → ℕ → RunEnd → Type 0
 IsStoppedFor wanted script old new BadWords = wanted ≡ NoRun
 IsStoppedFor wanted script old new Unreadable = AsksScript wanted × HasCause old new true
 IsStoppedFor wanted script old new BadScript = AsksScript wanted × ((bytes : Bytes) × AreBytes script bytes × (script_of bytes ≡ Err TooLong))
-IsStoppedFor wanted script old new (BadLine number) = AsksScript wanted × ((bytes : Bytes) × AreBytes script bytes × (bad_line (script_of bytes) ≡ Some number))
+IsStoppedFor wanted script old new (BadLine number) = IsBadLine wanted script number
 IsStoppedFor wanted script old new OpenFault = ⊥
 IsStoppedFor wanted script old new (Damaged name) = ⊥
 IsStoppedFor wanted script old new NoTerm = ⊥
@@ -132,6 +148,12 @@ pub record IsOpenedRun {S F H T : Type 0} (count : Counts S F H T) (files : Tell
   -- what was asked is what the lines ask for, in order, as far as they were carried out
   pub asked : (rest : List Step) × (asked_steps (log_of after clock history) ++ rest ≡ steps_of moment lines)
 
+-- Each line was carried out, the work of each wait was done when it ended, and at the end no unit is ready or out; or a step of a
+-- ticket, or a take, was refused, or all turns were taken.
+abbrev pub IsWorked : {S F H T : Type 0} (count : Counts S F H T) (files : Telling) (size moment : ℕ) (lines : List ScriptLine) (before after : Look) (history : List Entry) (faults : List (Fault S F H T)) → IsOpenedRun count files size moment lines before after history faults → Type 0
+IsWorked count files size moment lines before after history faults r =
+    AreDone (start_of files size r.quiet before r.world) moment lines [] (log_of after r.clock history) ⊎ HasStopped (log_of after r.clock history)
+
 -- with parts of the size for which the words ask
 pub record IsCarried {S F H T : Type 0} (count : Counts S F H T) (given : Given) (files : Telling) (before after : Look) (history : List Entry) (faults : List (Fault S F H T)) : Type 0 where
   pub size : ℕ
@@ -171,7 +193,8 @@ abbrev pub EndedUnopened : {S F H T : Type 0} → Counts S F H T → Look → Lo
 EndedUnopened count before after old_faults new_faults history faults end = (history ≡ []) × IsRefused count before after old_faults new_faults faults end
 
 abbrev pub IsCauseOf : {S F H T : Type 0} → Counts S F H T → Given → Telling → ℕ → Look → Look → ℕ → ℕ → List Entry → List (Fault S F H T) → RunEnd → Type 0
-IsCauseOf count given files reader before after old_faults new_faults history faults (Carried script entries) = (entries ≡ history) × ((c : IsCarried count given files before after history faults) × (c.lines ≡ script))
+IsCauseOf count given files reader before after old_faults new_faults history faults (Carried script entries) =
+    (entries ≡ history) × ((c : IsCarried count given files before after history faults) × (c.lines ≡ script) × IsWorked count files c.size given.moment c.lines before after history faults c.run)
 IsCauseOf count given files reader before after old_faults new_faults history faults OpenFault = AsksLines given × EndedUnopened count before after old_faults new_faults history faults OpenFault
 IsCauseOf count given files reader before after old_faults new_faults history faults (Damaged name) = AsksLines given × EndedUnopened count before after old_faults new_faults history faults (Damaged name)
 IsCauseOf count given files reader before after old_faults new_faults history faults NoTerm = AsksLines given × EndedUnopened count before after old_faults new_faults history faults NoTerm
@@ -210,9 +233,9 @@ pub record EndedAs (status : ℕ) (old new : Option Bytes) (old_faults new_fault
   pub cause : Cause end
   pub printed : IsPrinted status (exit_of end) (text_of end) old new old_faults new_faults
 
--- Memory was wanting, with status 8; or it ended in one of its ways.
+-- Memory was wanting, with status 8, and nothing was printed; or it ended in one of its ways.
 abbrev pub IsEndOf : ℕ → Option Bytes → Option Bytes → ℕ → ℕ → (RunEnd → Type 0) → Type 0
-IsEndOf status old new old_faults new_faults Cause = (status ≡ 8) ⊎ EndedAs status old new old_faults new_faults Cause
+IsEndOf status old new old_faults new_faults Cause = ((status ≡ 8) × Appends old new []) ⊎ EndedAs status old new old_faults new_faults Cause
 
 -- before it is printed
 pub record IsTextOf (status : ℕ) (text : Bytes) (Cause : RunEnd → Type 0) : Type 0 where
@@ -222,15 +245,16 @@ pub record IsTextOf (status : ℕ) (text : Bytes) (Cause : RunEnd → Type 0) : 
   pub cause : Cause end
 
 abbrev pub IsVerdict : ℕ → Bytes → (RunEnd → Type 0) → Type 0
-IsVerdict status text Cause = (status ≡ 8) ⊎ IsTextOf status text Cause
+IsVerdict status text Cause = ((status ≡ 8) × (text ≡ [])) ⊎ IsTextOf status text Cause
 
 -- by how the code says that it ended; None: memory was wanting
 abbrev pub IsTold : ℕ → Bytes → Option RunEnd → Type 0
-IsTold status text end = (status ≡ 8) ⊎ ((status ≡ exit_at end) × (text ≡ text_at end))
+IsTold status text end = ((status ≡ 8) × (text ≡ [])) ⊎ ((status ≡ exit_at end) × (text ≡ text_at end))
 
 -- the same as why a run ended so, from the opening of the container on
 abbrev pub IsOpenCause : {S F H T : Type 0} → Counts S F H T → Telling → ℕ → ℕ → Look → Look → ℕ → ℕ → List ScriptLine → List Entry → List (Fault S F H T) → RunEnd → Type 0
-IsOpenCause count files size moment before after old_faults new_faults lines history faults (Carried script entries) = (script ≡ lines) × (entries ≡ history) × IsOpenedRun count files size moment lines before after history faults
+IsOpenCause count files size moment before after old_faults new_faults lines history faults (Carried script entries) =
+    (script ≡ lines) × (entries ≡ history) × ((r : IsOpenedRun count files size moment lines before after history faults) × IsWorked count files size moment lines before after history faults r)
 IsOpenCause count files size moment before after old_faults new_faults lines history faults OpenFault = EndedUnopened count before after old_faults new_faults history faults OpenFault
 IsOpenCause count files size moment before after old_faults new_faults lines history faults (Damaged name) = EndedUnopened count before after old_faults new_faults history faults (Damaged name)
 IsOpenCause count files size moment before after old_faults new_faults lines history faults NoTerm = EndedUnopened count before after old_faults new_faults history faults NoTerm

@@ -1,5 +1,5 @@
 -- The history of a run, from what was told at its start to what the container has at its end.
-use Rattle.std.specs.Prelude.{◌≡◌, ℕ, Bool, true, false, ◌&&◌, not, nat_lt, ◌^◌, List, [], Option, Some, is_some, unwrap_or}
+use Rattle.std.specs.Prelude.{◌≡◌, ℕ, Bool, true, false, ◌&&◌, ◌||◌, not, nat_lt, ◌^◌, List, [], Option, Some, is_some, unwrap_or}
 use Rattle.esr_model.specs.Values.{Bytes, Formats}
 use Rattle.esr_core.specs.World.{World}
 use Rattle.esr_core.specs.World as core
@@ -19,9 +19,14 @@ pub record Telling : Type 0 where
   pub targets_quiet : Bool
   pub targets_told : Bool
 
--- whether they tell them, and which they are
+-- a place that isn't there has no files
+abbrev pub is_absent : Option Bool → Bool
+is_absent (Some false) = true
+is_absent there = false
+
+-- whether they tell the files, or that their place isn't there; and which they are
 abbrev pub known_by : Telling → Bytes → Bytes → ℕ → Bool
-known_by telling = λ place name number. is_some (telling.files place name number)
+known_by telling = λ place name number. is_some (telling.files place name number) || is_absent (telling.is_there place name number)
 
 abbrev pub told_by : Telling → Bytes → Bytes → ℕ → List (Bytes × Bytes)
 told_by telling = λ place name number. unwrap_or (telling.files place name number) []

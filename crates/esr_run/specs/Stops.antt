@@ -35,13 +35,13 @@ IsNoRun words stops.OpenFault = ⊥
 IsNoRun words (stops.Damaged name) = ⊥
 IsNoRun words stops.NoTerm = ⊥
 
--- the command is not there yet
+-- the command is not there yet: it is a bad line 1
 abbrev pub IsNoCommand : Item → Stop → Type 0
 IsNoCommand item stops.Memory = Unit {0}
-IsNoCommand item stops.BadWords = is_carried item ≡ false
+IsNoCommand item stops.BadWords = ⊥
 IsNoCommand item stops.Unreadable = ⊥
 IsNoCommand item stops.BadScript = ⊥
-IsNoCommand item (stops.BadLine number) = ⊥
+IsNoCommand item (stops.BadLine number) = (is_carried item ≡ false) × (number ≡ 1)
 IsNoCommand item stops.OpenFault = ⊥
 IsNoCommand item (stops.Damaged name) = ⊥
 IsNoCommand item stops.NoTerm = ⊥

@@ -2,7 +2,7 @@
 ghost use Rattle.std.specs.Prelude.{◌≡◌, ◌≤◌, ◌^◌, ℕ, true, Some, Ok, IfOk, IfErr};
 ghost use Rattle.esr_script.specs.Jobs.{job_of, IsOptions};
 ghost use Rattle.esr_run.specs.Asked.{ReadScript, wanted_of, part_size_of, single_script};
-ghost use Rattle.esr_run.specs.Causes.{Given, IsScript, IsScriptFor, IsReadFor};
+ghost use Rattle.esr_run.specs.Causes.{Given, IsScript, IsScriptFor, IsReadInPart, IsReadFor};
 ghost use Rattle.esr_run.specs.Script.{is_carried};
 ghost use Rattle.esr_run.specs.Stops.{IsNoRun, IsNoCommand, end_of, StoppedBy};
 
@@ -33,10 +33,11 @@ fn job_for(alloc: Global, words: &Words) -> Result<Job, Stop>
     }
 }
 
-/// The lines of the script, which is read to its end.
+/// The lines of the script, which is read to its end, unless it is too long.
 fn script_asked<I: Lines>(alloc: Global, part_size: u64, script: &mut I) -> Result<Asked, Stop>
     ensures size { IfOk result (λ a. a.part_size ≡ part_size) }
     ensures script { IfOk result (λ a. IsScriptFor (ReadScript part_size) (I.left script.old) a.script) }
+    ensures reader { IsReadInPart (I.left script.old) (I.left script.new) }
     ensures err { IfErr result (λ e. StoppedBy (ReadScript part_size) (I.left script.old) (I.faults script.old) (I.faults script.new) (end_of e)) }
 {
     let bytes = read_all(alloc, script)?;
@@ -63,7 +64,7 @@ fn command_asked(alloc: Global, part_size: u64, item: Item) -> Result<Asked, Sto
     ensures err { IfErr result (IsNoCommand item) }
 {
     if !is_carried(&item) {
-        return Err(Stop::BadWords);
+        return Err(Stop::BadLine { number: 1 });
     }
     let script = single_script(alloc, item)?;
     Ok(Asked { part_size, script })
@@ -86,7 +87,7 @@ fn asked_by<I: Lines>(alloc: Global, job: Job, script: &mut I) -> Result<Asked, 
     }
 }
 
-/// What the words ask for: the script, read to its end, or a command alone.
+/// What the words ask for: the lines of the script, or a command alone.
 pub(crate) fn asked_for<I: Lines>(
     alloc: Global,
     words: &Words,

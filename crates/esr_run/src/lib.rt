@@ -8,6 +8,7 @@ mod ended;
 mod fault;
 mod law;
 mod line;
+mod memory;
 mod read;
 mod stop;
 mod unopened;
@@ -15,4 +16,5 @@ mod verdict;
 mod whole;
 
 pub use ended::Ended;
+pub use memory::sources_in_memory_tell_all;
 pub use whole::run;

@@ -1,5 +1,5 @@
 //! How a run ended, and the printing of it.
-ghost use Rattle.std.specs.Prelude.{◌≡◌, true, not};
+ghost use Rattle.std.specs.Prelude.{◌≡◌, [], true, not};
 ghost use Rattle.std.specs.Io.KnownBytes.{Appends};
 ghost use Rattle.esr_depot.specs.Calls.{HasCause};
 ghost use Rattle.esr_desk.specs.Entries.{step_of};
@@ -26,7 +26,8 @@ pub(crate) struct Verdict {
 
 /// The verdict of a run for which there was no memory.
 pub(crate) fn wanting(alloc: Global) -> Verdict
-    ensures { result.status ≡ 8 }
+    ensures status { result.status ≡ 8 }
+    ensures text { result.text ≡ [] }
 {
     Verdict {
         status: 8,

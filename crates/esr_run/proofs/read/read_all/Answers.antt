@@ -1,28 +1,24 @@
-use Rattle.std.proofs.Common.{◌≡◌, ◌<◌, ◌++◌, ℕ, List, length, take, ap, ◌∙◌, sym, arith}
-use Rattle.esr_run.proofs.Reading.{took_more, read_end, kept_short, kept_next, buffer_after}
+use Rattle.std.proofs.Common.{◌≡◌, ◌+◌, ◌≤◌, ℕ, List, [], length, sym, arith}
+use Rattle.std.specs.Vec.{vec_len}
+use Rattle.std.proofs.lemmas.Bool.{eqb-true}
+use Rattle.esr_run.proofs.Reading.{nil_of, read_end, read_full, in_part_more}
 use Rattle.esr_run.proofs.read.read_all.Goals as goal
 
-pub returns-then-count-eq0-clause-kept : goal.returns-then-count-eq0-clause-kept
-returns-then-count-eq0-clause-kept g c =
-    let inv = c.loop.invariant in
-    let long : 0 < length c.read.new.buf = omega (arith, c.read.auto.buf, c.deref_mut.ensures.len, inv.buffer) in
-    read_end (g.I.Lines.left c.args.script.now) (g.I.Lines.left c.loop.script) (g.I.Lines.left c.read.new.self) inv.whole c.read.new.buf c.loop.kept c.in-Ok.count inv.took inv.kept c.in-Ok.ensures.bytes.0 c.if-count-eq0.true (c.in-Ok.ensures.bytes.1 c.if-count-eq0.true long)
+pub returns-then-is_empty-clause-kept : goal.returns-then-is_empty-clause-kept
+returns-then-is_empty-clause-kept g c =
+    let inv = c.loop-alloc.invariant in
+    let empty : vec_len c.in_ok-piece.piece ≡ 0 = eqb-true (vec_len c.in_ok-piece.piece) 0 (sym c.if-is_empty.ensures) in
+    let none : c.in_ok-piece.piece.items ≡ [] = nil_of c.in_ok-piece.piece.items (omega (arith, c.in_ok-piece.piece.ok, empty)) in
+    read_end (g.I.Lines.left c.args.script.now) (g.I.Lines.left c.loop-alloc.script) (g.I.Lines.left c.next_piece.new.script) c.loop-alloc.kept c.in_ok-piece.piece.items inv.took c.in_ok-piece.ensures.took none (c.in_ok-piece.ensures.end none) inv.few
 
-pub keep-requires : goal.keep-requires
-keep-requires g c = kept_short c.loop.kept c.loop.invariant.whole c.loop.invariant.kept
+pub returns-in_err-extend_from_slice-clause-part : goal.returns-in_err-extend_from_slice-clause-part
+returns-in_err-extend_from_slice-clause-part g c =
+    let inv = c.loop-alloc.invariant in
+    let few : length c.loop-alloc.kept + length c.in_ok-piece.piece.items ≤ 4194305 = omega (arith, inv.few, c.in_ok-piece.ensures.few, c.min-room.ensures, c.len-in-loop-alloc.ensures) in
+    in_part_more (g.I.Lines.left c.args.script.now) (g.I.Lines.left c.loop-alloc.script) (g.I.Lines.left c.next_piece.new.script) c.loop-alloc.kept c.in_ok-piece.piece.items inv.took c.in_ok-piece.ensures.took few
 
-pub loop-preserved : goal.loop-preserved
-loop-preserved g c =
-    let inv = c.loop.invariant in
-    let given : length c.deref_mut.result.now ≡ length c.loop.buf.items = ap length c.deref_mut.ensures.value in
-    let same : length c.read.new.buf ≡ length c.loop.buf.items = c.read.auto.buf ∙ given in
-    let size : c.loop.buf.len ≡ length c.loop.buf.items = sym c.deref_mut.ensures.len ∙ given in
-    let after = buffer_after c.loop.buf.len c.read.new.buf c.loop.buf.items same size in
-    let piece = ap (λ (l : List ℕ). take c.in-Ok.count l) (c.deref.ensures.value ∙ after) in
-    record {
-      buffer = ap length after ∙ same ∙ inv.buffer;
-      whole = inv.whole ++ take c.in-Ok.count c.read.new.buf;
-      took = took_more (g.I.Lines.left c.args.script.now) (g.I.Lines.left c.loop.script) (g.I.Lines.left c.read.new.self) inv.whole (take c.in-Ok.count c.read.new.buf) inv.took c.in-Ok.ensures.bytes.0;
-      kept = kept_next c.keep.new.kept c.loop.kept inv.whole (take c.in-Ok.count c.deref.result.now) (take c.in-Ok.count c.read.new.buf) c.in_ok-keep.ensures inv.kept piece;
-      later = omega (arith, inv.later, c.read.ensures.cause.later);
-    }
+pub returns-clause-kept : goal.returns-clause-kept
+returns-clause-kept g c =
+    let inv = c.loop-alloc.invariant in
+    let full : length c.loop-alloc.kept ≡ 4194305 = omega (arith, inv.few, c.len.ensures, c.loop-alloc-test.false) in
+    read_full (g.I.Lines.left c.args.script.now) (g.I.Lines.left c.loop-alloc.script) c.loop-alloc.kept inv.took full

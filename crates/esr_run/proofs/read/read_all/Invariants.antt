@@ -1,14 +1,14 @@
-use Rattle.std.proofs.Common.{◌≡◌, ◌≤◌, ℕ, List, length}
+use Rattle.std.proofs.Common.{◌≤◌, ◌-◌, length}
 use Rattle.std.specs.Io.KnownBytes.{Consumes}
-use Rattle.esr_run.specs.Script.{kept_of}
 use Rattle.esr_run.proofs.read.read_all.Given as goal
 
-abbrev pub invariant-loop : goal.invariant-loop
-invariant-loop g l =
+abbrev pub invariant-loop-alloc : goal.invariant-loop-alloc
+invariant-loop-alloc g l =
     record {
-      buffer : length l.buf.items ≡ 65536;
-      whole : List ℕ;
-      took : Consumes (g.I.Lines.left l.fn.script) (g.I.Lines.left l.script) whole;
-      kept : l.kept ≡ kept_of whole;
+      took : Consumes (g.I.Lines.left l.fn.script) (g.I.Lines.left l.script) l.kept;
+      few : length l.kept ≤ 4194305;
       later : g.I.Counted.faults l.fn.script ≤ g.I.Counted.faults l.script;
     }
+
+abbrev pub decreases-loop-alloc : goal.decreases-loop-alloc
+decreases-loop-alloc g l = 4194305 - length l.kept

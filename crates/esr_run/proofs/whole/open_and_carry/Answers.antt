@@ -31,10 +31,9 @@ returns-in-Ok-clause-run g c =
 pub returns-in-Ok-clause-told : goal.returns-in-Ok-clause-told
 returns-in-Ok-clause-told g c =
     let k : Kept = record { cluster = c.in-Ok.opening.cluster; root = c.in-Ok.opening.root; infos = c.in-Ok.opening.infos; plan = c.in-Ok.opening.progress; next = c.in-Ok.opening.next.number } in
-    verdict_opening c.run_told.result.0.verdict.status c.run_told.result.0.verdict.text (record { stage = g.D.Stage.Counted.faults; fetch = g.D.Fetch.Counted.faults; shard = g.S.Shard.Counted.faults; target = g.T.Target.Counted.faults; made_for = λ h. (g.S.Shard.Shard.origin h).address; target_for = g.T.Target.Target.made_for; held = g.T.Target.Target.files; is_sure = g.T.Target.Target.is_sure }) (record { files = g.S.Sources.files c.args.sources.now; is_there = g.S.Sources.is_there c.args.sources.now; is_quiet = g.S.Sources.is_quiet c.args.sources.now; targets_quiet = g.T.Targets.is_quiet c.args.targets.now; targets_told = g.T.Targets.is_told c.args.targets.now }) c.args.asked.now.part_size c.args.moment (g.D.Depot.look c.args.depot) (g.D.Depot.look c.run_told.result.0.depot) (g.D.Counted.faults c.args.depot) (g.D.Counted.faults c.run_told.result.0.depot)
-    c.args.asked.now.script c.run_told.result.0.history c.run_told.result.1 c.run_told.ensures.told
-    (opened_run c.laws.ensures _ (record { files = g.S.Sources.files c.args.sources.now; is_there = g.S.Sources.is_there c.args.sources.now; is_quiet = g.S.Sources.is_quiet c.args.sources.now; targets_quiet = g.T.Targets.is_quiet c.args.targets.now; targets_told = g.T.Targets.is_told c.args.targets.now }) c.args.asked.now.part_size c.args.moment c.args.asked.now.script (is_calm_by (g.D.Depot.look c.in-Ok.opening.depot).sure) (g.D.Depot.look c.args.depot) (g.D.Depot.look c.in-Ok.opening.depot) (g.D.Depot.look c.run_told.result.0.depot) k c.run_told.result.0.history c.run_told.result.1
-    c.in-Ok.ensures.opened (taken_calm (g.D.Depot.look c.args.depot).sure (g.D.Depot.look c.in-Ok.opening.depot).sure c.in-Ok.ensures.spent) c.run_told.ensures.legal c.run_told.ensures.past c.run_told.ensures.shown c.run_told.ensures.once c.run_told.ensures.single c.run_told.ensures.calm c.run_told.ensures.made)
+    verdict_opening c.laws.ensures _ (record { files = g.S.Sources.files c.args.sources.now; is_there = g.S.Sources.is_there c.args.sources.now; is_quiet = g.S.Sources.is_quiet c.args.sources.now; targets_quiet = g.T.Targets.is_quiet c.args.targets.now; targets_told = g.T.Targets.is_told c.args.targets.now }) c.args.asked.now.part_size c.args.moment c.args.asked.now.script (is_calm_by (g.D.Depot.look c.in-Ok.opening.depot).sure) (g.D.Depot.look c.args.depot) (g.D.Depot.look c.in-Ok.opening.depot) (g.D.Depot.look c.run_told.result.0.depot) k c.run_told.result.0.history c.run_told.result.1
+    (g.D.Counted.faults c.args.depot) (g.D.Counted.faults c.run_told.result.0.depot) c.run_told.result.0.verdict.status c.run_told.result.0.verdict.text c.in-Ok.ensures.opened (taken_calm (g.D.Depot.look c.args.depot).sure (g.D.Depot.look c.in-Ok.opening.depot).sure c.in-Ok.ensures.spent)
+    c.run_told.ensures.legal c.run_told.ensures.past c.run_told.ensures.shown c.run_told.ensures.once c.run_told.ensures.single c.run_told.ensures.calm c.run_told.ensures.made c.run_told.ensures.told c.run_told.ensures.done
 
 pub returns-in-Err-clause-run : goal.returns-in-Err-clause-run
 returns-in-Err-clause-run g c =
