@@ -9,6 +9,7 @@ use esr_seq::{Seq, Text};
 use esr_source::{NoGate, StdLines, StdOut};
 use std::alloc::AllocError;
 use std::env;
+use std::io::ErrorKind;
 use std::process::ExitCode;
 use std::rt::Clock;
 use std::sync::Wait;
@@ -28,12 +29,14 @@ fn moment_of(clock: &impl Clock) -> u64 {
     }
 }
 
-/// The words of the command line, without the program's name.
+/// The words of the command line, without the program's name. Where one is no text there are none, which ask for nothing.
 fn words_of(rt: &HostRuntime) -> Result<Words, AllocError> {
-    let Ok(args) = env::args(rt) else {
-        return Err(AllocError);
-    };
     let mut words = Seq::new(rt.alloc());
+    let args = match env::args(rt) {
+        Ok(args) => args,
+        Err(error) if error.kind() == ErrorKind::OutOfMemory => return Err(AllocError),
+        Err(_) => return Ok(words),
+    };
     for word in args.skip(1) {
         words.push(Text::from_string(word))?;
     }

@@ -50,6 +50,21 @@ fn is_fault(entry: &Entry) -> bool {
 }
 
 #[test]
+fn an_ask_that_fails(rt: HostRuntime) -> Result<(), Fail> {
+    let alloc = rt.alloc();
+    let failing = Failing {
+        call: Call::SwapRecord,
+        nth: 2,
+        leaves: Leaves::Old,
+    };
+    let (left, out) = run_with(&rt, alloc, SCRIPT, failing)?;
+    let printed = "1 snapshot s1 failed depot\n2 wait deposed\n3 list deposed\ndeposed\n";
+    assert_eq!(rt; out.as_slice(), printed.as_bytes());
+    assert_eq!(rt; left.status, 3);
+    Ok(())
+}
+
+#[test]
 fn a_settle_that_fails(rt: HostRuntime) -> Result<(), Fail> {
     let alloc = rt.alloc();
     let cases = [

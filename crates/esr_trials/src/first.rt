@@ -1,5 +1,5 @@
 //! The first path, and runs that touch nothing.
-use crate::setting::{Left, RECORD, ROOT, SCRIPT, has_record, holds, run_over, sources_of};
+use crate::setting::{Left, RECORD, ROOT, SCRIPT, has_record, holds, run_on, run_over, sources_of};
 use esr_depot::{CallError, Depot};
 use esr_memdepot::MemDepot;
 use esr_seq::Seq;
@@ -74,12 +74,31 @@ fn a_snapshot_is_made_and_listed(rt: HostRuntime) -> Result<(), Fail> {
     Ok(())
 }
 
+/// The root after two snapshots of one shard.
+const SECOND_ROOT: &str =
+    r#"{"indices":{"logs":{"id":"AAAAAAAAAAEAAAAAAAAAAQ","shard_generations":["AAAAAAAAAAEAAAAAAAAABQ"],"snapshots":["AAAAAAAAAAEAAAAAAAAAAA","AAAAAAAAAAEAAAAAAAAABA"]}},"snapshots":[{"name":"s1","state":1,"uuid":"AAAAAAAAAAEAAAAAAAAAAA"},{"name":"s2","state":1,"uuid":"AAAAAAAAAAEAAAAAAAAABA"}]}"#;
+
+// Six blobs more than one snapshot leaves: metadata of two kinds, a snapshot and an index of the shard, an info and a root.
+#[test]
+fn a_second_snapshot_stores_no_file_again(rt: HostRuntime) -> Result<(), Fail> {
+    let alloc = rt.alloc();
+    let depot = MemDepot::new(alloc, Seq::new(alloc));
+    let script = "snapshot s1 logs/1/src\nwait\nsnapshot s2 logs/1/src\n";
+    let (mut ended, out) = run_on(&rt, alloc, depot, script)?;
+    let report =
+        "1 snapshot s1 ok AAAAAAAAAAEAAAAAAAAAAA\n2 wait\n3 snapshot s2 ok AAAAAAAAAAEAAAAAAAAABA\n";
+    assert_eq!(rt; out.as_slice(), report.as_bytes());
+    assert!(rt; holds(alloc, &mut ended.depot, "index-1", SECOND_ROOT)?);
+    assert_eq!(rt; ended.depot.list(alloc)?.len(), 14);
+    Ok(())
+}
+
 #[test]
 fn bad_words_and_bad_lines_touch_nothing(rt: HostRuntime) -> Result<(), Fail> {
     let alloc = rt.alloc();
     let cases = [
         ("walk", SCRIPT, "bad words\n"),
-        ("check", SCRIPT, "bad words\n"),
+        ("check", SCRIPT, "bad line 1\n"),
         ("wait", SCRIPT, "bad words\n"),
         ("run", "wait\nwalk\n", "bad line 2\n"),
         ("run", "\nwait\ncleanup\n", "bad line 3\n"),

@@ -134,3 +134,19 @@ fn each_write_of_the_output_fails(rt: HostRuntime) -> Result<(), Fail> {
     assert_eq!(rt; out.as_slice(), REPORT.as_bytes());
     Ok(())
 }
+
+// 64 pieces of 65,536 bytes and one byte are read; a read after that would fail.
+#[test]
+fn a_script_that_is_too_long_is_not_read_to_its_end(rt: HostRuntime) -> Result<(), Fail> {
+    let alloc = rt.alloc();
+    let mut script = String::new(alloc);
+    for _ in 0..131_073 {
+        script.push_str("                                ")?;
+    }
+    let mut out = MemOut::new(alloc, 1000, Seq::new(alloc))?;
+    let reads = nth_fails(alloc, Call::Read, 66)?;
+    let left = run_with(&rt, alloc, script.as_str(), reads, &mut out)?;
+    assert_eq!(rt; out.as_slice(), b"bad script\n".as_slice());
+    assert_eq!(rt; left.status, 2);
+    Ok(())
+}
