@@ -1,5 +1,5 @@
 -- What shows why a verification failed.
-use Rattle.std.specs.Prelude.{◌≡◌, ◌⊎◌, ℕ, true, List, ◌∷◌, ◌++◌, length, Some}
+use Rattle.std.specs.Prelude.{◌≡◌, ◌⊎◌, ◌≤◌, ◌^◌, ℕ, true, List, ◌∷◌, ◌++◌, length, Some}
 use Rattle.esr_model.specs.Names.{BlobName}
 use Rattle.esr_model.specs.Values.{Bytes, Has}
 use Rattle.esr_core.specs.World.{Caller}
@@ -53,7 +53,7 @@ pub record IsAbsent (log : List Moment) (c : Caller) (name : BlobName) : Type 0 
   pub unremoved : Has c.removed name → ⊥
   pub missing : HadReply log c (ReadStep (ReadBlob name)) WasAbsent
 
--- what was read of a test blob isn't the text of its id
+-- what was read of a test blob isn't the text of its id, though it has its print, or is too much to have one
 pub record IsOther (s : Start) (c : Caller) (name : BlobName) : Type 0 where
   pub id : ℕ
   pub drawn : c.drawn ≡ Some id
@@ -61,6 +61,7 @@ pub record IsOther (s : Start) (c : Caller) (name : BlobName) : Type 0 where
   pub bytes : Bytes
   pub read : s.tells ≡ true → WasRead c.read name bytes
   pub differ : bytes ≡ id_text id → ⊥
+  pub unprinted : (2 ^ 61 ≤ length bytes) ⊎ ((length (id_text id) ≡ length bytes) × ((formats_of s).digest (id_text id) ≡ (formats_of s).digest bytes))
 
 -- a test blob is absent, or holds something else
 abbrev pub IsDamaged : Start → List Moment → Caller → BlobName → Type 0

@@ -1,5 +1,5 @@
 -- Test blobs that are absent, or hold something else than the text of their id.
-use Rattle.std.proofs.Common.{◌≡◌, ◌⊎◌, inl, inr, ℕ, Bool, true, false, List, [], ◌∷◌, Option, Some, None, Result, Ok, Err, IfErr, refl, sym, ap, ◌∙◌, subst}
+use Rattle.std.proofs.Common.{◌≡◌, ◌⊎◌, ◌≤◌, ◌^◌, length, inl, inr, ℕ, Bool, true, false, List, [], ◌∷◌, Option, Some, None, Result, Ok, Err, IfErr, refl, sym, ap, ◌∙◌, subst}
 use Rattle.std.specs.Prelude.{if◌then◌else◌}
 use Rattle.esr_names.specs.declared.blob.BlobName.{BlobName as CodeName}
 use Rattle.esr_names.specs.IdText.{id_text}
@@ -104,8 +104,18 @@ module _ (s : Start) (old new : List Moment) (id : ℕ) (name : BlobName) (bytes
     differ = λ len digest. differ (same_print (print_of (id_text id)) (print_of bytes) len digest);
   }
 
-  pub other : (bytes ≡ id_text id → ⊥) → IsOther s (caller_of s new) name
-  other differ = record { id = id; drawn = drew.is_open; committed = still_committed; bytes = bytes; read = read_so; differ = differ }
+  pub other : (bytes ≡ id_text id → ⊥) → (2 ^ 61 ≤ length bytes) ⊎ (print_of (id_text id) ≡ print_of bytes) → IsOther s (caller_of s new) name
+  unfolding formats
+  other differ (inl many) = record { id = id; drawn = drew.is_open; committed = still_committed; bytes = bytes; read = read_so; differ = differ; unprinted = inl many }
+  other differ (inr same) = record {
+    id = id;
+    drawn = drew.is_open;
+    committed = still_committed;
+    bytes = bytes;
+    read = read_so;
+    differ = differ;
+    unprinted = inr (ap (λ (p : Print). p.len) same, ap (λ (p : Print). p.sha256) same);
+  }
 
 pub wanting : (s : Start) (log : List Moment) (refusal : StepRefusal) → refusal ≡ Memory → IsStepRefusal s log refusal
 wanting s log refusal is = subst (λ (r : StepRefusal). IsStepRefusal s log r) (sym is) (tt, tt)
@@ -114,7 +124,7 @@ judged_why : (s : Start) (old new : List Moment) (id : ℕ) (name : CodeName) (b
     → (why : Why) → HasOtherPrint id name bytes why ⊎ IsNoText id name bytes why → IsFound s new why
 judged_why s old new id name bytes drew committed got why (inl h) = subst (λ (w : Why). IsFound s new w) (sym h.0) (misprinted s old new id (name_of name) bytes drew committed got h.1)
 judged_why s old new id name bytes drew committed got why (inr h) =
-    let found : IsDamaged s new (caller_of s new) (name_of name) = inr (other s old new id (name_of name) bytes drew committed got h.1) in
+    let found : IsDamaged s new (caller_of s new) (name_of name) = inr (other s old new id (name_of name) bytes drew committed got h.1 h.2) in
     subst (λ (w : Why). IsFound s new w) (sym h.0) found
 
 judged_one : {S F : Type 0} (stage_faults : S → ℕ) (fetch_faults : F → ℕ) (s : Start) (old new : List Moment) (id : ℕ) (name : CodeName) (bytes : Bytes) → Drew s new id → Has (caller_of s old).committed (name_of name) → Fetched s old new (name_of name) bytes
