@@ -1,20 +1,23 @@
 -- What who 0 has done of a verification, after a history, and what its steps make of that.
-use Rattle.std.specs.Prelude.{List, ◌∷◌, Option, Some, None, Result, Ok, Err}
+use Rattle.std.specs.Prelude.{true, List, ◌∷◌, Option, Some, None, Result, Ok, Err}
 use Rattle.esr_model.specs.Names.{BlobName}
 use Rattle.esr_model.specs.Values.{Bytes}
 use Rattle.esr_core.specs.World.{Caller}
 use Rattle.esr_core.specs.Entry.{Moment}
 use Rattle.esr_core.specs.After.{caller_told}
 use Rattle.esr_names.specs.declared.ids.Id.{Id}
+use Rattle.esr_desk.specs.declared.refusal.EntryRefusal.TheVariants as refusals
 use Rattle.esr_desk.specs.declared.refusal.StepRefusal.{StepRefusal}
+use Rattle.esr_desk.specs.declared.refusal.StepRefusal.TheVariants as steps
 use Rattle.esr_desk.specs.Start.{Start, world_of}
 
 abbrev pub caller_of : Start → List Moment → Caller
 caller_of s log = (world_of s log).caller
 
--- an id was drawn, or none was
+-- an id was drawn, or there was none left
 abbrev pub drawn_by : Result Id StepRefusal → Caller → Caller
 drawn_by (Ok id) c = record c { drawn = Some id.number }
+drawn_by (Err (steps.Refused (refusals.IdsSpent next))) c = record c { spent = true }
 drawn_by (Err e) c = c
 
 -- a blob was fetched: what is told of it is noted

@@ -1,5 +1,5 @@
 -- What a step of a verification needs, by what who 0 has done.
-use Rattle.std.specs.Prelude.{◌≡◌, ℕ, ◌≤◌, List, length, Option, Some, None}
+use Rattle.std.specs.Prelude.{◌≡◌, ◌⊎◌, ℕ, ◌≤◌, true, false, List, length, Option, Some, None}
 use Rattle.esr_model.specs.Names.{BlobName}
 use Rattle.esr_model.specs.Values.{Bytes, Has}
 use Rattle.esr_core.specs.World.{Caller}
@@ -7,6 +7,15 @@ use Rattle.esr_core.specs.Restores.{IsTestOf}
 use Rattle.esr_names.specs.IdText.{id_text}
 use Rattle.esr_desk.specs.Start.{Start}
 use Rattle.esr_desk.specs.Conditions.{Holds}
+
+-- no verification is open, so that one may begin
+pub record CanDraw (c : Caller) : Type 0 where
+  pub undrawn : c.drawn ≡ None
+  pub unspent : c.spent ≡ false
+
+-- a verification is open, with an id, or without one, as there was none left
+abbrev pub IsOpen : Caller → Type 0
+IsOpen c = (c.drawn ≡ None → ⊥) ⊎ (c.spent ≡ true)
 
 -- the name is that of a test blob under the id that was drawn
 pub record IsOwn (c : Caller) (name : BlobName) : Type 0 where

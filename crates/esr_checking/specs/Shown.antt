@@ -4,7 +4,7 @@ use Rattle.esr_model.specs.Names.{BlobName}
 use Rattle.esr_model.specs.Values.{Bytes, Has}
 use Rattle.esr_core.specs.World.{Caller}
 use Rattle.esr_core.specs.Restores.{WasRead}
-use Rattle.esr_core.specs.Entry.{Why, OfDepot, OfSource, OfChange, OfDamage, OfTaken, OfIdsSpent, OfGenerationsSpent, OfTarget, OfPrint, OfDisagreement, Step, ReadStep, ReadBlob, DrawTest, DrawnFrom, WasAbsent, Reply, Refused, DepotFault, NameTaken, Moment}
+use Rattle.esr_core.specs.Entry.{Why, OfDepot, OfSource, OfChange, OfDamage, OfTaken, OfIdsSpent, OfGenerationsSpent, OfTarget, OfPrint, OfDisagreement, Step, ReadStep, ReadBlob, DrawTest, DrawnFrom, WasAbsent, Reply, Refused, DepotFault, IdsSpent, NameTaken, Moment}
 use Rattle.esr_names.specs.IdText.{id_text}
 use Rattle.esr_desk.specs.declared.fault.FailedObject.TheVariants as objects
 use Rattle.esr_desk.specs.declared.fault.By.{By}
@@ -33,6 +33,17 @@ pub record HadReply (log : List Moment) (c : Caller) (step : Step) (reply : Repl
   pub of : moment.entry.who ≡ 0
   pub step_is : moment.entry.step ≡ step
   pub reply_is : moment.entry.reply ≡ reply
+
+-- who 0 was to draw an id, and there was none left
+pub record HadNoId (log : List Moment) (c : Caller) (next : ℕ) : Type 0 where
+  pub front : List Moment
+  pub draw : Moment
+  pub back : List Moment
+  pub is : log ≡ front ++ draw ∷ back
+  pub drawer : draw.entry.who ≡ 0
+  pub drew : draw.entry.step ≡ ReadStep DrawTest
+  pub refused : draw.entry.reply ≡ Refused (IdsSpent next)
+  pub is_open : c.spent ≡ true
 
 -- the container failed in a step of the verification
 abbrev pub HadFault : List Moment → Caller → Type 0
@@ -86,10 +97,10 @@ IsShown c s log caller OfDepot b = DepotShown c s log caller b
 IsShown c s log caller (OfDamage name) b = ReadShown b (IsDamaged s log caller name)
 IsShown c s log caller (OfPrint name stated_len stated_digest found_len found_digest) b = ReadShown b (IsMisprinted s caller name stated_len stated_digest found_len found_digest)
 IsShown c s log caller (OfTaken name) b = StepShown b ((step : Step) × HadReply log caller step (Refused (NameTaken name)))
--- these are of snapshots, restores and checks; ids are spent only where none was drawn
+IsShown c s log caller (OfIdsSpent next) b = StepShown b (HadNoId log caller next)
+-- these are of snapshots, restores and checks
 IsShown c s log caller OfSource b = ⊥
 IsShown c s log caller (OfChange first_len first_digest second_len second_digest) b = ⊥
-IsShown c s log caller (OfIdsSpent next) b = ⊥
 IsShown c s log caller (OfGenerationsSpent pending) b = ⊥
 IsShown c s log caller OfTarget b = ⊥
 IsShown c s log caller (OfDisagreement name other) b = ⊥

@@ -9,7 +9,8 @@ ghost use Rattle.esr_desk.specs.Entries.{why_of};
 ghost use Rattle.esr_desk.specs.Outcome.{Outcome, fetch_reply};
 ghost use Rattle.esr_desk.specs.Conditions.{Holds};
 ghost use Rattle.esr_checking.specs.Caller.{caller_of, drawn_by, fetched_by};
-ghost use Rattle.esr_checking.specs.Conditions.{IsOwn, HoldsText, CanCommit, CanFetch, CanRemove, CanEnd};
+ghost use Rattle.esr_core.specs.After.{caller_wrote};
+ghost use Rattle.esr_checking.specs.Conditions.{CanDraw, IsOpen, IsOwn, HoldsText, CanCommit, CanFetch, CanRemove, CanEnd};
 ghost use Rattle.esr_checking.specs.Shown.{IsShown};
 
 use esr_depot::{Fetch, Stage};
@@ -24,7 +25,7 @@ pub trait VerifyDesk: Desk {
     /// Draws the id of the test blobs, which begins a verification.
     fn draw_test(&mut self, alloc: Global) -> Result<Id, StepRefusal>
         requires alone { Self.start.alone ≡ true }
-        requires idle { (caller_of Self.start (Self.seen self.old)).drawn ≡ None }
+        requires may { CanDraw (caller_of Self.start (Self.seen self.old)) }
         ensures step { Outcome Self.start (Self.seen self.old) (Self.seen self.new) 0 (ReadStep DrawTest) (λ id. DrawnFrom id.number) result }
         ensures own { caller_of Self.start (Self.seen self.new) ≡ drawn_by result (caller_of Self.start (Self.seen self.old)) }
         ensures range { IfOk result (λ id. id.number < 2 ^ 128) };
@@ -61,7 +62,7 @@ pub trait VerifyDesk: Desk {
         requires may { CanCommit (caller_of Self.start (Self.seen self.old)) (name_of name) }
         ensures step { Outcome Self.start (Self.seen self.old) (Self.seen self.new) 0 (ReadStep (CommitTest (name_of name))) (λ _. WasDone) result }
         ensures own { OnOk result (caller_of Self.start (Self.seen self.new)
-            ≡ record (caller_of Self.start (Self.seen self.old)) { committed = name_of name ∷ (caller_of Self.start (Self.seen self.old)).committed }) }
+            ≡ caller_wrote (caller_of Self.start (Self.seen self.old)) (name_of name) (Self.Stage.contents stage)) }
         ensures kept { OnErr result (caller_of Self.start (Self.seen self.new) ≡ caller_of Self.start (Self.seen self.old)) };
 
     /// The test blob of that name, to be read from its first byte, or `None` where there is none.
@@ -107,7 +108,7 @@ pub trait VerifyDesk: Desk {
         by: By<Self::Stage, Self::Fetch, Self::Shard, Self::Target>,
     ) -> Result<(), StepRefusal>
         requires alone { Self.start.alone ≡ true }
-        requires open { (caller_of Self.start (Self.seen self.old)).drawn ≡ None → ⊥ }
+        requires open { IsOpen (caller_of Self.start (Self.seen self.old)) }
         requires shown { IsShown (record { stage = Self.Stage.faults; fetch = Self.Fetch.faults }) Self.start (Self.seen self.old)
             (caller_of Self.start (Self.seen self.old)) (why_of why) by }
         ensures step { Outcome Self.start (Self.seen self.old) (Self.seen self.new) 0 (ReadStep (ReadFails (why_of why))) (λ _. HasEnded) result }

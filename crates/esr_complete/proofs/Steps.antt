@@ -196,7 +196,7 @@ module _ (f : Formats) (size : ℕ) (w : World) (es : List Entry) (h : FollowsIn
   verifies read reply image (CommittingTest name bytes im own new adds) calm = stays (told 0 (ReadStep (CommitTest name)) WasDone) tt tt
   verifies read reply image (RemovingTests names im may left) calm = stays (told 0 (ReadStep (RemoveTests names)) WasRemoved) tt tt
   verifies read reply image (VerifyingAll im done same) calm = stays (told 0 (ReadStep VerifiedAll) HasEnded) tt tt
-  verifies read reply image (VerifyFailing why id im drawn same) calm = stays (told 0 (ReadStep (ReadFails why)) HasEnded) tt tt
+  verifies read reply image (VerifyFailing why im begun same) calm = stays (told 0 (ReadStep (ReadFails why)) HasEnded) tt tt
   verifies read reply image other calm = absurd calm
 
   -- ---- each answer

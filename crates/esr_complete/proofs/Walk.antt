@@ -1,12 +1,13 @@
 -- The replies along the lines.
-use Rattle.std.proofs.Common.{◌≡◌, ℕ, Bool, true, false, true≢false, ◌&&◌, ◌||◌, not, if◌then◌else◌, ◌==◌, List, [], ◌∷◌, ◌++◌, Option, Some, None, map, option_map, refl, sym, ap, ◌∙◌, subst, inl, inr}
+use Rattle.std.proofs.Common.{◌≡◌, ℕ, Bool, true, false, true≢false, ◌&&◌, ◌||◌, if◌then◌else◌, ◌==◌, List, [], ◌∷◌, ◌++◌, Option, Some, None, map, option_map, refl, sym, ap, ◌∙◌, subst, inl, inr}
 use Rattle.esr_model.specs.Values.{Has}
-use Rattle.esr_core.specs.Entry.{Restore, Step, AskStep, TakeStep, LookStep, Entry, Moment}
+use Rattle.esr_core.specs.Entry as entry
+use Rattle.esr_core.specs.Entry.{Restore, Read, Step, AskStep, TakeStep, LookStep, ReadStep, Entry, Moment}
 use Rattle.esr_script.specs.declared.item.Item.{Item}
 use Rattle.esr_script.specs.declared.item.Item.TheVariants as items
 use Rattle.esr_script.specs.declared.item.ScriptLine.{ScriptLine}
-use Rattle.esr_report.specs.Replies.{Reply, fails_swap, answer_at, is_line_step, is_of_line, from_line, falls_before, falls_first, line_reply, wait_reply, is_wait, and_more, replies_from, replies}
-use Rattle.esr_quiet.specs.Asked.{is_take, is_asked, asked_steps}
+use Rattle.esr_report.specs.Replies.{Reply, fails_swap, answer_at, is_line_read, is_line_step, is_of_line, from_line, falls_before, falls_first, line_reply, wait_reply, is_wait, and_more, replies_from, replies}
+use Rattle.esr_quiet.specs.Asked.{is_line_ask, is_asked, asked_steps}
 use Rattle.esr_complete.specs.Lines.{index_of_line, command_of_line, steps_of_item, steps_of, IsKnown, AreKnown, entries_of}
 use Rattle.esr_complete.specs.Answers.{IsAnswer, AreAnswered}
 use Rattle.esr_complete.proofs.Facts.{IsAnswerOf, Fact}
@@ -21,15 +22,17 @@ asked_same : (log : List Moment) → steps_asked (entries_of log) ≡ asked_step
 asked_same [] = refl
 asked_same (m ∷ log) = ap (λ (steps : List Step). if is_asked m.entry then m.entry.step ∷ steps else steps) (asked_same log)
 
--- a step that takes no unit belongs to a line where it is one of a line
-asked_line : (here : Bool) (step : Step) → (here && not (is_take step)) ≡ true → is_line_step step ≡ true → (here && is_line_step step) ≡ true
-asked_line true step asked line = line
-asked_line false step asked line = asked
+-- a step that is asked for belongs to a line where it is one of a line
+asked_line : (here : Bool) (step : Step) (reply : entry.Reply) → (here && is_line_ask step) ≡ true → is_line_step step reply ≡ true → (here && is_line_step step reply) ≡ true
+asked_line true step reply asked line = line
+asked_line false step reply asked line = asked
 
-other_line : (here : Bool) (step : Step) → (here && not (is_take step)) ≡ false → (here && is_line_step step) ≡ false
-other_line false step other = refl
-other_line true TakeStep other = refl
-other_line true step other = absurd (true≢false other)
+-- one that isn't belongs to none, where no check or verification ended
+other_line : (here : Bool) (step : Step) (reply : entry.Reply) → (here && is_line_ask step) ≡ false → ((read : Read) → here ≡ true → step ≡ ReadStep read → is_line_read read reply ≡ false) → (here && is_line_step step reply) ≡ false
+other_line false step reply other aside = refl
+other_line true TakeStep reply other aside = refl
+other_line true (ReadStep read) reply other aside = aside read refl refl
+other_line true step reply other aside = absurd (true≢false other)
 
 -- ---- the next entry of a line
 
@@ -48,11 +51,11 @@ no_step step more e = cc
 heads : (a b : Step) (xs ys : List Step) → a ∷ xs ≡ b ∷ ys → (a ≡ b) × (xs ≡ ys)
 heads a b xs ys e = (cc, cc)
 
-next_by : (all : List Entry) (x : Entry) (rest : List Entry) (step : Step) (more : List Step) → ((y : Entry) → Has (x ∷ rest) y → Fact all y) → is_line_step step ≡ true → steps_asked (x ∷ rest) ≡ step ∷ more
+next_by : (all : List Entry) (x : Entry) (rest : List Entry) (step : Step) (more : List Step) → ((y : Entry) → Has (x ∷ rest) y → Fact all y) → ((reply : entry.Reply) → is_line_step step reply ≡ true) → steps_asked (x ∷ rest) ≡ step ∷ more
     → (steps_asked rest ≡ step ∷ more → Next all rest step more) → (b : Bool) → is_asked x ≡ b → Next all (x ∷ rest) step more
 next_by all x rest step more facts line e on true b =
     let both = heads x.step step (steps_asked rest) more (sym (ap (λ (c : Bool). if c then x.step ∷ steps_asked rest else steps_asked rest) b) ∙ e) in
-    let mine : is_of_line x ≡ true = asked_line (x.who == 0) x.step b (ap is_line_step both.0 ∙ line) in
+    let mine : is_of_line x ≡ true = asked_line (x.who == 0) x.step x.reply b (ap (λ (s : Step). is_line_step s x.reply) both.0 ∙ line x.reply) in
     record {
       e = x;
       es = rest;
@@ -63,7 +66,7 @@ next_by all x rest step more facts line e on true b =
       facts = λ y has. facts y (inr has);
     }
 next_by all x rest step more facts line e on false b =
-    let other : is_of_line x ≡ false = other_line (x.who == 0) x.step b in
+    let other : is_of_line x ≡ false = other_line (x.who == 0) x.step x.reply b (facts x (inl refl)).aside in
     let n = on (sym (ap (λ (c : Bool). if c then x.step ∷ steps_asked rest else steps_asked rest) b) ∙ e) in
     record {
       e = n.e;
@@ -75,7 +78,7 @@ next_by all x rest step more facts line e on false b =
       facts = n.facts;
     }
 
-next_line : (all rest : List Entry) (step : Step) (more : List Step) → ((x : Entry) → Has rest x → Fact all x) → is_line_step step ≡ true → steps_asked rest ≡ step ∷ more → Next all rest step more
+next_line : (all rest : List Entry) (step : Step) (more : List Step) → ((x : Entry) → Has rest x → Fact all x) → ((reply : entry.Reply) → is_line_step step reply ≡ true) → steps_asked rest ≡ step ∷ more → Next all rest step more
 next_line all [] step more facts line e = absurd (no_step step more e)
 next_line all (x ∷ rest) step more facts line e = next_by all x rest step more facts line e (λ k. next_line all rest step more (λ y has. facts y (inr has)) line k) (is_asked x) refl
 
@@ -125,20 +128,20 @@ walk_item : (all rest : List Entry) (moment : ℕ) (item : Item) (lines : List S
     (if is_wait item then wait_reply (false || falls_before rest) ∷ replies_from all lines false rest else and_more (line_reply all (from_line rest)) (replies_from all lines (false || (falls_before rest || falls_first (from_line rest)))))
 walk_item all rest moment (items.Snapshot name indices) lines facts known e on =
     let step : Step = AskStep (command_of_line name indices moment) in
-    let n = next_line all rest step (steps_of moment lines) facts refl e in
+    let n = next_line all rest step (steps_of moment lines) facts (λ reply. refl) e in
     by_entry all rest (items.Snapshot name indices) lines step (steps_of moment lines) facts n
     (subst (λ (x : Step). IsAnswerOf (items.Snapshot name indices) (answer_at all x n.e.reply)) (sym n.step_is) (n.fact.asked name (map index_of_line indices) moment n.step_is name indices))
     (on n.es n.facts n.more_is)
 walk_item all rest moment (items.Restore name place) lines facts known e on =
     let step : Step = AskStep (Restore name place) in
-    let n = next_line all rest step (steps_of moment lines) facts refl e in
+    let n = next_line all rest step (steps_of moment lines) facts (λ reply. refl) e in
     by_entry all rest (items.Restore name place) lines step (steps_of moment lines) facts n
     (subst (λ (x : Step). IsAnswerOf (items.Restore name place) (answer_at all x n.e.reply)) (sym n.step_is) (n.fact.restored name place n.step_is name place))
     (on n.es n.facts n.more_is)
 walk_item all rest moment items.Wait lines facts known e on =
     subst (λ (b : Bool). IsFirst items.Wait lines (wait_reply (false || b) ∷ replies_from all lines false rest)) (sym (unfallen_before all rest facts)) (tt, on rest facts e)
 walk_item all rest moment items.List lines facts known e on =
-    let n = next_line all rest LookStep (steps_of moment lines) facts refl e in
+    let n = next_line all rest LookStep (steps_of moment lines) facts (λ reply. refl) e in
     by_entry all rest items.List lines LookStep (steps_of moment lines) facts n
     (subst (λ (x : Step). IsAnswerOf items.List (answer_at all x n.e.reply)) (sym n.step_is) (n.fact.looked n.step_is))
     (on n.es n.facts n.more_is)

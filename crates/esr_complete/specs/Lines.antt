@@ -1,7 +1,7 @@
 -- What the lines of a script ask for.
 use Rattle.std.specs.Prelude.{ℕ, List, [], ◌∷◌, ◌++◌, map}
 use Rattle.esr_model.specs.Values.{Bytes}
-use Rattle.esr_core.specs.Entry.{AskedIndex, Asked, Snapshot, Restore, Step, AskStep, LookStep, Entry, Moment}
+use Rattle.esr_core.specs.Entry.{AskedIndex, Asked, Snapshot, Restore, DrawTest, Step, AskStep, LookStep, ReadStep, Entry, Moment}
 use Rattle.esr_script.specs.declared.item.AskedIndex.{AskedIndex as LineIndex}
 use Rattle.esr_script.specs.declared.item.Item.{Item}
 use Rattle.esr_script.specs.declared.item.Item.TheVariants as items
@@ -14,7 +14,7 @@ index_of_line a = record { name = a.name; shards = a.shards; place = a.place }
 abbrev pub command_of_line : Bytes → List LineIndex → ℕ → Asked
 command_of_line name indices moment = Snapshot name (map index_of_line indices) moment
 
--- the step that a line asks for; a wait asks for none, nor does a command that is not there yet
+-- the step that a line asks for: a verification begins with its draw; a wait asks for none, nor does a command that is not there yet
 abbrev pub steps_of_item : ℕ → Item → List Step
 steps_of_item moment (items.Snapshot name indices) = AskStep (command_of_line name indices moment) ∷ []
 steps_of_item moment (items.Clone source name indices) = []
@@ -25,7 +25,7 @@ steps_of_item moment items.Failover = []
 steps_of_item moment items.Wait = []
 steps_of_item moment items.List = LookStep ∷ []
 steps_of_item moment items.Check = []
-steps_of_item moment items.Verify = []
+steps_of_item moment items.Verify = ReadStep DrawTest ∷ []
 
 -- the steps that lines ask for, in order
 abbrev pub steps_of : ℕ → List ScriptLine → List Step

@@ -76,3 +76,4 @@ pub mod Shelving
 pub mod OnShelf
 pub mod AskedShelf
 pub mod ReadEnding
+pub mod Refusing

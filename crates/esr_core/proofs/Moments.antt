@@ -467,7 +467,7 @@ module _ (f : Formats) (size : ℕ) (w : World) (shelf : List Shelved) (l : Law 
       subst (λ x. Turned f w 0 (ReadStep (RemoveTests names)) (Refused DepotFault) (stepped f w (moment 0 (ReadStep (RemoveTests names)) (Refused DepotFault) x))) (sym told)
       (removes_tests names (Refused DepotFault) may (of_told i im (λ blobs. Removes f w.blobs blobs names) told left))
   verifies read reply image told (VerifyingAll im done same) = stays f w 0 (ReadStep VerifiedAll) HasEnded im same refl
-  verifies read reply image told (VerifyFailing why id im drawn same) = stays f w 0 (ReadStep (ReadFails why)) HasEnded im same refl
+  verifies read reply image told (VerifyFailing why im begun same) = stays f w 0 (ReadStep (ReadFails why)) HasEnded im same refl
 
   -- each answer is a turn, what who 0 has done aside
   turn_of : (who : ℕ) (step : Step) (reply : Reply) (image : Option Image) → image ≡ Some i → Allows f size w who step reply image → Turned f w who step reply (stepped f w (moment who step reply image))

@@ -230,7 +230,7 @@ module _ (f : Formats) (size : ℕ) (w : World) (q : Tracked w) (l : Ranked w) w
   verifies read reply image (RemovingTests names im may left) = l
   verifies read reply image (RemoveTestsFails names im may left) = l
   verifies read reply image (VerifyingAll im done same) = l
-  verifies read reply image (VerifyFailing why id im drawn same) = l
+  verifies read reply image (VerifyFailing why im begun same) = l
 
   -- ---- each answer
 

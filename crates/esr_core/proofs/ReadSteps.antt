@@ -11,7 +11,7 @@ use Rattle.esr_core.specs.World.{World, ReadState, Unread, BeingRead, Restored, 
 use Rattle.esr_core.specs.Ready.{AnyReady, ARestore}
 use Rattle.esr_core.specs.Restores.{IsReading, AreApart, restore_of, waits, ended, restore_opened, shard_handed, more_read, shard_ended}
 use Rattle.esr_core.specs.Entry.{Restore, GivenRestore, Why, Read, ReadBlob, RestoredShard, ReadFails, Step, AskStep, TakeStep, LookStep, ReadStep, DepotFault, Reply, Gave, WasFetched, WasAbsent, HasEnded, Refused, Moment}
-use Rattle.esr_core.specs.After.{told_blob, taken_restore, taken_restore_shard, read_told, shard_over, read_over, read_by, is_heard, caller_told, caller_by, caller_after, answered, blobs_in, after, test_left}
+use Rattle.esr_core.specs.After.{told_blob, taken_restore, taken_restore_shard, read_told, shard_over, read_over, read_by, is_heard, caller_told, caller_wrote, caller_by, caller_after, answered, blobs_in, after, test_left}
 use Rattle.esr_core.specs.Allowed as allowed
 use Rattle.esr_core.specs.Allowed.{Gives, GivesRestore, Fetcher, ByReader, ByCheck, RestoreAllows, OpeningRestore, NotListed, NamedByDelete, FullOfRestores, ReadAllows, ReadFound, ReadMissing, ReadFault, RestoringShard, ReaderFailing, CheckingAll, CheckFailing, Allows, Allowed, ByVerify, VerifyAllows, DrawingTest, TestSpent, BeginningTest, BeginTestFails, CommittingTest, TestTaken, CommitTestFails, RemovingTests, RemoveTestsFails, VerifyingAll, VerifyFailing}
 use Rattle.esr_core.specs.History.{world_from, IsLegal}
@@ -213,7 +213,7 @@ module _ (f : Formats) (size : ℕ) (w : World) (t : Tracked w) (l : ReadTracked
   verifies read reply image (RemovingTests names im may left) = l
   verifies read reply image (RemoveTestsFails names im may left) = l
   verifies read reply image (VerifyingAll im done same) = l
-  verifies read reply image (VerifyFailing why id im drawn same) = l
+  verifies read reply image (VerifyFailing why im begun same) = l
 
   restore_asked : (who : ℕ) (name place : Bytes) (reply : Reply) (image : Option Image) → Allows f size w who (AskStep (Restore name place)) reply image → ReadTracked (answered f w who (AskStep (Restore name place)) reply image)
   restore_asked who name place reply image (allowed.AskingRestore n p rep im h same) = asks n p rep im h
@@ -305,18 +305,22 @@ module _ (f : Formats) (size : ℕ) (w : World) (t : Tracked w) (l : ReadTracked
   left_caller name None None = mine
   left_caller name (Some was) now = mine
 
+  wrote_tracked : (name : BlobName) (bytes : Option Bytes) → CallerTracked (record w { doomed = name ∷ w.doomed }) (caller_wrote w.caller name bytes)
+  wrote_tracked name None = record { once = record { fetched = l.once.fetched; found = l.once.found; from = l.once.from }; drawn = l.drawn; doomed = λ m has. elim has [ inl e ↦ inl e | inr was ↦ inr (l.doomed m was) ] }
+  wrote_tracked name (Some bytes) = record { once = record { fetched = l.once.fetched; found = l.once.found; from = l.once.from }; drawn = l.drawn; doomed = λ m has. elim has [ inl e ↦ inl e | inr was ↦ inr (l.doomed m was) ] }
+
   heard_verifies : (read : Read) (reply : Reply) (image : Option Image) → VerifyAllows f w read reply image → Heard 0 read reply image
   heard_verifies read reply image (DrawingTest im idle fits same) = record { once = record { fetched = l.once.fetched; found = l.once.found; from = l.once.from }; drawn = λ v e. let same_id : w.next_id ≡ v = some_drawn e in omega (arith, same_id); doomed = l.doomed }
-  heard_verifies read reply image (TestSpent im idle spent same) = mine
+  heard_verifies read reply image (TestSpent im idle spent same) = record { once = record { fetched = l.once.fetched; found = l.once.found; from = l.once.from }; drawn = l.drawn; doomed = l.doomed }
   heard_verifies read reply image (BeginningTest name im own same) = mine
   heard_verifies read reply image (BeginTestFails name im own same) = mine
-  heard_verifies read reply image (CommittingTest name bytes im own new adds) = record { once = record { fetched = l.once.fetched; found = l.once.found; from = l.once.from }; drawn = l.drawn; doomed = λ m has. elim has [ inl e ↦ inl e | inr was ↦ inr (l.doomed m was) ] }
+  heard_verifies read reply image (CommittingTest name bytes im own new adds) = wrote_tracked name (told_blob f im name)
   heard_verifies read reply image (TestTaken name im own there) = mine
   heard_verifies read reply image (CommitTestFails name bytes im own leaves) = left_caller name (fin.get w.blobs (f.names.text name)) (told_blob f im name)
   heard_verifies read reply image (RemovingTests names im may left) = record { once = record { fetched = l.once.fetched; found = l.once.found; from = l.once.from }; drawn = l.drawn; doomed = l.doomed }
   heard_verifies read reply image (RemoveTestsFails names im may left) = mine
   heard_verifies read reply image (VerifyingAll im done same) = caller_none w false
-  heard_verifies read reply image (VerifyFailing why id im drawn same) = caller_none w false
+  heard_verifies read reply image (VerifyFailing why im begun same) = caller_none w false
 
   heard_read : (who : ℕ) (read : Read) (reply : Reply) (image : Option Image) → Allows f size w who (ReadStep read) reply image → Heard who read reply image
   heard_read who read reply image (allowed.Reading k r rep im h same) = heard_reads k r rep im h

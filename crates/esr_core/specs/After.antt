@@ -10,7 +10,7 @@ use Rattle.esr_core.specs.World.{World, Op, ShardWork, Pending, Done, ReadState,
 use Rattle.esr_core.specs.Restores.{restore_shard, restore_opened, shard_handed, more_read, shard_ended}
 use Rattle.esr_core.specs.Steps.{with_ticket, noting, writing, reading, given, completing, settled, shard_ticket, final_ticket}
 use Rattle.esr_core.specs.Turns.{plain_ticket, fails}
-use Rattle.esr_core.specs.Entry.{AskedIndex, Asked, Snapshot, Restore, is_recorded, Given, GivenShard, GivenFinalize, GivenDrop, GivenRestore, Read, ReadBlob, RestoredShard, CheckedAll, DrawTest, CommitTest, RemoveTests, VerifiedAll, ReadFails, Step, AskStep, TakeStep, DrawStep, BeginStep, CommitStep, LatestStep, FetchStep, RaiseStep, SettleStep, DoneStep, FailedStep, FinishStep, DroppedStep, ElectStep, LookStep, ReadStep, StaleTerm, DeposedAt, DepotFault, Reply, Gave, DrawnFrom, WasRemoved, WasDone, WasThere, WasFetched, WasAbsent, HasEnded, Refused, AcceptedRestore, Moment}
+use Rattle.esr_core.specs.Entry.{AskedIndex, Asked, Snapshot, Restore, is_recorded, Given, GivenShard, GivenFinalize, GivenDrop, GivenRestore, Read, ReadBlob, RestoredShard, CheckedAll, DrawTest, CommitTest, RemoveTests, VerifiedAll, ReadFails, Step, AskStep, TakeStep, DrawStep, BeginStep, CommitStep, LatestStep, FetchStep, RaiseStep, SettleStep, DoneStep, FailedStep, FinishStep, DroppedStep, ElectStep, LookStep, ReadStep, StaleTerm, IdsSpent, DeposedAt, DepotFault, Reply, Gave, DrawnFrom, WasRemoved, WasDone, WasThere, WasFetched, WasAbsent, HasEnded, Refused, AcceptedRestore, Moment}
 
 abbrev pub or_else : {A : Type 0} → Option A → Option A → Option A
 or_else None b = b
@@ -290,6 +290,10 @@ abbrev pub caller_told : Caller → BlobName → Option Bytes → Caller
 caller_told c name None = record c { fetched = name ∷ c.fetched; found = name ∷ c.found }
 caller_told c name (Some bytes) = record c { fetched = name ∷ c.fetched; found = name ∷ c.found; read = (name, bytes) ∷ c.read }
 
+abbrev pub caller_wrote : Caller → BlobName → Option Bytes → Caller
+caller_wrote c name None = record c { committed = name ∷ c.committed }
+caller_wrote c name (Some bytes) = record c { committed = name ∷ c.committed; wrote = (name, bytes) ∷ c.wrote }
+
 abbrev pub caller_ended : Caller → Reply → Caller
 caller_ended c HasEnded = no_caller
 caller_ended c reply = c
@@ -301,7 +305,8 @@ caller_read f c (ReadBlob name) reply image = c
 caller_read f c (RestoredShard files bytes) reply image = c
 caller_read f c (CheckedAll snapshots blobs) reply image = caller_ended c reply
 caller_read f c DrawTest (DrawnFrom first) image = record c { drawn = Some first }
-caller_read f c (CommitTest name) WasDone image = record c { committed = name ∷ c.committed }
+caller_read f c DrawTest (Refused (IdsSpent next)) image = record c { spent = true }
+caller_read f c (CommitTest name) WasDone image = caller_wrote c name (told_blob f image name)
 caller_read f c (RemoveTests names) WasRemoved image = record c { removed = names ++ c.removed }
 caller_read f c VerifiedAll reply image = caller_ended c reply
 caller_read f c (ReadFails why) reply image = caller_ended c reply

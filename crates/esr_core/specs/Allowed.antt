@@ -181,6 +181,7 @@ pub record MayDraw (f : Formats) (w : World) (k n : ℕ) : Type 0 where
   pub once : t.drawn ≡ 0
   pub some : 1 ≤ n
   pub most : (index number : ℕ) → t.work ≡ Shard index number → f.known t.place t.name number ≡ true → n ≤ suc (length (f.told t.place t.name number))
+  pub few : n ≤ 2 ^ 32
 
 pub record Draws (f : Formats) (w : World) (k n first : ℕ) : Type 0 where
   pub may : MayDraw f w k n
@@ -400,6 +401,15 @@ Adds f w name bytes blobs = (fin.get w.blobs (f.names.text name) ≡ None) × (b
 
 -- ---- a verification of the container
 
+-- no verification is open, so that one may begin by drawing an id
+pub record MayDrawTest (w : World) : Type 0 where
+  pub undrawn : w.caller.drawn ≡ None
+  pub unspent : w.caller.spent ≡ false
+
+-- a verification is open: it drew an id, or found that there was none left
+abbrev pub IsVerifying : World → Type 0
+IsVerifying w = ((id : ℕ) × (w.caller.drawn ≡ Some id)) ⊎ (w.caller.spent ≡ true)
+
 -- the name is that of a test blob under the id that was drawn
 pub record IsOwnTest (f : Formats) (w : World) (name : BlobName) : Type 0 where
   pub id : ℕ
@@ -423,8 +433,8 @@ pub record Verifies (w : World) : Type 0 where
 
 -- How a step of a verification may be answered, who 0 being the caller.
 pub data VerifyAllows (f : Formats) (w : World) : Read → Reply → Option Image → Type 0 where
-  DrawingTest : (image : Option Image) → w.caller.drawn ≡ None → suc w.next_id < first_id (suc w.term) → SameBlobs w image → VerifyAllows f w DrawTest (DrawnFrom w.next_id) image
-  TestSpent : (image : Option Image) → w.caller.drawn ≡ None → first_id (suc w.term) ≤ suc w.next_id → SameBlobs w image → VerifyAllows f w DrawTest (Refused (IdsSpent w.next_id)) image
+  DrawingTest : (image : Option Image) → MayDrawTest w → suc w.next_id < first_id (suc w.term) → SameBlobs w image → VerifyAllows f w DrawTest (DrawnFrom w.next_id) image
+  TestSpent : (image : Option Image) → MayDrawTest w → first_id (suc w.term) ≤ suc w.next_id → SameBlobs w image → VerifyAllows f w DrawTest (Refused (IdsSpent w.next_id)) image
   BeginningTest : (name : BlobName) (image : Option Image) → IsOwnTest f w name → SameBlobs w image → VerifyAllows f w (BeginTest name) WasBegun image
   BeginTestFails : (name : BlobName) (image : Option Image) → IsOwnTest f w name → SameBlobs w image → VerifyAllows f w (BeginTest name) (Refused DepotFault) image
   CommittingTest : (name : BlobName) (bytes : Bytes) (image : Option Image) → IsOwnTest f w name → (Has w.caller.committed name → ⊥) → Told image (Adds f w name bytes) → VerifyAllows f w (CommitTest name) WasDone image
@@ -433,7 +443,7 @@ pub data VerifyAllows (f : Formats) (w : World) : Read → Reply → Option Imag
   RemovingTests : (names : List BlobName) (image : Option Image) → MayRemoveTests w names → Told image (λ blobs. Removes f w.blobs blobs names × ((name : BlobName) → Has names name → fin.get blobs (f.names.text name) ≡ None)) → VerifyAllows f w (RemoveTests names) WasRemoved image
   RemoveTestsFails : (names : List BlobName) (image : Option Image) → MayRemoveTests w names → Told image (λ blobs. Removes f w.blobs blobs names) → VerifyAllows f w (RemoveTests names) (Refused DepotFault) image
   VerifyingAll : (image : Option Image) → Verifies w → SameBlobs w image → VerifyAllows f w VerifiedAll HasEnded image
-  VerifyFailing : (why : Why) (id : ℕ) (image : Option Image) → w.caller.drawn ≡ Some id → SameBlobs w image → VerifyAllows f w (ReadFails why) HasEnded image
+  VerifyFailing : (why : Why) (image : Option Image) → IsVerifying w → SameBlobs w image → VerifyAllows f w (ReadFails why) HasEnded image
 
 -- ---- all steps
 

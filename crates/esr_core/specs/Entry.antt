@@ -108,7 +108,14 @@ pub data Refusal : Type 0 where
   DepotFault : Refusal
   -- no snapshot is listed under the name that stands at this place of the command, from 0 on
   NoSnapshot : (place : ℕ) → Refusal
+  -- the snapshot has no index of the name that stands at this place of the command
+  NoIndex : (place : ℕ) → Refusal
   BeingDeleted : (op : ℕ) → Refusal
+  CloneRunning : (op : ℕ) → Refusal
+  RestoreRunning : (op : ℕ) → Refusal
+  -- a cleanup waits for no other op, and for no ticket
+  BusyOp : (op : ℕ) → Refusal
+  BusyTicket : (ticket : ℕ) → Refusal
 
 pub data Reply : Type 0 where
   Accepted : (op : ℕ) → Reply

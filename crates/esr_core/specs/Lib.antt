@@ -22,4 +22,5 @@ pub mod Restored
 pub mod History
 pub mod ReadEnds
 pub mod Left
+pub mod Refusing
 pub mod Example

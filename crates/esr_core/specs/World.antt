@@ -123,7 +123,11 @@ pub record Caller : Type 0 where
   pub looked : Bool
   -- a verification is open, and drew this id
   pub drawn : Option ℕ
+  -- a verification is open that drew none, as there was none left
+  pub spent : Bool
   pub committed : List BlobName
+  -- what it committed, where the container tells
+  pub wrote : List (BlobName × Bytes)
   -- fetched, and of these the ones that were there
   pub fetched : List BlobName
   pub found : List BlobName
@@ -131,7 +135,7 @@ pub record Caller : Type 0 where
   pub read : List (BlobName × Bytes)
 
 abbrev pub no_caller : Caller
-no_caller = record { looked = false; drawn = None; committed = []; fetched = []; found = []; removed = []; read = [] }
+no_caller = record { looked = false; drawn = None; spent = false; committed = []; wrote = []; fetched = []; found = []; removed = []; read = [] }
 
 -- `safe` and `pending` count roots: the safe root is the last of the first `safe` ones, and the next to be begun is `pending`
 pub record World : Type 0 where

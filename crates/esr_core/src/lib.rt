@@ -29,12 +29,13 @@ ghost use Rattle.std.specs.FinMap.{FinMap};
 ghost use Rattle.std.specs.Ordering.{nat_cmp};
 ghost use Rattle.esr_core.specs.Turns.{Turn, Turns, commands_of};
 ghost use Rattle.esr_core.specs.Doomed.{Dooms};
-ghost use Rattle.esr_core.specs.Entry.{Moment, Restore, AskStep, SettleStep, WasSettled, Refused, StaleTerm, AcceptedRestore};
+ghost use Rattle.esr_core.specs.Entry.{Moment, Restore, AskStep, SettleStep, WasSettled, Refusal, Refused, StaleTerm, AcceptedRestore};
 ghost use Rattle.esr_core.specs.After.{swaps_record, after};
 ghost use Rattle.esr_core.specs.Example.{CanWrite, HasSnapshot};
 ghost use Rattle.esr_core.specs.Allowed.{SameBlobs, Allowed, RestoredBy};
 ghost use Rattle.esr_core.specs.History.{world_from, IsLegal, AllKnown, AreTold, AreHonest, committed, Lasts};
 ghost use Rattle.esr_core.specs.Left.{cut_off, Leaves, safe_in};
+ghost use Rattle.esr_core.specs.Refusing.{RefusedSo, SwapFailed};
 
 /// A raise keeps the law, and the generation that it begins is that of no root that is there.
 pub fn raise_is_sound()
@@ -96,6 +97,16 @@ pub fn the_queue_is_apart()
 pub fn each_history_is_lawful()
     ensures { (f : Formats) (part_size : ℕ) (image : Image) (shelf : List Shelved) (w : World) (log : List Moment) → AllKnown f → Kept f image shelf → Opened f image w → IsLegal f part_size w log → AreTold log → AreHonest f w log
         → Law f (world_from f w log) (shelf_after shelf (committed f (world_from f w log).safe w log)) }
+{}
+
+/// While no record swap has failed a step is refused only as it may be, and after it each is refused as deposed.
+pub fn refusals_are_of_their_steps()
+    ensures { (f : Formats) (part_size : ℕ) (w : World) (m : Moment) (refusal : Refusal) → Allowed f part_size w m → m.entry.reply ≡ Refused refusal → RefusedSo w m.entry.step refusal }
+{}
+
+/// A world is deposed only after a record swap that failed.
+pub fn only_failed_swaps_depose()
+    ensures { (f : Formats) (w : World) (log : List Moment) → w.deposed ≡ false → (world_from f w log).deposed ≡ true → SwapFailed log }
 {}
 
 /// From any lawful world of a history on `safe` never falls, and from one on in which a record swap failed it stays.

@@ -10,6 +10,7 @@ pub mod Told
 pub mod Readers
 pub mod Sources
 pub mod Last
+pub mod Halts
 pub mod Grew
 pub mod Damage
 pub mod Shown

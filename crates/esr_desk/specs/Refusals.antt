@@ -1,6 +1,6 @@
 -- The refusals of steps, as the definitions see them.
 use Rattle.std.specs.Prelude.{Option, Some, None}
-use Rattle.esr_core.specs.Entry.{Refusal, CleanupRunning, NameInUse, TooMany, DeposedAt, AbortedBy, StaleTerm, GenerationsSpent, TermsSpent, IdsSpent, NameTaken, DepotFault, NoSnapshot, BeingDeleted}
+use Rattle.esr_core.specs.Entry.{Refusal, CleanupRunning, NameInUse, TooMany, DeposedAt, AbortedBy, StaleTerm, GenerationsSpent, TermsSpent, IdsSpent, NameTaken, DepotFault, NoSnapshot, NoIndex, BeingDeleted, CloneRunning, RestoreRunning, BusyOp, BusyTicket}
 use Rattle.esr_formats.specs.Names.{name_of}
 use Rattle.esr_formats.specs.Clusters.{count_of}
 use Rattle.esr_desk.specs.declared.refusal.EntryRefusal.{EntryRefusal}
@@ -21,7 +21,12 @@ refusal_of (code.IdsSpent next) = IdsSpent next.number
 refusal_of (code.NameTaken name) = NameTaken (name_of name)
 refusal_of code.DepotFault = DepotFault
 refusal_of (code.NoSnapshot place) = NoSnapshot place
+refusal_of (code.NoIndex place) = NoIndex place
 refusal_of (code.BeingDeleted op) = BeingDeleted op
+refusal_of (code.CloneRunning op) = CloneRunning op
+refusal_of (code.RestoreRunning op) = RestoreRunning op
+refusal_of (code.BusyOp op) = BusyOp op
+refusal_of (code.BusyTicket ticket) = BusyTicket ticket
 
 -- the refusal that the history tells, if it tells one
 abbrev pub told_refusal : StepRefusal → Option Refusal

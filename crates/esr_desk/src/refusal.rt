@@ -32,8 +32,18 @@ pub enum EntryRefusal {
     DepotFault,
     /// No snapshot is listed under the name at this place of the command, from 0 on.
     NoSnapshot { place: u64 },
+    /// The snapshot has no index of the name at this place of the command, from 0 on.
+    NoIndex { place: u64 },
     /// This open delete names the snapshot.
     BeingDeleted { op: u64 },
+    /// This clone of the snapshot is open.
+    CloneRunning { op: u64 },
+    /// This restore of the snapshot is open.
+    RestoreRunning { op: u64 },
+    /// This op is open.
+    BusyOp { op: u64 },
+    /// This ticket is out.
+    BusyTicket { ticket: u64 },
 }
 
 /// Why a step isn't made.

@@ -38,7 +38,7 @@ says_read f w who read reply image a = tt
 
 says_verify : (f : Formats) (w : World) (read : Read) (reply : Reply) (image : Option Image) → VerifyAllows f w read reply image → Says w 0 reply (ReadStep read)
 says_verify f w read reply image (VerifyingAll im verifies same) = inl refl
-says_verify f w read reply image (VerifyFailing why id im drawn same) = inl refl
+says_verify f w read reply image (VerifyFailing why im begun same) = inl refl
 says_verify f w read reply image a = tt
 
 says : (f : Formats) (size : ℕ) (w : World) (who : ℕ) (step : Step) (reply : Reply) (image : Option Image) → Allows f size w who step reply image → Says w who reply step

@@ -1,4 +1,5 @@
 pub mod Going
+pub mod Halting
 pub mod Readers
 pub mod Acting
 pub mod Ends
@@ -8,3 +9,4 @@ pub mod Targets
 pub mod Filling
 pub mod Resting
 pub mod Rounds
+pub mod Works

@@ -2,4 +2,5 @@ pub mod Stopped
 pub mod Restored
 pub mod Filled
 pub mod Over
+pub mod Works
 pub mod Laws

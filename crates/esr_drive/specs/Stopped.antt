@@ -1,7 +1,7 @@
 -- Why the work stopped before all units were done.
 use Rattle.std.specs.Prelude.{◌≡◌, ◌≢◌, ◌⊎◌, ℕ, false, List, Result, Ok, Err}
 use Rattle.esr_core.specs.World.{Ticket}
-use Rattle.esr_core.specs.Entry.{Step, TakeStep, Refused, Moment}
+use Rattle.esr_core.specs.Entry.{Step, TakeStep, RaiseStep, SettleStep, DroppedStep, Refusal, DeposedAt, StaleTerm, DepotFault, Refused, Moment}
 use Rattle.esr_progress.specs.declared.unit.Work.{Work}
 use Rattle.esr_progress.specs.declared.unit.Work.TheVariants as works
 use Rattle.esr_desk.specs.declared.refusal.StepRefusal.{StepRefusal}
@@ -11,16 +11,34 @@ use Rattle.esr_desk.specs.declared.refusal.StepRefusal.TheVariants as steps
 use Rattle.esr_desk.specs.Refusals.{refusal_of}
 use Rattle.esr_desk.specs.Start.{Start}
 use Rattle.esr_desk.specs.Outcome.{Spends}
-use Rattle.esr_desk.specs.Last.{IsLast, IsRefusal}
+use Rattle.esr_desk.specs.Last.{IsLast}
 
 abbrev pub IsDrop : Work → Type 0
 IsDrop works.Drop = Unit {0}
 IsDrop work = ⊥
 
--- the unit's last step was refused, if it didn't end as failed
+-- which refusals of a step stop the work
+pub data StopsWork : Step → Refusal → Type 0 where
+  -- a record swap had failed
+  SaidDeposed : (step : Step) (place : ℕ) → StopsWork step (DeposedAt place)
+  -- the record swap failed: of a settle, or of the drop of an op
+  SettleFell : StopsWork SettleStep DepotFault
+  DropFell : StopsWork DroppedStep DepotFault
+  -- the term of the ticket is over
+  RaiseLate : (own now : ℕ) → StopsWork RaiseStep (StaleTerm own now)
+  SettleLate : (own now : ℕ) → StopsWork SettleStep (StaleTerm own now)
+  DropLate : (own now : ℕ) → StopsWork DroppedStep (StaleTerm own now)
+
+-- memory was wanting, or turns were spent; or the last step, which is of this ticket, was refused so that the work stops
+abbrev pub IsHalted : Start → List Moment → ℕ → StepRefusal → Type 0
+IsHalted s log who steps.Memory = Unit {0}
+IsHalted s log who steps.TurnsSpent = Spends s log steps.TurnsSpent
+IsHalted s log who (steps.Refused refusal) = (step : Step) × IsLast log who step (Refused (refusal_of refusal)) × StopsWork step (refusal_of refusal)
+
+-- the unit was stopped so, if it didn't end as failed
 abbrev pub IsUnitStopped : Start → List Moment → ℕ → UnitRefusal → Type 0
 IsUnitStopped s log who (units.Failed why) = Unit {0}
-IsUnitStopped s log who (units.Stopped refusal) = IsRefusal s log who refusal
+IsUnitStopped s log who (units.Stopped refusal) = IsHalted s log who refusal
 
 -- the unit's ticket has ended, if the unit wasn't stopped
 abbrev pub HasEnded : Result Unit UnitRefusal → Ticket → Type 0
@@ -28,8 +46,8 @@ HasEnded (Ok x) t = t.out ≡ false
 HasEnded (Err (units.Failed why)) t = t.out ≡ false
 HasEnded (Err (units.Stopped refusal)) t = Unit {0}
 
--- the last step was refused, which was one of a ticket, or a take
+-- the same of any unit's ticket, or of a take
 abbrev pub IsStopped : Start → List Moment → StepRefusal → Type 0
 IsStopped s log steps.Memory = Unit {0}
 IsStopped s log steps.TurnsSpent = Spends s log steps.TurnsSpent
-IsStopped s log (steps.Refused refusal) = (who : ℕ) × (step : Step) × IsLast log who step (Refused (refusal_of refusal)) × ((who ≢ 0) ⊎ (step ≡ TakeStep))
+IsStopped s log (steps.Refused refusal) = (who : ℕ) × (step : Step) × IsLast log who step (Refused (refusal_of refusal)) × StopsWork step (refusal_of refusal) × ((who ≢ 0) ⊎ (step ≡ TakeStep))

@@ -2,14 +2,13 @@
 ghost use Rattle.std.specs.Prelude.{◌≡◌, ◌≤◌, ◌^◌, true, false, IfErr, OnOk};
 ghost use Rattle.esr_core.specs.Tracked.{Tracked};
 ghost use Rattle.esr_core.specs.ReadTracked.{ReadTracked};
-ghost use Rattle.esr_desk.specs.Last.{IsRefusal};
 ghost use Rattle.esr_desk.specs.Once.{HasMadeNone};
 ghost use Rattle.esr_desk.specs.Taken.{Took};
 ghost use Rattle.esr_desk.specs.Readers.{TookRestore, TookUnit};
 ghost use Rattle.esr_desk.specs.Start.{Legal, ticket_of};
 ghost use Rattle.esr_desk.specs.Sources.{AreSources};
 ghost use Rattle.esr_desk.specs.Grew.{GrewBy};
-ghost use Rattle.esr_drive.specs.Stopped.{IsDrop, IsUnitStopped, HasEnded};
+ghost use Rattle.esr_drive.specs.Stopped.{IsDrop, IsHalted, IsUnitStopped, HasEnded};
 ghost use Rattle.esr_drive.specs.Over.{NothingOut};
 ghost use Rattle.esr_drive.specs.Restored.{Telling, AreTargetsOf, RestoresNone};
 ghost use Rattle.esr_drive.specs.Filled.{IsRestore, IsFilled, filled_by};
@@ -81,7 +80,7 @@ fn do_op<Q: Desk<Shard = S::Shard>, S: Sources, G: Gate>(
     requires sized { (1 ≤ part_size) × (part_size ≤ 2 ^ 30) }
     requires tracked { ReadTracked Q.start.world }
     requires ops { Tracked Q.start.world }
-    ensures stopped { IfErr result (IsRefusal Q.start (Q.seen desk.new) unit.now.ready.ticket) }
+    ensures stopped { IfErr result (IsHalted Q.start (Q.seen desk.new) unit.now.ready.ticket) }
     ensures over { OnOk result (Q.start.alone ≡ true → NothingOut Q.start (Q.seen desk.new) unit.now.ready.ticket) }
     ensures none { Q.start.alone ≡ true → RestoresNone (Q.seen desk.old) (Q.seen desk.new) }
     ensures grew { GrewBy Q.start unit.now.ready.ticket (Q.seen desk.old) (Q.seen desk.new) }
@@ -128,7 +127,7 @@ fn do_restore<Q: RestoreDesk, T: Targets<Target = Q::Target>>(
     requires sure { Q.start.sure_targets ≡ T.is_quiet targets.now }
     requires tracked { ReadTracked Q.start.world }
     requires ops { Tracked Q.start.world }
-    ensures stopped { IfErr result (IsRefusal Q.start (Q.seen desk.new) unit.ready.ticket) }
+    ensures stopped { IfErr result (IsHalted Q.start (Q.seen desk.new) unit.ready.ticket) }
     ensures over { OnOk result (Q.start.alone ≡ true → NothingOut Q.start (Q.seen desk.new) unit.ready.ticket) }
     ensures restored { Q.start.alone ≡ true → AreTargetsOf (record { made_for = Q.Target.made_for; files = Q.Target.files; is_sure = Q.Target.is_sure; are_told = T.is_told targets.now; are_quiet = T.is_quiet targets.now })
         Q.start (Q.seen desk.old) (Q.seen desk.new) (filled_by result) }
@@ -168,7 +167,7 @@ pub fn do_next<
     requires sized { (1 ≤ part_size) × (part_size ≤ 2 ^ 30) }
     requires tracked { ReadTracked Q.start.world }
     requires ops { Tracked Q.start.world }
-    ensures stopped { IfErr result (IsRefusal Q.start (Q.seen desk.new) unit.ready.ticket) }
+    ensures stopped { IfErr result (IsHalted Q.start (Q.seen desk.new) unit.ready.ticket) }
     ensures over { OnOk result (Q.start.alone ≡ true → NothingOut Q.start (Q.seen desk.new) unit.ready.ticket) }
     ensures restored { Q.start.alone ≡ true → AreTargetsOf (record { made_for = T.Target.made_for; files = T.Target.files; is_sure = T.Target.is_sure; are_told = T.is_told targets.now; are_quiet = T.is_quiet targets.now })
         Q.start (Q.seen desk.old) (Q.seen desk.new) (filled_by result) }

@@ -10,6 +10,7 @@ ghost use Rattle.esr_quiet.specs.Asked.{GrewAsking};
 ghost use Rattle.esr_quiet.specs.Numbers.{HasNoTickets};
 ghost use Rattle.esr_drive.specs.Stopped.{IsStopped};
 ghost use Rattle.esr_drive.specs.Over.{NoReaderOut};
+ghost use Rattle.esr_drive.specs.Works.{WorksOnly};
 ghost use Rattle.esr_drive.specs.Restored.{Telling, AreTargetsOf};
 ghost use Rattle.esr_drive.specs.Filled.{filled_of};
 
@@ -58,6 +59,7 @@ fn work_all<Q: RestoreDesk<Shard = S::Shard, Target = T::Target>, S: Sources, T:
     ensures restored { Q.start.alone ≡ true → AreTargetsOf (record { made_for = T.Target.made_for; files = T.Target.files; is_sure = T.Target.is_sure; are_told = T.is_told targets.now; are_quiet = T.is_quiet targets.now })
         Q.start (Q.seen desk.old) (Q.seen desk.new) restored.new.items }
     ensures grew { GrewAsking Q.start [] (Q.seen desk.old) (Q.seen desk.new) }
+    ensures only { Q.start.alone ≡ true → WorksOnly (Q.seen desk.old) (Q.seen desk.new) }
 {
     laws();
     for _round in 0..u64::MAX {
@@ -102,6 +104,7 @@ pub fn work<Q: RestoreDesk<Shard = S::Shard, Target = T::Target>, S: Sources, T:
     ensures restored { Q.start.alone ≡ true → AreTargetsOf (record { made_for = T.Target.made_for; files = T.Target.files; is_sure = T.Target.is_sure; are_told = T.is_told targets.now; are_quiet = T.is_quiet targets.now })
         Q.start (Q.seen desk.old) (Q.seen desk.new) result.restored }
     ensures grew { GrewAsking Q.start [] (Q.seen desk.old) (Q.seen desk.new) }
+    ensures only { Q.start.alone ≡ true → WorksOnly (Q.seen desk.old) (Q.seen desk.new) }
 {
     let mut restored = Vec::new(alloc);
     match work_all(

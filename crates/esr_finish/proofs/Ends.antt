@@ -1,5 +1,5 @@
 -- The ends of the unit that aren't Ok.
-use Rattle.std.proofs.Common.{◌≡◌, ◌⊎◌, inl, inr, ℕ, Bool, true, false, List, [], ◌∷◌, ◌++◌, append_assoc, Option, Some, None, Result, Ok, Err, IfErr, refl, sym, ap, ◌∙◌, subst}
+use Rattle.std.proofs.Common.{◌≡◌, ◌⊎◌, inl, inr, ℕ, Bool, true, false, List, [], ◌∷◌, ◌++◌, append_assoc, Some, None, Result, Ok, Err, IfErr, refl, sym, ap, ◌∙◌, subst}
 use Rattle.esr_formats.specs.Names.{name_of}
 use Rattle.esr_formats.specs.Clusters.{count_of}
 use Rattle.std.specs.Result.{IsErrAnd}
@@ -20,15 +20,15 @@ use Rattle.esr_desk.specs.Start.{Start, formats_of, ticket_of}
 use Rattle.esr_desk.specs.Outcome.{Refusing, Outcome, Spends, Waited}
 use Rattle.esr_desk.specs.Grew.{GrewBy, grew_by_on, outcome_grew_by}
 use Rattle.esr_desk.specs.declared.refusal.StepRefusal.TheVariants as steps
-use Rattle.esr_desk.specs.declared.refusal.EntryRefusal.{EntryRefusal}
 use Rattle.esr_desk.specs.declared.refusal.EntryRefusal.TheVariants as refusals
 use Rattle.esr_finish.specs.declared.refusal.PutRefusal.{PutRefusal}
 use Rattle.esr_finish.specs.declared.refusal.PutRefusal.TheVariants as puts
 use Rattle.esr_desk.specs.Taken.{IsSettled}
 use Rattle.esr_finish.specs.Ticket.{MayWrite, IsWritten}
 use Rattle.esr_finish.specs.Went.{Went}
-use Rattle.esr_finish.specs.Refused.{failed_by, EndsUnit, IsEnding, WasStopped, WasPutRefused, IsPutRefused, HasFault, HadCause, Reported, IsUnitRefused}
+use Rattle.esr_finish.specs.Refused.{failed_by, WasPutRefused, IsPutRefused, HadCause, Stops, Reported, IsUnitRefused}
 use Rattle.esr_finish.proofs.Runs.{worked_to}
+use Rattle.esr_finish.proofs.Stopping.{settle_stops, end_stops, put_stops}
 
 -- an error that was made of a step's refusal
 pub stopped_err : {T : Type 0} (result : Result T UnitRefusal) (P : UnitRefusal → Type 0) (refusal : StepRefusal) → IsErrAnd result (λ e. e ≡ units.Stopped refusal) → P (units.Stopped refusal) → IfErr result P
@@ -44,18 +44,13 @@ pub finish_grew : (s : Start) (old mid last new : List Moment) (who : ℕ) (sett
 finish_grew s old mid last new who settle finish before settled step =
     grew_by_on s who old last new (settle_grew s old mid last who settle before settled) (outcome_grew_by s last new who FinishStep (λ done. HasEnded) finish step)
 
-refusing_stopped : (s : Start) (old new : List Moment) (who : ℕ) (step : Step) (refusal : Option Refusal) → IsEnding step → Refusing s old new who step refusal → WasStopped new who refusal
-refusing_stopped s old new who step None ends h = tt
-refusing_stopped s old new who step (Some refusal) ends h = (step, record { front = h.front; image = h.image; is = h.is }, λ same. ends)
-
 -- a settle or the report of a failure was refused
-ending_refused : {S : Type 0} (s : Start) (faults : S → ℕ) (old mid new : List Moment) (who : ℕ) (info : SnapInfo) (root : RootData) (step : Step) (refusal : StepRefusal) → MayWrite s (ticket_of s old who) info root → Went s old mid who
-    → ticket_of s new who ≡ ticket_of s mid who → IsEnding step → Refusing s mid new who step (told_refusal refusal) × Spends s new refusal → IsUnitRefused {S = S} s faults old new who (units.Stopped refusal)
-ending_refused {S = S} s faults old mid new who info root step refusal may went same ends refused = (
+ending_refused : {S : Type 0} (s : Start) (faults : S → ℕ) (old mid new : List Moment) (who : ℕ) (info : SnapInfo) (root : RootData) (refusal : StepRefusal) → MayWrite s (ticket_of s old who) info root → Went s old mid who
+    → ticket_of s new who ≡ ticket_of s mid who → Stops s new who refusal → IsUnitRefused {S = S} s faults old new who (units.Stopped refusal)
+ending_refused {S = S} s faults old mid new who info root refusal may went same stops = (
   ap (λ (t : Ticket). t.out) (same ∙ went.worked.is) ∙ may.swaps.out,
   inl (worked_to (ticket_of s old who) (ticket_of s mid who) (ticket_of s new who) went.worked same),
-  refusing_stopped s mid new who step (told_refusal refusal) ends refused.0,
-  refused.1,
+  stops,
 )
 
 -- the finish was refused
@@ -66,21 +61,19 @@ finish_refused {S = S} s faults old mid last new who info root refusal may writt
     let out : (ticket_of s mid who).out ≡ true = ap (λ (t : Ticket). t.out) written.is ∙ may.swaps.out in (
       ap (λ (t : Ticket). t.out) (same ∙ settled) ∙ out,
       inr (record { written = ticket_of s mid who; is_written = written; is = same ∙ settled ∙ ap (λ (o : Bool). record (ticket_of s mid who) { settled = true; out = o }) out }),
-      refusing_stopped s last new who FinishStep (told_refusal refusal) tt refused.0,
-      refused.1,
+      end_stops s last new who FinishStep refusal tt refused,
     )
 
 -- the settle was refused; where the container failed in it, the ticket may have settled
 pub settle_refused : {S : Type 0} (s : Start) (faults : S → ℕ) (old mid new : List Moment) (who : ℕ) (info : SnapInfo) (root : RootData) (refusal : StepRefusal) → MayWrite s (ticket_of s old who) info root → Went s old mid who
     → IsWritten (formats_of s) (ticket_of s old who) (ticket_of s mid who) → (ticket_of s new who ≡ ticket_of s mid who) ⊎ IsSettled (ticket_of s mid who) (ticket_of s new who)
     → Refusing s mid new who SettleStep (told_refusal refusal) × Spends s new refusal → IsUnitRefused {S = S} s faults old new who (units.Stopped refusal)
-settle_refused {S = S} s faults old mid new who info root refusal may went written (inl same) refused = ending_refused s faults old mid new who info root SettleStep refusal may went same tt refused
+settle_refused {S = S} s faults old mid new who info root refusal may went written (inl same) refused = ending_refused s faults old mid new who info root refusal may went same (settle_stops s mid new who refusal refused)
 settle_refused {S = S} s faults old mid new who info root refusal may went written (inr settled) refused =
     let out : (ticket_of s mid who).out ≡ true = ap (λ (t : Ticket). t.out) written.is ∙ may.swaps.out in (
       ap (λ (t : Ticket). t.out) settled ∙ out,
       inr (record { written = ticket_of s mid who; is_written = written; is = settled ∙ ap (λ (o : Bool). record (ticket_of s mid who) { settled = true; out = o }) out }),
-      refusing_stopped s mid new who SettleStep (told_refusal refusal) tt refused.0,
-      refused.1,
+      settle_stops s mid new who refusal refused,
     )
 
 -- the report of a failure, after its cause
@@ -96,7 +89,7 @@ fail_ends {S = S} s faults old mid new who info root why (units.Failed told) may
   (record { front = reported.2.front; image = reported.2.image; is = reported.2.is }, cause reported.2.front reported.2.waited),
 )
 fail_ends {S = S} s faults old mid new who info root why (units.Stopped refusal) may went cause reported =
-    ending_refused s faults old mid new who info root (FailedStep (why_of why)) refusal may went reported.0 tt (reported.1, reported.2)
+    ending_refused s faults old mid new who info root refusal may went reported.0 (end_stops s mid new who (FailedStep (why_of why)) refusal tt (reported.1, reported.2))
 
 -- a failed stage
 pub by_stage : {S : Type 0} (s : Start) (faults : S → ℕ) (mid : List Moment) (who : ℕ) (e : PutRefusal S) (stage : S) → e ≡ puts.Stage stage → IsPutRefused s faults mid who e
@@ -106,7 +99,7 @@ by_stage s faults mid who e stage is refused log waited = inl (stage, subst (IsP
 -- ---- a refusal that ends the ticket
 
 -- why a blob wasn't put, where a step was refused
-pub was_refused : {S : Type 0} (s : Start) (faults : S → ℕ) (mid : List Moment) (who : ℕ) (e : PutRefusal S) (refusal : StepRefusal) → e ≡ puts.Step refusal → IsPutRefused s faults mid who e → WasPutRefused mid who (told_refusal refusal)
+pub was_refused : {S : Type 0} (s : Start) (faults : S → ℕ) (mid : List Moment) (who : ℕ) (e : PutRefusal S) (refusal : StepRefusal) → e ≡ puts.Step refusal → IsPutRefused s faults mid who e → WasPutRefused s mid who (told_refusal refusal)
 was_refused {S = S} s faults mid who e refusal is refused = (subst (IsPutRefused {S = S} s faults mid who) is refused).0
 
 -- the ticket's last step was refused so, while others step
@@ -123,7 +116,7 @@ had_refusal s mid log who step refusal last waited =
     }
 
 -- it is the cause
-pub by_step : {S : Type 0} (s : Start) (faults : S → ℕ) (mid : List Moment) (who : ℕ) (refusal : StepRefusal) (why : Why) → failed_by refusal ≡ Some why → WasPutRefused mid who (told_refusal refusal)
+pub by_step : {S : Type 0} (s : Start) (faults : S → ℕ) (mid : List Moment) (who : ℕ) (refusal : StepRefusal) (why : Why) → failed_by refusal ≡ Some why → WasPutRefused s mid who (told_refusal refusal)
     → (log : List Moment) → Waited s mid log who → HadCause s faults log who why
 by_step s faults mid who steps.Memory why is was log waited = cc
 by_step s faults mid who steps.TurnsSpent why is was log waited = cc
@@ -146,6 +139,11 @@ by_step s faults mid who (steps.Refused (refusals.TermsSpent spent)) why is was 
 by_step s faults mid who (steps.Refused (refusals.IdsSpent next)) why is was log waited = cc
 by_step s faults mid who (steps.Refused (refusals.NoSnapshot at)) why is was log waited = cc
 by_step s faults mid who (steps.Refused (refusals.BeingDeleted op)) why is was log waited = cc
+by_step s faults mid who (steps.Refused (refusals.NoIndex place)) why is was log waited = cc
+by_step s faults mid who (steps.Refused (refusals.CloneRunning op)) why is was log waited = cc
+by_step s faults mid who (steps.Refused (refusals.RestoreRunning op)) why is was log waited = cc
+by_step s faults mid who (steps.Refused (refusals.BusyOp op)) why is was log waited = cc
+by_step s faults mid who (steps.Refused (refusals.BusyTicket ticket)) why is was log waited = cc
 
 matters_any : (work : Work) (step : Step) → is_of_latest step ≡ false → Matters work step
 matters_any (Shard index number) step other = tt
@@ -164,7 +162,7 @@ had_last log who step refusal last = record {
 }
 
 -- it shows the failure
-pub step_shown : {S F H T : Type 0} (c : Counts S F H T) (s : Start) (log : List Moment) (who : ℕ) (refusal : StepRefusal) (why : Why) → failed_by refusal ≡ Some why → WasPutRefused log who (told_refusal refusal)
+pub step_shown : {S F H T : Type 0} (c : Counts S F H T) (s : Start) (log : List Moment) (who : ℕ) (refusal : StepRefusal) (why : Why) → failed_by refusal ≡ Some why → WasPutRefused s log who (told_refusal refusal)
     → IsShown c s log who (why_of why) shows.Entry
 step_shown c s log who steps.Memory why is was = cc
 step_shown c s log who steps.TurnsSpent why is was = cc
@@ -197,26 +195,13 @@ step_shown c s log who (steps.Refused (refusals.TermsSpent spent)) why is was = 
 step_shown c s log who (steps.Refused (refusals.IdsSpent next)) why is was = cc
 step_shown c s log who (steps.Refused (refusals.NoSnapshot at)) why is was = cc
 step_shown c s log who (steps.Refused (refusals.BeingDeleted op)) why is was = cc
+step_shown c s log who (steps.Refused (refusals.NoIndex place)) why is was = cc
+step_shown c s log who (steps.Refused (refusals.CloneRunning op)) why is was = cc
+step_shown c s log who (steps.Refused (refusals.RestoreRunning op)) why is was = cc
+step_shown c s log who (steps.Refused (refusals.BusyOp op)) why is was = cc
+step_shown c s log who (steps.Refused (refusals.BusyTicket ticket)) why is was = cc
 
 -- ---- a refusal that leaves the ticket out
-
--- it is none of those that end it
-pub put_stopped : (log : List Moment) (who : ℕ) (refusal : StepRefusal) → failed_by refusal ≡ None → WasPutRefused log who (told_refusal refusal) → WasStopped log who (told_refusal refusal)
-put_stopped log who steps.Memory left was = tt
-put_stopped log who steps.TurnsSpent left was = tt
-put_stopped log who (steps.Refused refusals.DepotFault) left was = cc
-put_stopped log who (steps.Refused (refusals.NameTaken name)) left was = cc
-put_stopped log who (steps.Refused (refusals.GenerationsSpent number)) left was = cc
-put_stopped log who (steps.Refused (refusals.CleanupRunning op)) left was = (was.0, was.1, λ ends. absurd ends)
-put_stopped log who (steps.Refused (refusals.NameInUse uuid)) left was = (was.0, was.1, λ ends. absurd ends)
-put_stopped log who (steps.Refused (refusals.TooMany limit)) left was = (was.0, was.1, λ ends. absurd ends)
-put_stopped log who (steps.Refused (refusals.Deposed entry)) left was = (was.0, was.1, λ ends. absurd ends)
-put_stopped log who (steps.Refused (refusals.Aborted by)) left was = (was.0, was.1, λ ends. absurd ends)
-put_stopped log who (steps.Refused (refusals.StaleTerm own now)) left was = (was.0, was.1, λ ends. absurd ends)
-put_stopped log who (steps.Refused (refusals.TermsSpent spent)) left was = (was.0, was.1, λ ends. absurd ends)
-put_stopped log who (steps.Refused (refusals.IdsSpent next)) left was = (was.0, was.1, λ ends. absurd ends)
-put_stopped log who (steps.Refused (refusals.NoSnapshot at)) left was = (was.0, was.1, λ ends. absurd ends)
-put_stopped log who (steps.Refused (refusals.BeingDeleted op)) left was = (was.0, was.1, λ ends. absurd ends)
 
 -- a blob wasn't put, and the ticket stays out
 pub put_refused : {S : Type 0} (s : Start) (faults : S → ℕ) (old mid : List Moment) (who : ℕ) (info : SnapInfo) (root : RootData) (e : PutRefusal S) (refusal : StepRefusal) → MayWrite s (ticket_of s old who) info root → Went s old mid who
@@ -225,6 +210,5 @@ put_refused {S = S} s faults old mid who info root e refusal may went is left re
     let was : IsPutRefused {S = S} s faults mid who (puts.Step refusal) = subst (IsPutRefused {S = S} s faults mid who) is refused in (
       ap (λ (t : Ticket). t.out) went.worked.is ∙ may.swaps.out,
       inl went.worked,
-      put_stopped mid who refusal left was.0,
-      was.1,
+      put_stops s mid who refusal left was,
     )

@@ -60,6 +60,11 @@ tried_by_worked t (Err (steps.Refused (refusals.IdsSpent next))) = worked_not t
 tried_by_worked t (Err (steps.Refused (refusals.NameTaken name))) = worked_not t
 tried_by_worked t (Err (steps.Refused (refusals.NoSnapshot at))) = worked_not t
 tried_by_worked t (Err (steps.Refused (refusals.BeingDeleted op))) = worked_not t
+tried_by_worked t (Err (steps.Refused (refusals.NoIndex place))) = worked_not t
+tried_by_worked t (Err (steps.Refused (refusals.CloneRunning op))) = worked_not t
+tried_by_worked t (Err (steps.Refused (refusals.RestoreRunning op))) = worked_not t
+tried_by_worked t (Err (steps.Refused (refusals.BusyOp op))) = worked_not t
+tried_by_worked t (Err (steps.Refused (refusals.BusyTicket ticket))) = worked_not t
 
 tried_if : (latest : Bool) (t : Ticket) → Worked t (if latest then tried t else t)
 tried_if true t = tried_worked t
@@ -82,6 +87,11 @@ begun_by_worked name t (Err (steps.Refused (refusals.IdsSpent next))) = worked_n
 begun_by_worked name t (Err (steps.Refused (refusals.NameTaken taken))) = worked_not t
 begun_by_worked name t (Err (steps.Refused (refusals.NoSnapshot at))) = worked_not t
 begun_by_worked name t (Err (steps.Refused (refusals.BeingDeleted op))) = worked_not t
+begun_by_worked name t (Err (steps.Refused (refusals.NoIndex place))) = worked_not t
+begun_by_worked name t (Err (steps.Refused (refusals.CloneRunning op))) = worked_not t
+begun_by_worked name t (Err (steps.Refused (refusals.RestoreRunning op))) = worked_not t
+begun_by_worked name t (Err (steps.Refused (refusals.BusyOp op))) = worked_not t
+begun_by_worked name t (Err (steps.Refused (refusals.BusyTicket ticket))) = worked_not t
 
 -- a begin, whatever it was answered
 pub begin_went : {X : Type 0} (s : Start) (old new : List Moment) (who : ℕ) (name : BlobName) (result : Result X StepRefusal) → Outcome s old new who (BeginStep name) (λ x. WasBegun) result
@@ -109,6 +119,11 @@ left_cases gone (Err (steps.Refused (refusals.IdsSpent next))) t u h = inl h
 left_cases gone (Err (steps.Refused (refusals.NameTaken name))) t u h = inl h
 left_cases gone (Err (steps.Refused (refusals.NoSnapshot at))) t u h = inl h
 left_cases gone (Err (steps.Refused (refusals.BeingDeleted op))) t u h = inl h
+left_cases gone (Err (steps.Refused (refusals.NoIndex place))) t u h = inl h
+left_cases gone (Err (steps.Refused (refusals.CloneRunning op))) t u h = inl h
+left_cases gone (Err (steps.Refused (refusals.RestoreRunning op))) t u h = inl h
+left_cases gone (Err (steps.Refused (refusals.BusyOp op))) t u h = inl h
+left_cases gone (Err (steps.Refused (refusals.BusyTicket ticket))) t u h = inl h
 
 raised_worked : (t u : Ticket) → (u ≡ t) ⊎ HasRaised t u → Worked t u
 raised_worked t u (inl same) = worked_to t t u (worked_not t) same

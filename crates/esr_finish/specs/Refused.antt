@@ -1,7 +1,7 @@
 -- Why the unit stopped or failed, and where its ticket is then.
 use Rattle.std.specs.Prelude.{◌≡◌, ◌⊎◌, ℕ, true, false, List, Option, Some, None}
 use Rattle.esr_core.specs.World.{Ticket}
-use Rattle.esr_core.specs.Entry.{Step, SettleStep, FailedStep, FinishStep, HasEnded, Refused, Refusal, DepotFault, NameTaken, GenerationsSpent, Moment}
+use Rattle.esr_core.specs.Entry.{Step, BeginStep, CommitStep, LatestStep, RaiseStep, SettleStep, FailedStep, HasEnded, Refused, Refusal, StaleTerm, DepotFault, NameTaken, GenerationsSpent, Moment}
 use Rattle.esr_formats.specs.Names.{name_of}
 use Rattle.esr_formats.specs.Clusters.{count_of}
 use Rattle.esr_desk.specs.declared.entry.Why.{Why}
@@ -13,23 +13,33 @@ use Rattle.esr_desk.specs.declared.unit.UnitRefusal.{UnitRefusal}
 use Rattle.esr_desk.specs.declared.unit.UnitRefusal.TheVariants as units
 use Rattle.esr_desk.specs.Entries.{why_of}
 use Rattle.esr_desk.specs.Refusals.{told_refusal}
-use Rattle.esr_desk.specs.Start.{Start, formats_of, ticket_of}
+use Rattle.esr_desk.specs.Start.{Start, Legal, formats_of, ticket_of}
 use Rattle.esr_desk.specs.Outcome.{Waited, Stepped, Refusing, Spends}
 use Rattle.esr_desk.specs.Last.{IsLast}
+use Rattle.esr_desk.specs.Halts.{Halts}
 use Rattle.esr_desk.specs.Shown.{is_of_latest, Faulty, HadRefusal}
 use Rattle.esr_finish.specs.declared.refusal.PutRefusal.{PutRefusal}
 use Rattle.esr_finish.specs.declared.refusal.PutRefusal.TheVariants as puts
 use Rattle.esr_finish.specs.Ticket.{HasSettled}
 use Rattle.esr_finish.specs.Went.{Worked}
 
--- the ticket's last step was refused so, if the history tells it, and the container failed in none on `index.latest`
-abbrev pub WasPutRefused : List Moment → ℕ → Option Refusal → Type 0
-WasPutRefused log who None = Unit {0}
-WasPutRefused log who (Some refusal) = (step : Step) × IsLast log who step (Refused refusal) × (refusal ≡ DepotFault → is_of_latest step ≡ false)
+-- a step by which a blob is put, or a generation begun
+abbrev pub IsWriting : Step → Type 0
+IsWriting (BeginStep name) = Unit {0}
+IsWriting (CommitStep name) = Unit {0}
+IsWriting LatestStep = Unit {0}
+IsWriting RaiseStep = Unit {0}
+IsWriting step = ⊥
+
+-- The ticket's last step was refused so, if the history tells it: one that writes, by a legal history; and the container failed in
+-- none on `index.latest`.
+abbrev pub WasPutRefused : Start → List Moment → ℕ → Option Refusal → Type 0
+WasPutRefused s log who None = Unit {0}
+WasPutRefused s log who (Some refusal) = (step : Step) × IsLast log who step (Refused refusal) × (refusal ≡ DepotFault → is_of_latest step ≡ false) × IsWriting step × Legal s log
 
 -- why a blob wasn't put: a step was refused so, or a write to this stage has failed
 abbrev pub IsPutRefused : {S : Type 0} → Start → (S → ℕ) → List Moment → ℕ → PutRefusal S → Type 0
-IsPutRefused s faults log who (puts.Step refusal) = WasPutRefused log who (told_refusal refusal) × Spends s log refusal
+IsPutRefused s faults log who (puts.Step refusal) = WasPutRefused s log who (told_refusal refusal) × Spends s log refusal
 IsPutRefused s faults log who (puts.Stage stage) = Faulty s (faults stage)
 
 -- why a refusal before the settle ends the ticket, where it does
@@ -39,24 +49,12 @@ failed_by (steps.Refused (refusals.NameTaken name)) = Some (whys.NameTaken name)
 failed_by (steps.Refused (refusals.GenerationsSpent number)) = Some (whys.GenerationsSpent number)
 failed_by refusal = None
 
--- the container failed, or the name of the root was taken, or no generation is left
-abbrev pub EndsUnit : Refusal → Type 0
-EndsUnit DepotFault = Unit {0}
-EndsUnit (NameTaken name) = Unit {0}
-EndsUnit (GenerationsSpent pending) = Unit {0}
-EndsUnit refusal = ⊥
-
--- a settle, or the end of a ticket
-abbrev pub IsEnding : Step → Type 0
-IsEnding SettleStep = Unit {0}
-IsEnding (FailedStep why) = Unit {0}
-IsEnding FinishStep = Unit {0}
-IsEnding step = ⊥
-
--- the ticket's last step was refused so, if the history tells it; where such a refusal ends the unit, it was of a settle or of the end of the ticket
-abbrev pub WasStopped : List Moment → ℕ → Option Refusal → Type 0
-WasStopped log who None = Unit {0}
-WasStopped log who (Some refusal) = (step : Step) × IsLast log who step (Refused refusal) × (EndsUnit refusal → IsEnding step)
+-- It had to stop; or the record swap of its settle failed, after which nobody knows whether the root is the safe one; or its term
+-- is over, as its generation was to begin or its root to become the safe one. For nothing else it stops with its ticket out.
+abbrev pub Stops : Start → List Moment → ℕ → StepRefusal → Type 0
+Stops s log who (steps.Refused refusals.DepotFault) = IsLast log who SettleStep (Refused DepotFault)
+Stops s log who (steps.Refused (refusals.StaleTerm own now)) = IsLast log who RaiseStep (Refused (StaleTerm own now)) ⊎ IsLast log who SettleStep (Refused (StaleTerm own now))
+Stops s log who refusal = Halts s log who refusal
 
 -- the ticket has ended, unsettled
 pub record HasFailed (old new : Ticket) : Type 0 where
@@ -97,7 +95,7 @@ IsUnitRefused {S} s faults old new who (units.Failed why) =
     HasFailed (ticket_of s old who) (ticket_of s new who) × ((last : IsLast new who (FailedStep (why_of why)) HasEnded) × HadCause s faults last.front who why)
 IsUnitRefused {S} s faults old new who (units.Stopped refusal) =
     ((ticket_of s new who).out ≡ true) × (Worked (ticket_of s old who) (ticket_of s new who) ⊎ HasSettled (formats_of s) (ticket_of s old who) true (ticket_of s new who))
-    × WasStopped new who (told_refusal refusal) × Spends s new refusal
+    × Stops s new who refusal
 
 -- the report that the unit failed for this reason was taken, so that the ticket has ended, or it was refused
 abbrev pub Reported : Start → List Moment → List Moment → ℕ → Why → UnitRefusal → Type 0

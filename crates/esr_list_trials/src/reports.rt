@@ -1,5 +1,5 @@
 //! What lines are answered by short histories.
-use esr_desk::{Answer, Entry, EntryRefusal, Given, History, Read, Step, Why};
+use esr_desk::{Answer, BlobNames, Entry, EntryRefusal, Given, History, Read, Step, Why};
 use esr_hash::Print;
 use esr_names::{BlobName, Id, IndexName, IndexRef, IndexRefs, ShardId, SnapName};
 use esr_progress::{AskedIndices, Command};
@@ -338,6 +338,43 @@ fn a_rule_is_told(rt: HostRuntime) -> Result<(), Fail> {
 }
 
 #[test]
+fn what_was_in_the_way_is_told(rt: HostRuntime) -> Result<(), Fail> {
+    let cases = [
+        (
+            "clone s1 c1 logs other",
+            EntryRefusal::NoIndex { place: 1 },
+            "clone c1 refused no-index other",
+        ),
+        (
+            "delete s1",
+            EntryRefusal::CloneRunning { op: 2 },
+            "delete refused clone-running 2",
+        ),
+        (
+            "delete s1",
+            EntryRefusal::RestoreRunning { op: 3 },
+            "delete refused restore-running 3",
+        ),
+        (
+            "cleanup",
+            EntryRefusal::BusyOp { op: 1 },
+            "cleanup refused busy op 1",
+        ),
+        (
+            "cleanup",
+            EntryRefusal::BusyTicket { ticket: 7 },
+            "cleanup refused busy ticket 7",
+        ),
+    ];
+    for (line, refusal, expected) in cases {
+        let text = printed(rt.alloc(), line, &Reply::Refused { refusal })?;
+        let expected = format!(in rt.alloc(); "1 {expected}\n")?;
+        assert_eq!(rt; text.as_slice(), expected.as_bytes());
+    }
+    Ok(())
+}
+
+#[test]
 fn spent_numbers_are_told(rt: HostRuntime) -> Result<(), Fail> {
     let next = Id::new(1, 2);
     let number = i64::MAX;
@@ -634,5 +671,105 @@ fn the_last_line_names_the_first_damage_by_line(rt: HostRuntime) -> Result<(), F
         "1 restore s1 failed damaged index-8\n2 restore s1 failed damaged index-7\ndamaged index-8\n";
     assert_eq!(rt; text.as_slice(), expected.as_bytes());
     assert_eq!(rt; status, 4);
+    Ok(())
+}
+
+/// A `list` of nothing.
+fn push_list(alloc: Global, history: &mut History) -> Result<(), Fail> {
+    let snapshots = RootSnaps::new(alloc);
+    let answer = Answer::Looked {
+        snapshots,
+        safe: -1,
+    };
+    history.push(Entry {
+        who: 0,
+        step: Step::Look,
+        answer,
+    })?;
+    Ok(())
+}
+
+/// A step of a verification.
+fn push_read(history: &mut History, read: Read, answer: Answer) -> Result<(), Fail> {
+    history.push(Entry {
+        who: 0,
+        step: Step::Read { read },
+        answer,
+    })?;
+    Ok(())
+}
+
+/// The steps of a verification with one test blob, up to its end.
+fn push_tests(alloc: Global, history: &mut History) -> Result<(), Fail> {
+    let first = Id::new(1, 7);
+    let name = BlobName::TestMaster(first);
+    push_read(history, Read::DrawTest, Answer::Drawn { first })?;
+    push_read(history, Read::BeginTest { name }, Answer::Begun)?;
+    push_read(history, Read::CommitTest { name }, Answer::Done)?;
+    push_read(history, Read::Blob { name }, Answer::Fetched)?;
+    let mut names = BlobNames::new(alloc);
+    names.push(name)?;
+    push_read(history, Read::RemoveTests { names }, Answer::Removed)
+}
+
+const VERIFY: &[u8] = b"list\nverify\nlist\n";
+
+#[test]
+fn a_verification_is_answered_by_its_end(rt: HostRuntime) -> Result<(), Fail> {
+    let alloc = rt.alloc();
+    let script = script_read(alloc, VERIFY)?;
+    let (depot, why) = (Some(Why::Depot), None);
+    let cases = [
+        (why, 0, "1 list 0\n2 verify ok\n3 list 0\n"),
+        (depot, 1, "1 list 0\n2 verify failed depot\n3 list 0\n"),
+    ];
+    for (why, expected_status, expected) in cases {
+        let mut history = History::new(alloc);
+        push_list(alloc, &mut history)?;
+        push_tests(alloc, &mut history)?;
+        match why {
+            Some(why) => push_end(&mut history, 0, Read::Failed { why })?,
+            None => push_end(&mut history, 0, Read::Verified)?,
+        }
+        push_list(alloc, &mut history)?;
+        let (text, status) = reported(alloc, &script, &history)?;
+        assert_eq!(rt; text.as_slice(), expected.as_bytes());
+        assert_eq!(rt; status, expected_status);
+    }
+    Ok(())
+}
+
+#[test]
+fn a_verification_that_draws_no_id_is_told_as_spent(rt: HostRuntime) -> Result<(), Fail> {
+    let alloc = rt.alloc();
+    let script = script_read(alloc, VERIFY)?;
+    let next = Id::new(1, 7);
+    let refusal = EntryRefusal::IdsSpent { next };
+    let why = Why::IdsSpent { next };
+    let mut history = History::new(alloc);
+    push_list(alloc, &mut history)?;
+    push_read(&mut history, Read::DrawTest, Answer::Refused { refusal })?;
+    push_end(&mut history, 0, Read::Failed { why })?;
+    push_list(alloc, &mut history)?;
+    let (text, status) = reported(alloc, &script, &history)?;
+    let expected = "1 list 0\n2 verify failed spent\n3 list 0\nnumbers spent\n";
+    assert_eq!(rt; text.as_slice(), expected.as_bytes());
+    assert_eq!(rt; status, 7);
+    Ok(())
+}
+
+#[test]
+fn a_verification_is_over_where_a_step_is_deposed(rt: HostRuntime) -> Result<(), Fail> {
+    let alloc = rt.alloc();
+    let script = script_read(alloc, VERIFY)?;
+    let refusal = EntryRefusal::Deposed { entry: 7 };
+    let mut history = History::new(alloc);
+    push_list(alloc, &mut history)?;
+    push_tests(alloc, &mut history)?;
+    push_read(&mut history, Read::Verified, Answer::Refused { refusal })?;
+    let (text, status) = reported(alloc, &script, &history)?;
+    let expected = "1 list 0\n2 verify deposed\ndeposed\n";
+    assert_eq!(rt; text.as_slice(), expected.as_bytes());
+    assert_eq!(rt; status, 3);
     Ok(())
 }

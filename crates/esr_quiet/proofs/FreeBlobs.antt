@@ -10,7 +10,7 @@ use Rattle.esr_core.specs.Generations.{Base, ShardLaw}
 use Rattle.esr_core.specs.Restores.{IsTestOf}
 use Rattle.esr_core.specs.Steps.{IsOut, SwapCommits, ShardCommits, MayCommit}
 use Rattle.esr_core.specs.Ids.{Law}
-use Rattle.esr_core.proofs.Adds.{at_was}
+use Rattle.esr_core.proofs.Adds.{at_kept, at_was}
 use Rattle.esr_core.proofs.Evolving.{pending_out}
 use Rattle.esr_core.proofs.Queues.{was_in, split_at}
 use Rattle.esr_core.proofs.Reading.{some_same, none_some}
@@ -173,9 +173,11 @@ module _ (f : Formats) (w : World) (shelf : List Shelved) (law : Law f w shelf) 
               let was = used_was s.ref.id s.number g used in
               l.free.unlisted o op s g held list there m waits was (reads_was s.ref.id s.number g held was reads) in_list;
           tests = λ id m drawn test p. elim (at_old m p.0 p.1) [ inl is ↦ absurd (no_test f w shelf law l k t out name bytes may id (subst (IsTestOf id) is test)) | inr old ↦ l.free.tests id m drawn test (p.0, old) ];
+          wrote = λ m b h left. at_kept f w.blobs name bytes named absent [] m b (l.free.wrote m b h left);
         };
         no_deletes = λ j u uuids plan e work. elim (was_in w.tickets k v j u e) [
           | inl x ↦ l.no_deletes k t uuids plan out.there (sym like.work ∙ ap (λ (y : Ticket). y.work) x.1 ∙ work)
           | inr x ↦ l.no_deletes j u uuids plan x.1 work
         ];
+        wrote_tests = l.wrote_tests;
       }

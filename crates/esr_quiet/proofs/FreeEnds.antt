@@ -1,8 +1,8 @@
 -- What is live after a shard is done, and after a settle.
 use Rattle.std.proofs.Common.{◌≡◌, ◌≢◌, ◌⊎◌, ℕ, List, [], ◌∷◌, false, true≢false, Option, Some, None, map, refl, sym, ap, ◌∙◌, subst, inl, inr}
 use Rattle.std.specs.FinMap as fin
-use Rattle.esr_model.specs.Names.{BlobName, ShardIndex}
-use Rattle.esr_model.specs.Values.{Bytes, Has, SnapList, ShardFiles, ShardResult, Formats}
+use Rattle.esr_model.specs.Names.{ShardIndex}
+use Rattle.esr_model.specs.Values.{Has, SnapList, ShardFiles, ShardResult, Formats}
 use Rattle.esr_model.specs.Shelf.{Shelved, Create}
 use Rattle.esr_model.specs.Finalize.{Finalizes, finalized_root, done_at}
 use Rattle.esr_model.specs.Image.{Blobs, At, Reads}
@@ -22,7 +22,7 @@ use Rattle.esr_core.proofs.Results.{done_same, found_done}
 use Rattle.esr_core.proofs.SettleShards.{of_swap}
 use Rattle.esr_core.proofs.Staging.{larger_is}
 use Rattle.esr_quiet.proofs.FreeFrame.{IsFree, ListsDone, Waited, framed}
-use Rattle.esr_quiet.proofs.FreeParts.{tests_was, follows_same, came_put, own_put, WaitedBy, waited_as, waited_map, live_left}
+use Rattle.esr_quiet.proofs.FreeParts.{Back, tests_was, follows_same, came_put, own_put, WaitedBy, waited_as, waited_map, live_left}
 
 -- ---- a shard is done
 
@@ -131,14 +131,14 @@ module _ (f : Formats) (size : ℕ) (w : World) (shelf : List Shelved) (law : La
         ]
   ]
 
-  pub free_done : (blobs : Blobs) → ((name : BlobName) (b : Bytes) → At f blobs name b → At f w.blobs name b)
+  pub free_done : (blobs : Blobs) → Back f blobs w.blobs
       → IsFree f (record w { blobs = blobs; ops = fin.insert w.ops t.op (record op { shards = map (marked k (Done r)) op.shards }); tickets = fin.insert w.tickets k (record t { out = false }); completed = completing w.completed t.op (map (marked k (Done r)) op.shards) })
   free_done blobs back =
       framed f w (record new { blobs = blobs }) l
       (came_put f w k t (record t { out = false }) out.there (follows_same f w t (record t { out = false }) refl refl (λ e. absurd (true≢false (sym e))) (λ name h. h) refl refl refl refl))
       (own_put w.tickets l.free.own_root k t (record t { out = false }) out.there refl)
       (λ p q s e m waits. inl (waited_map w t.op op op_now (marked k (Done r)) op_there refl refl (λ x x_there x_waits. marked_waits k r x x_waits) p q s e m waits))
-      live_done back (tests_was f w l blobs back)
+      live_done back.were (tests_was f w l blobs back)
 
 -- ---- a settle
 

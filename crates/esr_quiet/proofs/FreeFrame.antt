@@ -5,8 +5,8 @@ use Rattle.std.specs.FinMap.{FinMap}
 use Rattle.std.specs.FinMap as fin
 use Rattle.esr_model.specs.Names.{BlobName, Root, ShardSnap, ShardIndex}
 use Rattle.esr_model.specs.Values.{Bytes, Has, SnapList, ShardFiles, Formats}
-use Rattle.esr_model.specs.Image.{At, Present, Reads}
-use Rattle.esr_core.specs.World.{World, Op, ShardWork, Pending, Shard, Deleting, Ticket, Swap}
+use Rattle.esr_model.specs.Image.{Blobs, At, Present, Reads}
+use Rattle.esr_core.specs.World.{World, Op, ShardWork, Pending, Shard, Deleting, Ticket, Swap, Caller}
 use Rattle.esr_core.specs.Generations.{IsLive}
 use Rattle.esr_core.specs.Ready.{Waits}
 use Rattle.esr_core.specs.Restores.{IsTestOf}
@@ -19,9 +19,21 @@ use Rattle.esr_quiet.proofs.FreeNames.{commits_no_test}
 abbrev pub NoDeletes : World → Type 0
 NoDeletes w = (k : ℕ) (t : Ticket) (uuids : List ℕ) (plan : Option Swap) → fin.get w.tickets k ≡ Some t → t.work ≡ Deleting uuids plan → ⊥
 
+-- what a verification wrote and hasn't removed stands
+abbrev pub IsStanding : Formats → Blobs → Caller → Type 0
+IsStanding f blobs caller = (name : BlobName) (bytes : Bytes) → Has caller.wrote (name, bytes) → (Has caller.removed name → ⊥) → At f blobs name bytes
+
+-- what it wrote is test blobs
+abbrev pub WroteTests : Caller → Type 0
+WroteTests caller = (name : BlobName) (bytes : Bytes) → Has caller.wrote (name, bytes) → (id : ℕ) × IsTestOf id name
+
+abbrev pub Tests : Formats → Blobs → Caller → Type 0
+Tests f blobs caller = AreOwnTests f blobs caller × IsStanding f blobs caller × WroteTests caller
+
 pub record IsFree (f : Formats) (w : World) : Type 0 where
   pub free : Free f w
   pub no_deletes : NoDeletes w
+  pub wrote_tests : WroteTests w.caller
 
 -- each ticket raised a root of its own
 abbrev pub OwnRoots : FinMap nat_cmp Ticket → Type 0
@@ -74,7 +86,7 @@ module _ (f : Formats) (w v : World) (l : IsFree f w)
     (tickets : (k : ℕ) (t : Ticket) → fin.get v.tickets k ≡ Some t → Came f w k t) (own : OwnRoots v.tickets)
     (ops : (o : ℕ) (op : Op) (s : ShardWork) → fin.get v.ops o ≡ Some op → Has op.shards s → Waits s.state → Waited w op s ⊎ IsNewShard f w op s)
     (live : (index number g : ℕ) → IsLive v.root v.ops index number g → IsLive w.root w.ops index number g ⊎ ListsDone f w v index number g)
-    (blobs : (name : BlobName) (b : Bytes) → ((id : ℕ) → IsTestOf id name → ⊥) → At f v.blobs name b → At f w.blobs name b) (tests : AreOwnTests f v.blobs v.caller) where
+    (blobs : (name : BlobName) (b : Bytes) → ((id : ℕ) → IsTestOf id name → ⊥) → At f v.blobs name b → At f w.blobs name b) (tests : Tests f v.blobs v.caller) where
   was : (name : BlobName) → ((id : ℕ) → IsTestOf id name → ⊥) → Present f v.blobs name → Present f w.blobs name
   was name no_test p = (p.0, blobs name p.0 no_test p.1)
 
@@ -131,17 +143,18 @@ module _ (f : Formats) (w v : World) (l : IsFree f w)
   pub framed_aside : IsFree f v
   framed_aside =
       record {
-        free = record { shards = shards_on; pending = pending_on; roots = roots_on; own_root = own; unlisted = unlisted_on; tests = tests };
+        free = record { shards = shards_on; pending = pending_on; roots = roots_on; own_root = own; unlisted = unlisted_on; tests = tests.0; wrote = tests.1 };
         no_deletes = λ k t uuids plan there work. elim (tickets k t there) [
           | inl h ↦ l.no_deletes k h.0 uuids plan h.1 (sym h.2.work ∙ work)
           | inr new ↦ new.no_delete uuids plan work
         ];
+        wrote_tests = tests.2;
       }
 
 module _ (f : Formats) (w v : World) (l : IsFree f w)
     (tickets : (k : ℕ) (t : Ticket) → fin.get v.tickets k ≡ Some t → Came f w k t) (own : OwnRoots v.tickets)
     (ops : (o : ℕ) (op : Op) (s : ShardWork) → fin.get v.ops o ≡ Some op → Has op.shards s → Waits s.state → Waited w op s ⊎ IsNewShard f w op s)
     (live : (index number g : ℕ) → IsLive v.root v.ops index number g → IsLive w.root w.ops index number g ⊎ ListsDone f w v index number g)
-    (blobs : (name : BlobName) (b : Bytes) → At f v.blobs name b → At f w.blobs name b) (tests : AreOwnTests f v.blobs v.caller) where
+    (blobs : (name : BlobName) (b : Bytes) → At f v.blobs name b → At f w.blobs name b) (tests : Tests f v.blobs v.caller) where
   pub framed : IsFree f v
   framed = framed_aside f w v l tickets own ops live (λ name b no_test h. blobs name b h) tests

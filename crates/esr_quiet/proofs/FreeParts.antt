@@ -1,5 +1,5 @@
 -- What a step changes of tickets and ops, as far as what is free reads it.
-use Rattle.std.proofs.Common.{◌≡◌, ◌≢◌, ℕ, true, Option, Some, None, map, refl, sym, ap, ◌∙◌, subst, inl, inr}
+use Rattle.std.proofs.Common.{◌≡◌, ◌≢◌, ℕ, List, [], true, Option, Some, None, map, refl, sym, ap, ◌∙◌, subst, inl, inr}
 use Rattle.std.specs.Ordering.{nat_cmp}
 use Rattle.std.specs.FinMap.{FinMap}
 use Rattle.std.specs.FinMap as fin
@@ -13,24 +13,44 @@ use Rattle.esr_core.specs.Allowed.{SameBlobs}
 use Rattle.esr_core.specs.After.{blobs_in}
 use Rattle.esr_core.proofs.Queues.{was_in, left_in}
 use Rattle.esr_core.proofs.Reading.{none_some, Has-mapped}
+use Rattle.esr_core.specs.Restores.{IsTestOf}
 use Rattle.esr_quiet.specs.Free.{AreOwnTests}
-use Rattle.esr_quiet.proofs.FreeFrame.{IsFree, OwnRoots, Follows, IsNewTicket, Came, Waited}
+use Rattle.esr_quiet.proofs.FreeFrame.{IsFree, Tests, OwnRoots, Follows, IsNewTicket, Came, Waited}
 use Rattle.esr_quiet.proofs.FreeNames.{commits_same}
 
--- the blobs after a step that leaves them
-pub at_same : (f : Formats) (w : World) (image : Option Image) → SameBlobs w image → (name : BlobName) (b : Bytes) → At f (blobs_in image w.blobs) name b → At f w.blobs name b
-at_same f w None same name b h = h
-at_same f w (Some i) same name b h = subst (λ x. At f x name b) same h
+-- ---- the blobs after a step
+
+-- what is there now was there before
+abbrev pub Were : Formats → Blobs → Blobs → Type 0
+Were f now blobs = (name : BlobName) (b : Bytes) → At f now name b → At f blobs name b
+
+-- and a test blob that was there is there
+pub record Back (f : Formats) (now blobs : Blobs) : Type 0 where
+  pub were : Were f now blobs
+  pub tests : (id : ℕ) (name : BlobName) (b : Bytes) → IsTestOf id name → At f blobs name b → At f now name b
+
+-- where the step leaves them
+pub at_same : (f : Formats) (w : World) (image : Option Image) → SameBlobs w image → Back f (blobs_in image w.blobs) w.blobs
+at_same f w None same = record { were = λ name b h. h; tests = λ id name b test h. h }
+at_same f w (Some i) same = record { were = λ name b h. subst (λ x. At f x name b) same h; tests = λ id name b test h. subst (λ x. At f x name b) (sym same) h }
 
 -- ---- test blobs
 
 -- what is there was there
-pub tests_was : (f : Formats) (w : World) → IsFree f w → (blobs : Blobs) → ((name : BlobName) (b : Bytes) → At f blobs name b → At f w.blobs name b) → AreOwnTests f blobs w.caller
-tests_was f w l blobs back id name drawn test p = l.free.tests id name drawn test (p.0, back name p.0 p.1)
+pub own_were : (f : Formats) (w : World) → IsFree f w → (blobs : Blobs) → Were f blobs w.blobs → AreOwnTests f blobs w.caller
+own_were f w l blobs were id name drawn test p = l.free.tests id name drawn test (p.0, were name p.0 p.1)
+
+pub tests_was : (f : Formats) (w : World) → IsFree f w → (blobs : Blobs) → Back f blobs w.blobs → Tests f blobs w.caller
+tests_was f w l blobs back =
+    (own_were f w l blobs back.were, λ name b h left. let t = l.wrote_tests name b h in back.tests t.0 name b t.1 (l.free.wrote name b h left), l.wrote_tests)
 
 -- no verification is open
-pub tests_none : (f : Formats) (blobs : Blobs) (caller : Caller) → caller.drawn ≡ None → AreOwnTests f blobs caller
-tests_none f blobs caller none id name drawn test p = absurd (none_some id (sym none ∙ drawn))
+pub tests_none : (f : Formats) (blobs : Blobs) (caller : Caller) → caller.drawn ≡ None → caller.wrote ≡ [] → Tests f blobs caller
+tests_none f blobs caller none empty =
+    (λ id name drawn test p. absurd (none_some id (sym none ∙ drawn)), λ name b h left. absurd (unwritten name b h), λ name b h. absurd (unwritten name b h))
+  where
+    unwritten : (name : BlobName) (b : Bytes) → Has caller.wrote (name, b) → ⊥
+    unwritten name b h = subst (λ (list : List (BlobName × Bytes)). Has list (name, b)) empty h
 
 -- ---- tickets
 

@@ -18,28 +18,34 @@ use Rattle.esr_core.specs.Steps.{Largest, Removes, with_ticket, settled, given, 
 use Rattle.esr_core.specs.Turns.{plain_ticket, fails}
 use Rattle.esr_core.specs.Ids.{Law}
 use Rattle.esr_core.specs.Entry.{AskedIndex, Snapshot, Restore, Given, GivenShard, GivenFinalize, GivenDrop, GivenRestore, GivenClone, GivenDelete, GivenCleanup, Why, Read, ReadBlob, RestoredShard, CommitTest, RemoveTests, ReadFails, Step, AskStep, CommitStep, LatestStep, ReadStep, DepotFault, Reply, WasDone, WasReplaced, WasFetched, WasAbsent, WasRemoved, HasEnded, Refused, Moment}
-use Rattle.esr_core.specs.After.{asked, asked_op, taken_by, taken_shard, taken_restore, taken_restore_shard, read_told, shard_over, read_over, caller_told, with_given, change, committing, fetching, told_blob, done_of, done_by, failed_of, failed_by, is_stale, settled_of, dropped_of, tried, blobs_in, after}
+use Rattle.esr_core.specs.After.{asked, asked_op, taken_by, taken_shard, taken_restore, taken_restore_shard, read_told, shard_over, read_over, caller_told, caller_wrote, with_given, change, committing, fetching, told_blob, done_of, done_by, failed_of, failed_by, is_stale, settled_of, dropped_of, tried, blobs_in, after}
 use Rattle.esr_core.specs.Allowed as allowed
 use Rattle.esr_core.specs.Allowed.{latest_text, Told, SameBlobs, Adds, Accepts, Gives, Draws, Commits, Raises, Settles, Fails, Dones, Drops, IsOwnTest, RestoreAllows, OpeningRestore, NotListed, NamedByDelete, FullOfRestores, ReadAllows, ReadFound, ReadMissing, ReadFault, RestoringShard, ReaderFailing, CheckingAll, CheckFailing, VerifyAllows, DrawingTest, TestSpent, BeginningTest, BeginTestFails, CommittingTest, TestTaken, CommitTestFails, RemovingTests, RemoveTestsFails, VerifyingAll, VerifyFailing, Allows, Allowed}
 use Rattle.esr_core.proofs.Accepting.{in_all}
-use Rattle.esr_core.proofs.Adds.{at_was}
+use Rattle.std.specs.Cmp.Lexicographic.{nat_list_cmp_total}
+use Rattle.esr_core.proofs.Adds.{text_one, at_kept, at_new, at_was}
 use Rattle.esr_core.proofs.Evolving.{out_pending, pending_done, failed_is, failed_goes}
 use Rattle.esr_core.proofs.Histories.{deposed_stays}
 use Rattle.esr_core.proofs.LatestPut.{at_back}
+use Rattle.esr_core.proofs.Maps.{get_other, texts_same}
 use Rattle.esr_core.proofs.Moments.{moment, settled_plain}
 use Rattle.esr_core.proofs.Ops.{live_was}
 use Rattle.esr_core.proofs.Queues.{was_in}
-use Rattle.esr_core.proofs.Reading.{none_some, some_same}
+use Rattle.esr_core.proofs.Reading.{none_some, some_same, Has-left, Has-right}
 use Rattle.esr_core.proofs.TakeShard.{given_is, goes_on}
 use Rattle.esr_quiet.specs.Free.{AreOwnTests}
-use Rattle.esr_quiet.proofs.FreeFrame.{IsFree, Follows, IsNewTicket, Waited, IsNewShard, ListsDone, framed, framed_aside}
+use Rattle.esr_quiet.proofs.FreeFrame.{IsFree, Tests, Follows, IsNewTicket, Waited, IsNewShard, ListsDone, framed, framed_aside}
 use Rattle.esr_quiet.proofs.FreeNames.{commits_same, one_place, snap_alone, drawn_new, test_id_below}
-use Rattle.esr_quiet.proofs.FreeParts.{at_same, tests_was, tests_none, follows_same, came_all, came_put, came_new, own_insert, own_put, own_new, waited_all, WaitedBy, waited_as, waited_map, waited_left, live_left}
+use Rattle.esr_quiet.proofs.FreeParts.{Were, Back, at_same, own_were, tests_was, tests_none, follows_same, came_all, came_put, came_new, own_insert, own_put, own_new, waited_all, WaitedBy, waited_as, waited_map, waited_left, live_left}
 use Rattle.esr_quiet.proofs.FreeBlobs.{used_below, free_committed}
 use Rattle.esr_quiet.proofs.FreeEnds.{free_done, live_settled}
 
-abbrev Back : Formats → Blobs → Blobs → Type 0
-Back f now blobs = (name : BlobName) (b : Bytes) → At f now name b → At f blobs name b
+-- the blobs after `index.latest` is replaced
+latest_back : (f : Formats) (blobs now : Blobs) (bytes : Bytes) → now ≡ fin.insert blobs (f.names.text Latest) bytes → ReadsBack f.names Latest → Back f now blobs
+latest_back f blobs now bytes is named = record {
+  were = at_back f blobs now (inr (bytes, is, named));
+  tests = λ id name b test h. (ap (λ (x : Blobs). fin.get x (f.names.text name)) is ∙ get_other nat_list_cmp_total texts_same blobs (f.names.text Latest) bytes (f.names.text name) (λ same. h.1.1 (text_one f name Latest h.1.0 named same)) ∙ h.0, h.1);
+}
 
 -- a shard that waits after a failure is as it was
 fails_waits : (k : ℕ) (z : ShardWork) → Waits (fails k z).state → WaitedBy z (fails k z)
@@ -60,25 +66,25 @@ module _ (f : Formats) (w : World) (shelf : List Shelved) (law : Law f w shelf) 
   -- ---- what is read stays
 
   kept : (blobs : Blobs) → Back f blobs w.blobs → IsFree f (record w { blobs = blobs })
-  kept blobs back = framed f w (record w { blobs = blobs }) l (came_all f w) l.free.own_root waited (λ i n g h. inl h) back (tests_was f w l blobs back)
+  kept blobs back = framed f w (record w { blobs = blobs }) l (came_all f w) l.free.own_root waited (λ i n g h. inl h) back.were (tests_was f w l blobs back)
 
   -- restores, their tickets and what who 0 has done may change, and more numbers be given
-  beside : (restores : FinMap nat_cmp Restoring) (readers : FinMap nat_cmp Reader) (next_op next_ticket : ℕ) (blobs : Blobs) → Back f blobs w.blobs → (caller : Caller) → AreOwnTests f blobs caller
+  beside : (restores : FinMap nat_cmp Restoring) (readers : FinMap nat_cmp Reader) (next_op next_ticket : ℕ) (blobs : Blobs) → Were f blobs w.blobs → (caller : Caller) → Tests f blobs caller
       → IsFree f (record w { restores = restores; readers = readers; next_op = next_op; next_ticket = next_ticket; blobs = blobs; caller = caller })
-  beside restores readers next_op next_ticket blobs back caller tests =
-      framed f w (record w { restores = restores; readers = readers; next_op = next_op; next_ticket = next_ticket; blobs = blobs; caller = caller }) l (came_all f w) l.free.own_root waited (λ i n g h. inl h) back tests
+  beside restores readers next_op next_ticket blobs were caller tests =
+      framed f w (record w { restores = restores; readers = readers; next_op = next_op; next_ticket = next_ticket; blobs = blobs; caller = caller }) l (came_all f w) l.free.own_root waited (λ i n g h. inl h) were tests
 
-  called : (blobs : Blobs) → Back f blobs w.blobs → (caller : Caller) → AreOwnTests f blobs caller → IsFree f (record w { blobs = blobs; caller = caller })
-  called blobs back caller tests = beside w.restores w.readers w.next_op w.next_ticket blobs back caller tests
+  called : (blobs : Blobs) → Were f blobs w.blobs → (caller : Caller) → Tests f blobs caller → IsFree f (record w { blobs = blobs; caller = caller })
+  called blobs were caller tests = beside w.restores w.readers w.next_op w.next_ticket blobs were caller tests
 
   elected : (blobs : Blobs) → Back f blobs w.blobs → IsFree f (record w { term = suc w.term; next_id = first_id (suc w.term); blobs = blobs })
-  elected blobs back = framed f w (record w { term = suc w.term; next_id = first_id (suc w.term); blobs = blobs }) l (came_all f w) l.free.own_root waited (λ i n g h. inl h) back (tests_was f w l blobs back)
+  elected blobs back = framed f w (record w { term = suc w.term; next_id = first_id (suc w.term); blobs = blobs }) l (came_all f w) l.free.own_root waited (λ i n g h. inl h) back.were (tests_was f w l blobs back)
 
   -- ---- a ticket that goes on
 
   put : (k : ℕ) (t v : Ticket) → fin.get w.tickets k ≡ Some t → Follows f w t v → v.raised ≡ t.raised → (blobs : Blobs) → Back f blobs w.blobs → IsFree f (record w { tickets = fin.insert w.tickets k v; blobs = blobs })
   put k t v there like same blobs back =
-      framed f w (record w { tickets = fin.insert w.tickets k v; blobs = blobs }) l (came_put f w k t v there like) (own_put w.tickets l.free.own_root k t v there same) waited (λ i n g h. inl h) back (tests_was f w l blobs back)
+      framed f w (record w { tickets = fin.insert w.tickets k v; blobs = blobs }) l (came_put f w k t v there like) (own_put w.tickets l.free.own_root k t v there same) waited (λ i n g h. inl h) back.were (tests_was f w l blobs back)
 
   changed : (k : ℕ) (t : Ticket) → fin.get w.tickets k ≡ Some t → (g : Ticket → Ticket) → Follows f w t (g t) → (g t).raised ≡ t.raised → (blobs : Blobs) → Back f blobs w.blobs → IsFree f (record (change w k g) { blobs = blobs })
   changed k t there g like same blobs back = subst (λ o. IsFree f (record (with_given w k g o) { blobs = blobs })) (sym there) (put k t (g t) there like same blobs back)
@@ -109,7 +115,7 @@ module _ (f : Formats) (w : World) (shelf : List Shelved) (law : Law f w shelf) 
       → IsFree f (record (change w k (λ (x : Ticket). record x { first = w.next_id; drawn = n })) { next_id = w.next_id + n; blobs = blobs })
   draws k n t there blobs back =
       subst (λ o. IsFree f (record (with_given w k (λ (x : Ticket). record x { first = w.next_id; drawn = n }) o) { next_id = w.next_id + n; blobs = blobs })) (sym there)
-      (framed f w (record w { tickets = fin.insert w.tickets k drew; next_id = w.next_id + n; blobs = blobs }) l (came_put f w k t drew there like) (own_put w.tickets l.free.own_root k t drew there refl) waited (λ i m g h. inl h) back (tests_was f w l blobs back))
+      (framed f w (record w { tickets = fin.insert w.tickets k drew; next_id = w.next_id + n; blobs = blobs }) l (came_put f w k t drew there like) (own_put w.tickets l.free.own_root k t drew there refl) waited (λ i m g h. inl h) back.were (tests_was f w l blobs back))
     where
       drew : Ticket
       drew = record t { first = w.next_id; drawn = n }
@@ -130,7 +136,7 @@ module _ (f : Formats) (w : World) (shelf : List Shelved) (law : Law f w shelf) 
   raises k n r blobs back =
       subst (λ o. IsFree f (record (with_given w k (λ (x : Ticket). record x { raised = Some w.pending }) o) { pending = suc w.pending; blobs = blobs })) (sym r.may.out.there)
       (framed f w (record w { tickets = fin.insert w.tickets k (record r.may.t { raised = Some w.pending }); pending = suc w.pending; blobs = blobs }) l
-      (came_put f w k r.may.t (record r.may.t { raised = Some w.pending }) r.may.out.there like) (own_insert w.tickets l.free.own_root k (record r.may.t { raised = Some w.pending }) alone) waited (λ i m g h. inl h) back (tests_was f w l blobs back))
+      (came_put f w k r.may.t (record r.may.t { raised = Some w.pending }) r.may.out.there like) (own_insert w.tickets l.free.own_root k (record r.may.t { raised = Some w.pending }) alone) waited (λ i m g h. inl h) back.were (tests_was f w l blobs back))
     where
       one : (m : ℕ) → ◌≡◌ {A = Option ℕ} (Some w.pending) (Some m) → w.pending ≡ m
       one m e = some_same _ _ e
@@ -157,7 +163,7 @@ module _ (f : Formats) (w : World) (shelf : List Shelved) (law : Law f w shelf) 
   -- the shards of a new op are pending, under an id that is next
   asks : (name : Bytes) (indices : List AskedIndex) (time : ℕ) (blobs : Blobs) → Back f blobs w.blobs → IsFree f (record (asked w (Snapshot name indices time)) { blobs = blobs; caller = no_caller })
   asks name indices time blobs back =
-      framed f w (record (asked w (Snapshot name indices time)) { blobs = blobs; caller = no_caller }) l (came_all f w) l.free.own_root ops live back (tests_none f blobs no_caller refl)
+      framed f w (record (asked w (Snapshot name indices time)) { blobs = blobs; caller = no_caller }) l (came_all f w) l.free.own_root ops live back.were (tests_none f blobs no_caller refl refl)
     where
       all_pending_new : (s : ShardWork) → Has (asked_op w name indices time).shards s → s.state ≡ Pending
       all_pending_new s m = (in_all w indices (suc w.next_id) s m).0
@@ -185,7 +191,7 @@ module _ (f : Formats) (w : World) (shelf : List Shelved) (law : Law f w shelf) 
   -- a new ticket of no shard
   gives_plain : (v : Ticket) → IsNewTicket f w v → (blobs : Blobs) → Back f blobs w.blobs → IsFree f (record w { tickets = fin.insert w.tickets w.next_ticket v; next_ticket = suc w.next_ticket; blobs = blobs })
   gives_plain v new blobs back =
-      framed f w (record w { tickets = fin.insert w.tickets w.next_ticket v; next_ticket = suc w.next_ticket; blobs = blobs }) l (came_new f w w.next_ticket v new) (own_new w.tickets l.free.own_root w.next_ticket v new.unraised) waited (λ i n g h. inl h) back (tests_was f w l blobs back)
+      framed f w (record w { tickets = fin.insert w.tickets w.next_ticket v; next_ticket = suc w.next_ticket; blobs = blobs }) l (came_new f w w.next_ticket v new) (own_new w.tickets l.free.own_root w.next_ticket v new.unraised) waited (λ i n g h. inl h) back.were (tests_was f w l blobs back)
 
   -- a pending shard is given, on the largest live generation
   gives_shard : (o : ℕ) (op : Op) (s : ShardWork) (base : Option ℕ) → fin.get w.ops o ≡ Some op → Has op.shards s → s.state ≡ Pending → Largest w s.ref.id s.number base → (blobs : Blobs) → Back f blobs w.blobs
@@ -195,7 +201,7 @@ module _ (f : Formats) (w : World) (shelf : List Shelved) (law : Law f w shelf) 
       (came_new f w w.next_ticket (shard_ticket w o op s base) new) (own_new w.tickets l.free.own_root w.next_ticket (shard_ticket w o op s base) refl)
       (λ p q z e z_there waits. inl (waited_map w o op (record op { shards = map g op.shards }) g there refl refl by p q z e z_there waits))
       (λ i n gen h. inl (live_was f (HeldIn f w) w.root w.ops o op there g (goes_on w.next_ticket s.ref.id s.number) op.failed i n gen h))
-      back (tests_was f w l blobs back)
+      back.were (tests_was f w l blobs back)
     where
       g : ShardWork → ShardWork
       g = given w.next_ticket s.ref.id s.number
@@ -245,7 +251,7 @@ module _ (f : Formats) (w : World) (shelf : List Shelved) (law : Law f w shelf) 
   gives o (GivenRestore index number uuid) g blobs back =
       subst (λ x. IsFree f (record (taken_restore w o index number x) { blobs = blobs })) (sym g.ready.there)
       (subst (λ x. IsFree f (record (taken_restore_shard w o g.r x) { blobs = blobs })) (sym g.found)
-      (beside (shard_handed w o g.r g.s).restores (shard_handed w o g.r g.s).readers w.next_op (suc w.next_ticket) blobs back w.caller (tests_was f w l blobs back)))
+      (beside (shard_handed w o g.r g.s).restores (shard_handed w o g.r g.s).readers w.next_op (suc w.next_ticket) blobs back.were w.caller (tests_was f w l blobs back)))
   gives o (GivenClone index number source base) g blobs back = absurd g
   gives o (GivenDelete uuids) g blobs back = absurd g
   gives o GivenCleanup g blobs back = absurd g
@@ -264,7 +270,7 @@ module _ (f : Formats) (w : World) (shelf : List Shelved) (law : Law f w shelf) 
       (came_put f w k t (record t { out = false }) there (ended t)) (own_put w.tickets l.free.own_root k t (record t { out = false }) there refl)
       (λ p q z h z_there waits. inl (waited_map w t.op op (record op { shards = map (fails k) op.shards; failed = true }) (fails k) e refl refl (λ x x_there x_waits. fails_waits k x x_waits) p q z h z_there waits))
       (λ i n g h. inl (live_was f (HeldIn f w) w.root w.ops t.op op e (fails k) (failed_goes k) true i n g h))
-      back (tests_was f w l blobs back)
+      back.were (tests_was f w l blobs back)
 
   fails_step : (k : ℕ) (c : Fails w k) (blobs : Blobs) → Back f blobs w.blobs → IsFree f (record (failed_of w k (fin.get w.tickets k)) { blobs = blobs })
   fails_step k c blobs back = subst (λ x. IsFree f (record (failed_of w k x) { blobs = blobs })) (sym c.out.there) (by (is_stale w c.t c.t.work))
@@ -281,7 +287,7 @@ module _ (f : Formats) (w : World) (shelf : List Shelved) (law : Law f w shelf) 
       (own_put w.tickets l.free.own_root k s.t (record s.t { settled = true }) s.may.out.there refl)
       (λ p q z h z_there waits. inl (waited_left w s.t.op p q z h z_there waits))
       (λ i n g h. inl (live_settled f w shelf law k s i n g h))
-      back (tests_was f w l blobs back))
+      back.were (tests_was f w l blobs back))
 
   drops_step : (k : ℕ) (d : Drops w k) (blobs : Blobs) → Back f blobs w.blobs → IsFree f (record (dropped_of w k (fin.get w.tickets k)) { blobs = blobs })
   drops_step k d blobs back =
@@ -290,19 +296,19 @@ module _ (f : Formats) (w : World) (shelf : List Shelved) (law : Law f w shelf) 
       (came_put f w k d.may.t (record d.may.t { out = false }) d.may.out.there (ended d.may.t)) (own_put w.tickets l.free.own_root k d.may.t (record d.may.t { out = false }) d.may.out.there refl)
       (λ p q z h z_there waits. inl (waited_left w d.may.t.op p q z h z_there waits))
       (λ i n g h. inl (live_left w.root w.ops d.may.t.op i n g h))
-      back (tests_was f w l blobs back))
+      back.were (tests_was f w l blobs back))
 
   -- ---- what is read
 
   tells : (k : ℕ) (name : BlobName) (bytes : Option Bytes) (q : Option Reader) (blobs : Blobs) → Back f blobs w.blobs → IsFree f (record (read_told w k name bytes q) { blobs = blobs })
   tells k name bytes None blobs back = kept blobs back
   tells k name None (Some q) blobs back = kept blobs back
-  tells k name (Some b) (Some q) blobs back = beside w.restores (fin.insert w.readers k (read_more q name b)) w.next_op w.next_ticket blobs back w.caller (tests_was f w l blobs back)
+  tells k name (Some b) (Some q) blobs back = beside w.restores (fin.insert w.readers k (read_more q name b)) w.next_op w.next_ticket blobs back.were w.caller (tests_was f w l blobs back)
 
   ends_shard : (k : ℕ) (state : ReadState) (q : Reader) (r : Option Restoring) (blobs : Blobs) → Back f blobs w.blobs → IsFree f (record (shard_over w k state q r) { blobs = blobs })
   ends_shard k state q None blobs back = kept blobs back
   ends_shard k state q (Some r) blobs back =
-      beside (put_restore w.restores q.op (record r { shards = map (restoring.ended k state) r.shards })) (fin.insert w.readers k (record q { out = false })) w.next_op w.next_ticket blobs back w.caller (tests_was f w l blobs back)
+      beside (put_restore w.restores q.op (record r { shards = map (restoring.ended k state) r.shards })) (fin.insert w.readers k (record q { out = false })) w.next_op w.next_ticket blobs back.were w.caller (tests_was f w l blobs back)
 
   ends_read : (k : ℕ) (state : ReadState) (q : Option Reader) (blobs : Blobs) → Back f blobs w.blobs → IsFree f (record (read_over w k state q) { blobs = blobs })
   ends_read k state None blobs back = kept blobs back
@@ -313,22 +319,32 @@ module _ (f : Formats) (w : World) (shelf : List Shelved) (law : Law f w shelf) 
   -- no blob has the id that it draws
   draws_test : (blobs : Blobs) → Back f blobs w.blobs → IsFree f (record w { next_id = suc w.next_id; blobs = blobs; caller = record w.caller { drawn = Some w.next_id } })
   draws_test blobs back =
-      framed f w (record w { next_id = suc w.next_id; blobs = blobs; caller = record w.caller { drawn = Some w.next_id } }) l (came_all f w) l.free.own_root waited (λ i n g h. inl h) back new
+      framed f w (record w { next_id = suc w.next_id; blobs = blobs; caller = record w.caller { drawn = Some w.next_id } }) l (came_all f w) l.free.own_root waited (λ i n g h. inl h) back.were (new, (tests_was f w l blobs back).1, l.wrote_tests)
     where
       new : AreOwnTests f blobs (record w.caller { drawn = Some w.next_id })
       new id name drawn test p =
-          let below : id < w.next_id = test_id_below id name w.next_id test (law.ids.blobs name (p.0, back name p.0 p.1)) in
+          let below : id < w.next_id = test_id_below id name w.next_id test (law.ids.blobs name (p.0, back.were name p.0 p.1)) in
           let same : w.next_id ≡ id = some_same _ _ drawn in
           absurd (omega (arith, below, same))
 
-  commits_test : (name : BlobName) (bytes : Bytes) → IsOwnTest f w name → (blobs : Blobs) → Adds f w name bytes blobs → IsFree f (record w { doomed = name ∷ w.doomed; blobs = blobs; caller = record w.caller { committed = name ∷ w.caller.committed } })
+  commits_test : (name : BlobName) (bytes : Bytes) → IsOwnTest f w name → (blobs : Blobs) → Adds f w name bytes blobs
+      → IsFree f (record w { doomed = name ∷ w.doomed; blobs = blobs; caller = record w.caller { committed = name ∷ w.caller.committed; wrote = (name, bytes) ∷ w.caller.wrote } })
   commits_test name bytes own blobs adds =
-      framed_aside f w (record w { doomed = name ∷ w.doomed; blobs = blobs; caller = record w.caller { committed = name ∷ w.caller.committed } }) l (came_all f w) l.free.own_root waited (λ i n g h. inl h)
-      (λ m b no_test h. elim (was m b h) [ inl e ↦ absurd (no_test own.id (subst (IsTestOf own.id) (sym e) own.test)) | inr old ↦ old ])
-      (λ id m drawn test p. elim (was m p.0 p.1) [ inl e ↦ inl (sym e) | inr old ↦ inr (l.free.tests id m drawn test (p.0, old)) ])
+      framed_aside f w (record w { doomed = name ∷ w.doomed; blobs = blobs; caller = record w.caller { committed = name ∷ w.caller.committed; wrote = (name, bytes) ∷ w.caller.wrote } }) l (came_all f w) l.free.own_root waited (λ i n g h. inl h)
+      (λ m b no_test h. elim (was m b h) [ inl e ↦ absurd (no_test own.id (subst (IsTestOf own.id) (sym e) own.test)) | inr old ↦ old ]) (
+        λ id m drawn test p. elim (was m p.0 p.1) [ inl e ↦ inl (sym e) | inr old ↦ inr (l.free.tests id m drawn test (p.0, old)) ],
+        λ m b h left. elim h [
+          | inl e ↦ subst (λ (x : BlobName × Bytes). At f blobs x.0 x.1) e (now name bytes (at_new f w.blobs name bytes own.stored adds.0 []))
+          | inr old ↦ now m b (at_kept f w.blobs name bytes own.stored adds.0 [] m b (l.free.wrote m b old left))
+        ],
+        λ m b h. elim h [ inl e ↦ (own.id, subst (λ (x : BlobName × Bytes). IsTestOf own.id x.0) e own.test) | inr old ↦ l.wrote_tests m b old ],
+      )
     where
       was : (m : BlobName) (b : Bytes) → At f blobs m b → (m ≡ name) ⊎ At f w.blobs m b
       was m b h = elim (at_was f w.blobs name bytes own.stored adds.0 [] m b (subst (λ (x : Blobs). At f x m b) adds.1 h)) [ inl e ↦ inl e.0 | inr e ↦ inr e ]
+
+      now : (m : BlobName) (b : Bytes) → At f (fin.insert w.blobs (f.names.text name) bytes) m b → At f blobs m b
+      now m b h = subst (λ (x : Blobs). At f x m b) (sym adds.1) h
 
 -- ---- each answer, where the image is told
 
@@ -345,7 +361,7 @@ module _ (f : Formats) (size : ℕ) (w : World) (shelf : List Shelved) (law : La
   replaces : (k : ℕ) (image : Option Image) (t : Ticket) → fin.get w.tickets k ≡ Some t → (n : ℕ) → ReadsBack f.names Latest → Told image (λ blobs. blobs ≡ fin.insert w.blobs (f.names.text Latest) (latest_text n)) → (i : Image) → image ≡ Some i
       → IsFree f (after f w (moment k LatestStep WasReplaced image))
   replaces k None t there n named puts i told = absurd (none_some i told)
-  replaces k (Some x) t there n named puts i told = tries f w shelf law l k t there x.blobs (at_back f w.blobs x.blobs (inr (latest_text n, puts, named)))
+  replaces k (Some x) t there n named puts i told = tries f w shelf law l k t there x.blobs (latest_back f w.blobs x.blobs (latest_text n) puts named)
 
   -- what is told beside blobs that stay
   told_same : (image : Option Image) (P : Blobs → Type 0) → ((blobs : Blobs) → P blobs → blobs ≡ w.blobs) → Told image P → SameBlobs w image
@@ -363,21 +379,21 @@ module _ (f : Formats) (size : ℕ) (w : World) (shelf : List Shelved) (law : La
   still image same = kept f w shelf law l (blobs_in image w.blobs) (at_same f w image same)
 
   -- what who 0 has done begins anew
-  anew : (image : Option Image) → SameBlobs w image → (caller : Caller) → caller.drawn ≡ None → IsFree f (record w { blobs = blobs_in image w.blobs; caller = caller })
-  anew image same caller none = called f w shelf law l (blobs_in image w.blobs) (at_same f w image same) caller (tests_none f (blobs_in image w.blobs) caller none)
+  anew : (image : Option Image) → SameBlobs w image → (caller : Caller) → caller.drawn ≡ None → caller.wrote ≡ [] → IsFree f (record w { blobs = blobs_in image w.blobs; caller = caller })
+  anew image same caller none empty = called f w shelf law l (blobs_in image w.blobs) (at_same f w image same).were caller (tests_none f (blobs_in image w.blobs) caller none empty)
 
   asks_restore : (name place : Bytes) (reply : Reply) (image : Option Image) → RestoreAllows f w name reply image → SameBlobs w image → IsFree f (after f w (moment 0 (AskStep (Restore name place)) reply image))
   asks_restore name place reply image (OpeningRestore o uuid indices im acc) same =
-      beside f w shelf law l (put_restore w.restores w.next_op (restore_of uuid place indices)) w.readers (suc w.next_op) w.next_ticket (blobs_in im w.blobs) (at_same f w im same) no_caller (tests_none f (blobs_in im w.blobs) no_caller refl)
-  asks_restore name place reply image (NotListed im none) same = anew im same no_caller refl
-  asks_restore name place reply image (NamedByDelete uuid d im listed named) same = anew im same no_caller refl
-  asks_restore name place reply image (FullOfRestores uuid im listed spared full) same = anew im same no_caller refl
+      beside f w shelf law l (put_restore w.restores w.next_op (restore_of uuid place indices)) w.readers (suc w.next_op) w.next_ticket (blobs_in im w.blobs) (at_same f w im same).were no_caller (tests_none f (blobs_in im w.blobs) no_caller refl refl)
+  asks_restore name place reply image (NotListed im none) same = anew im same no_caller refl refl
+  asks_restore name place reply image (NamedByDelete uuid d im listed named) same = anew im same no_caller refl refl
+  asks_restore name place reply image (FullOfRestores uuid im listed spared full) same = anew im same no_caller refl refl
 
   -- it goes on
-  goes : (image : Option Image) → SameBlobs w image → (caller : Caller) → AreOwnTests f (blobs_in image w.blobs) caller → IsFree f (record w { blobs = blobs_in image w.blobs; caller = caller })
-  goes image same caller tests = called f w shelf law l (blobs_in image w.blobs) (at_same f w image same) caller tests
+  goes : (image : Option Image) → SameBlobs w image → (caller : Caller) → Tests f (blobs_in image w.blobs) caller → IsFree f (record w { blobs = blobs_in image w.blobs; caller = caller })
+  goes image same caller tests = called f w shelf law l (blobs_in image w.blobs) (at_same f w image same).were caller tests
 
-  told_own : (blobs : Blobs) (name : BlobName) (bytes : Option Bytes) → AreOwnTests f blobs w.caller → AreOwnTests f blobs (caller_told w.caller name bytes)
+  told_own : (blobs : Blobs) (name : BlobName) (bytes : Option Bytes) → Tests f blobs w.caller → Tests f blobs (caller_told w.caller name bytes)
   told_own blobs name None own = own
   told_own blobs name (Some b) own = own
 
@@ -394,7 +410,7 @@ module _ (f : Formats) (size : ℕ) (w : World) (shelf : List Shelved) (law : La
   read_done (suc k) files bytes image same = ends_read f w shelf law l (suc k) (Restored files bytes) (fin.get w.readers (suc k)) (blobs_in image w.blobs) (at_same f w image same)
 
   read_failed : (k : ℕ) (why : Why) (image : Option Image) → SameBlobs w image → IsFree f (after f w (moment k (ReadStep (ReadFails why)) HasEnded image))
-  read_failed zero why image same = anew image same no_caller refl
+  read_failed zero why image same = anew image same no_caller refl refl
   read_failed (suc k) why image same = ends_read f w shelf law l (suc k) (NotRestored why) (fin.get w.readers (suc k)) (blobs_in image w.blobs) (at_same f w image same)
 
   reads : (k : ℕ) (read : Read) (reply : Reply) (image : Option Image) → reply ≢ Refused DepotFault → ReadAllows f w k read reply image → SameBlobs w image → IsFree f (after f w (moment k (ReadStep read) reply image))
@@ -403,23 +419,29 @@ module _ (f : Formats) (size : ℕ) (w : World) (shelf : List Shelved) (law : La
   reads k read reply image calm (ReadFault j name im stored by) same = absurd (calm refl)
   reads k read reply image calm (RestoringShard j files bytes im q out done) same = read_done j files bytes im same
   reads k read reply image calm (ReaderFailing j why im q out) same = read_failed j why im same
-  reads k read reply image calm (CheckingAll snapshots blobs im checks) same = anew im same no_caller refl
-  reads k read reply image calm (CheckFailing why im looked) same = anew im same no_caller refl
+  reads k read reply image calm (CheckingAll snapshots blobs im checks) same = anew im same no_caller refl refl
+  reads k read reply image calm (CheckFailing why im looked) same = anew im same no_caller refl refl
 
   adds_test : (name : BlobName) (bytes : Bytes) (image : Option Image) (i : Image) → image ≡ Some i → IsOwnTest f w name → Told image (Adds f w name bytes) → IsFree f (after f w (moment 0 (ReadStep (CommitTest name)) WasDone image))
   adds_test name bytes None i told own adds = absurd (none_some i told)
-  adds_test name bytes (Some x) i told own adds = commits_test f w shelf law l name bytes own x.blobs adds
+  adds_test name bytes (Some x) i told own adds =
+      let there : fin.get x.blobs (f.names.text name) ≡ Some bytes = ap (λ (blobs : Blobs). fin.get blobs (f.names.text name)) adds.1 ∙ (at_new f w.blobs name bytes own.stored adds.0 []).0 in
+      subst (λ (o : Option Bytes). IsFree f (record w { doomed = name ∷ w.doomed; blobs = x.blobs; caller = caller_wrote w.caller name o })) (sym there) (commits_test f w shelf law l name bytes own x.blobs adds)
 
   removes_tests : (names : List BlobName) (image : Option Image) (i : Image) → image ≡ Some i → Told image (λ blobs. Removes f w.blobs blobs names × ((name : BlobName) → Has names name → fin.get blobs (f.names.text name) ≡ None))
       → IsFree f (after f w (moment 0 (ReadStep (RemoveTests names)) WasRemoved image))
   removes_tests names None i told left = absurd (none_some i told)
   removes_tests names (Some x) i told left =
-      let back : Back f x.blobs w.blobs = λ name b h. (left.0.left (f.names.text name) b h.0, h.1) in
-      called f w shelf law l x.blobs back (record w.caller { removed = names ++ w.caller.removed }) (tests_was f w l x.blobs back)
+      let were : Were f x.blobs w.blobs = λ name b h. (left.0.left (f.names.text name) b h.0, h.1) in
+      called f w shelf law l x.blobs were (record w.caller { removed = names ++ w.caller.removed }) (
+        own_were f w l x.blobs were,
+        λ m b h unremoved. left.0.stays m b (l.free.wrote m b h (λ gone. unremoved (Has-right names w.caller.removed m gone))) (λ now. unremoved (Has-left names w.caller.removed m now)),
+        l.wrote_tests,
+      )
 
   verifies : (read : Read) (reply : Reply) (image : Option Image) → reply ≢ Refused DepotFault → (i : Image) → image ≡ Some i → VerifyAllows f w read reply image → IsFree f (after f w (moment 0 (ReadStep read) reply image))
   verifies read reply image calm i told (DrawingTest im idle fits same) = draws_test f w shelf law l (blobs_in im w.blobs) (at_same f w im same)
-  verifies read reply image calm i told (TestSpent im idle spent same) = still im same
+  verifies read reply image calm i told (TestSpent im idle spent same) = goes im same (record w.caller { spent = true }) (tests_was f w l (blobs_in im w.blobs) (at_same f w im same))
   verifies read reply image calm i told (BeginningTest name im own same) = still im same
   verifies read reply image calm i told (BeginTestFails name im own same) = absurd (calm refl)
   verifies read reply image calm i told (CommittingTest name bytes im own new adds) = adds_test name bytes im i told own adds
@@ -427,8 +449,8 @@ module _ (f : Formats) (size : ℕ) (w : World) (shelf : List Shelved) (law : La
   verifies read reply image calm i told (CommitTestFails name bytes im own leaves) = absurd (calm refl)
   verifies read reply image calm i told (RemovingTests names im may left) = removes_tests names im i told left
   verifies read reply image calm i told (RemoveTestsFails names im may left) = absurd (calm refl)
-  verifies read reply image calm i told (VerifyingAll im done same) = anew im same no_caller refl
-  verifies read reply image calm i told (VerifyFailing why id im drawn same) = anew im same no_caller refl
+  verifies read reply image calm i told (VerifyingAll im done same) = anew im same no_caller refl refl
+  verifies read reply image calm i told (VerifyFailing why im begun same) = anew im same no_caller refl refl
 
   free_by : (who : ℕ) (step : Step) (reply : Reply) (image : Option Image) → reply ≢ Refused DepotFault → (i : Image) → image ≡ Some i → Allows f size w who step reply image → IsFree f (after f w (moment who step reply image))
   free_by who step reply image calm i told (allowed.Accepting name indices time o im acc same) = asks f w shelf law l name indices time (blobs_in im w.blobs) (at_same f w im same)
@@ -454,14 +476,14 @@ module _ (f : Formats) (size : ℕ) (w : World) (shelf : List Shelved) (law : La
       changed f w shelf law l k c.t c.out.there (λ (t : Ticket). record t { out = false }) (ended f w shelf law l c.t) refl (blobs_in im w.blobs) (at_same f w im same)
   free_by who step reply image calm i told (allowed.Dropping k im c same) = drops_step f w shelf law l k c (blobs_in im w.blobs) (at_same f w im same)
   free_by who step reply image calm i told (allowed.Electing im room same) = elected f w shelf law l (blobs_in im w.blobs) (at_same f w im same)
-  free_by who step reply image calm i told (allowed.Looking im same) = anew im same (record no_caller { looked = true }) refl
+  free_by who step reply image calm i told (allowed.Looking im same) = anew im same (record no_caller { looked = true }) refl refl
   free_by who step reply image calm i told (allowed.AskingRestore name place rep im h same) = asks_restore name place rep im h same
   free_by who step reply image calm i told (allowed.Reading k read rep im h same) = reads k read rep im calm h same
   free_by who step reply image calm i told (allowed.Verifying read rep im h) = verifies read rep im calm i told h
-  free_by who step reply image calm i told (allowed.Cleaning c d x im recorded there clean same) = anew im same no_caller refl
-  free_by who step reply image calm i told (allowed.Used name indices time uuid im clear is same) = anew im same no_caller refl
-  free_by who step reply image calm i told (allowed.Full name indices time im clear unused full same) = anew im same no_caller refl
-  free_by who step reply image calm i told (allowed.AskSpent name indices time im clear unused room spent same) = anew im same no_caller refl
+  free_by who step reply image calm i told (allowed.Cleaning c d x im recorded there clean same) = anew im same no_caller refl refl
+  free_by who step reply image calm i told (allowed.Used name indices time uuid im clear is same) = anew im same no_caller refl refl
+  free_by who step reply image calm i told (allowed.Full name indices time im clear unused full same) = anew im same no_caller refl refl
+  free_by who step reply image calm i told (allowed.AskSpent name indices time im clear unused room spent same) = anew im same no_caller refl refl
   free_by who step reply image calm i told (allowed.DrawSpent k n im may spent same) = still im same
   free_by who step reply image calm i told (allowed.RaiseStale k im may apart same) = still im same
   free_by who step reply image calm i told (allowed.SettleStale k n t s im may apart same) = still im same

@@ -1,7 +1,9 @@
 pub mod Maps
 pub mod Prefixes
 pub mod Others
+pub mod Callers
 pub mod Numbers
+pub mod Terms
 pub mod Quiet
 pub mod Passing
 pub mod Bases

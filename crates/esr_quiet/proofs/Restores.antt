@@ -53,7 +53,7 @@ read_tells f w who read reply image (CheckFailing why im looked) = λ some. absu
 read_tells f w who read reply image a = tt
 
 verify_tells : (f : Formats) (w : World) (read : Read) (reply : Reply) (image : Option Image) → VerifyAllows f w read reply image → Tells f w 0 (ReadStep read) reply image
-verify_tells f w read reply image (VerifyFailing why id im drawn same) = λ some. absurd (omega (arith, some))
+verify_tells f w read reply image (VerifyFailing why im begun same) = λ some. absurd (omega (arith, some))
 verify_tells f w read reply image a = tt
 
 tells : (f : Formats) (size : ℕ) (w : World) (who : ℕ) (step : Step) (reply : Reply) (image : Option Image) → Allows f size w who step reply image → Tells f w who step reply image

@@ -100,7 +100,7 @@ module _ (s : Start) (f : Formats) (size : ℕ) (w : World) (q : IsQuiet s w) (f
   verifies read reply image i told calm unspent new (RemovingTests names im may left) = tt
   verifies read reply image i told calm unspent new (RemoveTestsFails names im may left) = absurd (calm refl)
   verifies read reply image i told calm unspent new (VerifyingAll im done same) = tt
-  verifies read reply image i told calm unspent new (VerifyFailing why id im drawn same) = tt
+  verifies read reply image i told calm unspent new (VerifyFailing why im begun same) = tt
 
   ruled : (who : ℕ) (step : Step) (reply : Reply) (image : Option Image) (i : Image) → image ≡ Some i → (reply ≢ Refused DepotFault) → (IsSpent reply → ⊥) → IsNew w who step → IsNewTest w step → Allows f size w who step reply image → IsRuled step reply
   ruled who step reply image i told calm unspent new new_test (allowed.AskingRestore name place rep im h same) = asks_restore name place rep im h

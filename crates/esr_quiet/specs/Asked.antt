@@ -1,16 +1,20 @@
 -- What was asked at lines, by a history.
-use Rattle.std.specs.Prelude.{◌≡◌, ℕ, ◌<◌, ◌==◌, Bool, true, false, ◌&&◌, not, if◌then◌else◌, List, [], ◌∷◌, ◌++◌}
+use Rattle.std.specs.Prelude.{◌≡◌, ℕ, ◌<◌, ◌==◌, Bool, true, false, ◌&&◌, if◌then◌else◌, List, [], ◌∷◌, ◌++◌}
 use Rattle.esr_model.specs.Values.{Bytes, Has}
-use Rattle.esr_core.specs.Entry.{AskedIndex, Snapshot, Step, AskStep, TakeStep, Entry, Moment}
+use Rattle.esr_core.specs.Entry.{AskedIndex, Snapshot, DrawTest, Step, AskStep, TakeStep, ReadStep, Entry, Moment}
 use Rattle.esr_desk.specs.Start.{Start, Legal}
 
-abbrev pub is_take : Step → Bool
-is_take TakeStep = true
-is_take step = false
+-- A line asks for the step: it takes no unit, and is no further step of a check or of a verification. What a verification asks for is
+-- its draw, with which it begins.
+abbrev pub is_line_ask : Step → Bool
+is_line_ask TakeStep = false
+is_line_ask (ReadStep DrawTest) = true
+is_line_ask (ReadStep read) = false
+is_line_ask step = true
 
--- a step of who 0 that takes no unit: what a line asks for
+-- a step of who 0 for which a line asks
 abbrev pub is_asked : Entry → Bool
-is_asked e = (e.who == 0) && not (is_take e.step)
+is_asked e = (e.who == 0) && is_line_ask e.step
 
 -- what was asked, in order
 abbrev pub asked_steps : List Moment → List Step

@@ -1,12 +1,12 @@
 -- What histories ask, as they go on.
-use Rattle.std.specs.Prelude.{◌≡◌, ◌≢◌, ℕ, ◌==◌, Bool, true, false, ◌&&◌, not, if◌then◌else◌, List, [], ◌∷◌, ◌++◌, Option, Some, None}
+use Rattle.std.specs.Prelude.{◌≡◌, ◌≢◌, ℕ, ◌==◌, Bool, true, false, ◌&&◌, if◌then◌else◌, List, [], ◌∷◌, ◌++◌, Option, Some, None}
 use Rattle.std.proofs.Common.{append-nil, append_assoc, refl, sym, ap, ◌∙◌}
 use Rattle.std.proofs.lemmas.Bool.{eqb-true}
 use Rattle.esr_core.specs.Entry.{Step, TakeStep, Reply, Refused, Refusal, Moment}
 use Rattle.esr_desk.specs.Start.{Start}
 use Rattle.esr_desk.specs.Outcome.{Stepped, Refusing}
 use Rattle.esr_desk.specs.Grew.{AllOf, GrewBy}
-use Rattle.esr_quiet.specs.Asked.{is_take, is_asked, asked_steps, GrewAsking}
+use Rattle.esr_quiet.specs.Asked.{is_line_ask, is_asked, asked_steps, GrewAsking}
 
 one_append : (m : Moment) (a b : List Moment) (t : Bool) → asked_steps (a ++ b) ≡ asked_steps a ++ asked_steps b
     → (if t then m.entry.step ∷ asked_steps (a ++ b) else asked_steps (a ++ b)) ≡ (if t then m.entry.step ∷ asked_steps a else asked_steps a) ++ asked_steps b
@@ -28,7 +28,7 @@ is_nobody who some = go (who == 0) refl
 pub none_asked : (who : ℕ) (more : List Moment) → who ≢ 0 → AllOf who more → asked_steps more ≡ []
 none_asked who [] some own = refl
 none_asked who (m ∷ more) some own =
-    ap (λ (b : Bool). if b && not (is_take m.entry.step) then m.entry.step ∷ asked_steps more else asked_steps more) (ap (λ (k : ℕ). k == 0) own.0 ∙ is_nobody who some) ∙ none_asked who more some own.1
+    ap (λ (b : Bool). if b && is_line_ask m.entry.step then m.entry.step ∷ asked_steps more else asked_steps more) (ap (λ (k : ℕ). k == 0) own.0 ∙ is_nobody who some) ∙ none_asked who more some own.1
 
 pub asking_none : (s : Start) (log : List Moment) → GrewAsking s [] log log
 asking_none s log = record { more = []; is = sym (append-nil log); legal = λ was. was; asked = λ alone. refl }
@@ -44,13 +44,9 @@ asking_on s first second old mid new a b = record {
 pub asking_by : (s : Start) (who : ℕ) (old new : List Moment) → who ≢ 0 → GrewBy s who old new → GrewAsking s [] old new
 asking_by s who old new some g = record { more = g.more; is = g.is; legal = g.legal; asked = λ alone. none_asked who g.more some (g.own alone) }
 
--- a step of who 0 asks for itself, unless it takes a unit
+-- a step of who 0 asks for itself where a line asks for it: what takes a unit, or is a further step of a verification, asks for nothing
 abbrev pub asks_of : Step → List Step
-asks_of step = if is_take step then [] else step ∷ []
-
-one_asked : (step : Step) (t : Bool) → (if not t then step ∷ [] else []) ≡ (if t then [] else step ∷ [])
-one_asked step true = refl
-one_asked step false = refl
+asks_of step = if is_line_ask step then step ∷ [] else []
 
 pub asking_stepped : (s : Start) (old new : List Moment) (step : Step) (reply : Reply) → Stepped s old new 0 step reply → GrewAsking s (asks_of step) old new
 asking_stepped s old new step reply h =
@@ -59,7 +55,7 @@ asking_stepped s old new step reply h =
       more = h.waited.others ++ last ∷ [];
       is = h.is ∙ ap (λ (log : List Moment). log ++ last ∷ []) h.waited.grew ∙ append_assoc old h.waited.others (last ∷ []);
       legal = λ was. h.legal;
-      asked = λ alone. ap (λ (others : List Moment). asked_steps (others ++ last ∷ [])) (h.waited.nobody alone) ∙ one_asked step (is_take step);
+      asked = λ alone. ap (λ (others : List Moment). asked_steps (others ++ last ∷ [])) (h.waited.nobody alone);
     }
 
 -- a step that was refused asks for itself where the history tells it

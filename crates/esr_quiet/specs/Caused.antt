@@ -5,7 +5,7 @@ use Rattle.esr_desk.specs.declared.fault.Fault.{Fault}
 use Rattle.esr_desk.specs.Start.{Start}
 use Rattle.esr_desk.specs.Shown.{Counts, IsReport, IsShownAt}
 use Rattle.esr_reading.specs.Shown as reading
-use Rattle.esr_reading.specs.AllShown.{IsReadReport, IsReadShownAt}
+use Rattle.esr_reading.specs.Reports.{IsReadReport, IsReadShownAt}
 
 -- the cause of each failure that is told was shown when it was told
 abbrev pub AreCaused : {S F H T : Type 0} → Counts S F H T → Start → List Moment → List (Fault S F H T) → Type 0

@@ -2,7 +2,7 @@
 use Rattle.std.specs.Prelude.{◌≡◌, ◌≢◌, ◌⊎◌, ℕ, true, Some}
 use Rattle.std.specs.FinMap as fin
 use Rattle.esr_model.specs.Names.{BlobName, Root, ShardSnap, ShardIndex}
-use Rattle.esr_model.specs.Values.{Has, SnapList, ShardFiles, Formats}
+use Rattle.esr_model.specs.Values.{Bytes, Has, SnapList, ShardFiles, Formats}
 use Rattle.esr_model.specs.Image.{Blobs, At, Present, Reads}
 use Rattle.esr_core.specs.World.{World, Op, ShardWork, Pending, Shard, Ticket, Caller}
 use Rattle.esr_core.specs.Generations.{IsLive}
@@ -40,3 +40,5 @@ pub record Free (f : Formats) (w : World) : Type 0 where
   pub unlisted : (o : ℕ) (op : Op) (s : ShardWork) (g : ℕ) (held : ShardFiles) (l : SnapList) → fin.get w.ops o ≡ Some op → Has op.shards s → Waits s.state → IsInUse w s.ref.id s.number g
       → Reads (At f w.blobs) (ShardIndex s.ref.id s.number g) f.shard_index held → Has held.snapshots l → l.uuid ≢ op.uuid
   pub tests : AreOwnTests f w.blobs w.caller
+  -- what a verification wrote and hasn't removed stands
+  pub wrote : (name : BlobName) (bytes : Bytes) → Has w.caller.wrote (name, bytes) → (Has w.caller.removed name → ⊥) → At f w.blobs name bytes

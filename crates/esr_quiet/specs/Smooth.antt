@@ -7,7 +7,7 @@ use Rattle.esr_model.specs.Shelf.{Shelved}
 use Rattle.esr_model.specs.Image.{Image}
 use Rattle.esr_model.specs.Kept.{Kept}
 use Rattle.esr_core.specs.World.{Opened}
-use Rattle.esr_core.specs.Entry.{Restore, AskStep, FailedStep, Why, ElectStep, ReadStep, CommitTest, ReadFails, Reply, HasEnded, Refused, DepotFault, IdsSpent, GenerationsSpent, TermsSpent, Moment}
+use Rattle.esr_core.specs.Entry.{Restore, AskStep, FailedStep, Why, ElectStep, Read, ReadStep, DrawTest, CommitTest, ReadFails, Reply, HasEnded, Refused, DepotFault, IdsSpent, GenerationsSpent, TermsSpent, Moment}
 use Rattle.esr_core.specs.History.{AllKnown, AreTold, AreHonest}
 use Rattle.esr_desk.specs.Start.{Start, formats_of, world_of, Legal}
 use Rattle.esr_desk.specs.Once.{AreOnce}
@@ -67,3 +67,11 @@ NoneUnrestored log = (m : Moment) (why : Why) → Has log m → 1 ≤ m.entry.wh
 -- no restore was asked
 abbrev pub NoneAsked : List Moment → Type 0
 NoneAsked log = (m : Moment) (name place : Bytes) → Has log m → m.entry.step ≢ AskStep (Restore name place)
+
+-- who 0 was to draw an id, with which a verification begins
+abbrev pub HasDrawn : List Moment → Type 0
+HasDrawn log = (m : Moment) × Has log m × (m.entry.who ≡ 0) × (m.entry.step ≡ ReadStep DrawTest)
+
+-- Each check or verification that ended came after a draw. So none ended where nobody drew.
+abbrev pub AreDrawn : List Moment → Type 0
+AreDrawn log = (front back : List Moment) (m : Moment) (read : Read) → log ≡ front ++ m ∷ back → m.entry.who ≡ 0 → m.entry.step ≡ ReadStep read → m.entry.reply ≡ HasEnded → HasDrawn front

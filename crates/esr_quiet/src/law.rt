@@ -1,6 +1,10 @@
 //! Laws of histories over quiet objects.
-ghost use Rattle.std.specs.Prelude.{◌≡◌, ◌≢◌, ◌∷◌, ◌++◌, [], ℕ, List, true, Some};
-ghost use Rattle.esr_core.specs.Entry.{TakeStep, Given, Gave, Moment};
+ghost use Rattle.std.specs.Prelude.{◌≡◌, ◌≢◌, ◌⊎◌, ◌∷◌, ◌++◌, [], ℕ, List, true, Some};
+ghost use Rattle.esr_model.specs.Values.{Formats};
+ghost use Rattle.esr_core.specs.World.{World};
+ghost use Rattle.esr_core.specs.Entry.{Read, TakeStep, ReadStep, Given, Gave, Moment};
+ghost use Rattle.esr_core.specs.After.{after};
+ghost use Rattle.esr_core.specs.Allowed.{Allowed};
 ghost use Rattle.esr_desk.specs.declared.fault.Fault.{Fault};
 ghost use Rattle.esr_desk.specs.Start.{Start, Legal, ticket_of};
 ghost use Rattle.esr_desk.specs.Shown.{Counts};
@@ -50,6 +54,12 @@ pub fn other_tickets_stay()
     ensures gives { (s : Start) (log : List Moment) (m : Moment) (ticket op : ℕ) (unit : Given) (k : ℕ) → Legal s (log ++ m ∷ []) → m.entry.step ≡ TakeStep → m.entry.reply ≡ Gave ticket op unit → k ≢ ticket → ticket_of s (log ++ m ∷ []) k ≡ ticket_of s log k }
     ensures nothing { (s : Start) (log : List Moment) (m : Moment) (k : ℕ) → Legal s (log ++ m ∷ []) → m.entry.who ≡ 0 → ((ticket op : ℕ) (unit : Given) → m.entry.reply ≢ Gave ticket op unit) → k ≢ 0
         → ticket_of s (log ++ m ∷ []) k ≡ ticket_of s log k }
+    ensures checks { (s : Start) (log : List Moment) (m : Moment) (read : Read) (k : ℕ) → Legal s (log ++ m ∷ []) → m.entry.who ≡ 0 → m.entry.step ≡ ReadStep read → k ≢ 0 → ticket_of s (log ++ m ∷ []) k ≡ ticket_of s log k }
+{}
+
+/// Steps of tickets, and takes of units, leave what who 0 has done of a check or a verification.
+pub fn work_leaves_the_caller()
+    ensures { (f : Formats) (part_size : ℕ) (w : World) (m : Moment) → Allowed f part_size w m → (m.entry.who ≢ 0) ⊎ (m.entry.step ≡ TakeStep) → (after f w m).caller ≡ w.caller }
 {}
 
 /// Where each world of the history is lawful and free, no unit fails.

@@ -6,6 +6,6 @@ mod number;
 
 pub use law::{
     no_restore_fails, no_unasked_restore_fails, no_unit_fails, only_rules_refuse,
-    other_tickets_stay,
+    other_tickets_stay, work_leaves_the_caller,
 };
-pub use number::tickets_are_numbered;
+pub use number::{no_step_is_stale, tickets_are_numbered};

@@ -11,8 +11,8 @@ use Rattle.esr_model.specs.Places.{places}
 use Rattle.esr_model.specs.Image.{Image, Blobs}
 use Rattle.esr_core.specs.World.{World, ReadState, Unread, BeingRead, Restored, NotRestored, RestoreShard, Restoring, Reader, Caller}
 use Rattle.esr_core.specs.Restores.{IsReading, restore_of, waits, put_restore, restore_shard, handed, ended, reader_of, read_more, restore_opened, shard_ended}
-use Rattle.esr_core.specs.Entry.{Asked, Snapshot, Restore, Clone, DeleteSnapshots, Cleanup, LookStep, GivenRestore, Given, Why, Read, ReadBlob, RestoredShard, ReadFails, Step, AskStep, TakeStep, ReadStep, DeposedAt, Reply, Gave, WasFetched, WasAbsent, HasEnded, Refused, AcceptedRestore, Entry, Moment}
-use Rattle.esr_core.specs.After.{told_blob, taken_restore, taken_restore_shard, read_told, shard_over, read_over, read_by, answered, blobs_in, after, test_left}
+use Rattle.esr_core.specs.Entry.{Asked, Snapshot, Restore, Clone, DeleteSnapshots, Cleanup, LookStep, GivenRestore, Given, Why, Read, ReadBlob, RestoredShard, DrawTest, CommitTest, ReadFails, Step, AskStep, TakeStep, ReadStep, DepotFault, DeposedAt, Reply, Gave, DrawnFrom, WasDone, WasFetched, WasAbsent, HasEnded, Refused, AcceptedRestore, Entry, Moment}
+use Rattle.esr_core.specs.After.{told_blob, taken_restore, taken_restore_shard, read_told, shard_over, read_over, read_by, faulted, answered, blobs_in, after, test_left}
 use Rattle.esr_core.specs.Allowed as allowed
 use Rattle.esr_core.specs.Allowed.{GivesRestore, RestoreAllows, AcceptsRestore, OpeningRestore, NotListed, NamedByDelete, FullOfRestores, ReadAllows, ReadFound, ReadMissing, ReadFault, RestoringShard, ReaderFailing, CheckingAll, CheckFailing, Allows, Allowed, VerifyAllows, DrawingTest, TestSpent, BeginningTest, BeginTestFails, CommittingTest, TestTaken, CommitTestFails, RemovingTests, RemoveTestsFails, VerifyingAll, VerifyFailing}
 use Rattle.esr_core.specs.History.{world_from, IsLegal}
@@ -123,7 +123,7 @@ module _ (f : Formats) (size : ℕ) (w : World) (t : Tracked w) where
   verifies read reply image (RemovingTests names im may left) = makes_same w
   verifies read reply image (RemoveTestsFails names im may left) = makes_same w
   verifies read reply image (VerifyingAll im all same) = makes_same w
-  verifies read reply image (VerifyFailing why id im drawn same) = makes_same w
+  verifies read reply image (VerifyFailing why im begun same) = makes_same w
 
   restore_asked : (who : ℕ) (name place : Bytes) (reply : Reply) (image : Option Image) → Allows f size w who (AskStep (Restore name place)) reply image → Makes w (answered f w who (AskStep (Restore name place)) reply image)
   restore_asked who name place reply image (allowed.AskingRestore n p rep im h same) = asks n p rep im h
@@ -580,3 +580,28 @@ ask_leaves f size w m command t a e = elim a.answered [
 
 pub look_leaves : (f : Formats) (size : ℕ) (w : World) (m : Moment) → Tracked w → Allowed f size w m → m.entry.step ≡ LookStep → (after f w m).readers ≡ w.readers
 look_leaves f size w m t a e = ap (λ x. (answered f w m.entry.who x m.entry.reply m.image).readers) e ∙ (goes_answered f w (room_now f size w t) m.entry.who LookStep m.entry.reply m.image tt).readers
+
+-- ---- a step of who 0 that reads
+
+module _ (f : Formats) (w : World) where
+  test_readers : (name : BlobName) (was now : Option Bytes) → (test_left w name was now).readers ≡ w.readers
+  test_readers name None (Some bytes) = refl
+  test_readers name None None = refl
+  test_readers name (Some was) now = refl
+
+  fault_readers : (read : Read) (image : Option Image) → (faulted f w 0 (ReadStep read) image).readers ≡ w.readers
+  fault_readers (CommitTest name) image = test_readers name (fin.get w.blobs (f.names.text name)) (told_blob f image name)
+  fault_readers read image = refl
+
+  done_readers : (read : Read) (reply : Reply) (image : Option Image) → (read_by f w 0 read reply image).readers ≡ w.readers
+  done_readers DrawTest (DrawnFrom first) image = refl
+  done_readers (CommitTest name) WasDone image = refl
+  done_readers read reply image = refl
+
+  zero_readers : (read : Read) (reply : Reply) (image : Option Image) → (answered f w 0 (ReadStep read) reply image).readers ≡ w.readers
+  zero_readers read (Refused DepotFault) image = fault_readers read image
+  zero_readers read (Refused refusal) image = refl
+  zero_readers read reply image = done_readers read reply image
+
+pub read_leaves : (f : Formats) (w : World) (m : Moment) (read : Read) → m.entry.who ≡ 0 → m.entry.step ≡ ReadStep read → (after f w m).readers ≡ w.readers
+read_leaves f w m read of is = (λ j. (answered f w (of j) (is j) m.entry.reply m.image).readers) ∙ zero_readers f w read m.entry.reply m.image

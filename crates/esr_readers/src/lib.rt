@@ -5,7 +5,7 @@ ghost use Rattle.std.specs.Prelude.{◌≡◌, Some, ℕ, ◌<◌, ◌≤◌, Li
 ghost use Rattle.std.specs.FinMap as fin;
 ghost use Rattle.esr_model.specs.Values.{Bytes, Has, IndexRef, Formats};
 ghost use Rattle.esr_core.specs.World.{World, Reader};
-ghost use Rattle.esr_core.specs.Entry.{Moment, Asked, Restore, AskStep, LookStep, AcceptedRestore, Gave, GivenRestore};
+ghost use Rattle.esr_core.specs.Entry.{Moment, Asked, Restore, Read, AskStep, LookStep, ReadStep, AcceptedRestore, Gave, GivenRestore};
 ghost use Rattle.esr_core.specs.After.{after};
 ghost use Rattle.esr_core.specs.Allowed.{Allowed};
 ghost use Rattle.esr_core.specs.History.{world_from, IsLegal};
@@ -40,8 +40,10 @@ pub fn no_shard_is_restored_twice()
         → p.op ≡ q.op → p.index ≡ q.index → p.number ≡ q.number → ⊥ }
 {}
 
-/// What lines ask for leaves the tickets of restores, over any container: a command, and a look at the safe root.
+/// What lines ask for leaves the tickets of restores, over any container: a command, a look at the safe root, and the steps of a
+/// check or a verification.
 pub fn lines_leave_readers()
     ensures asks { (f : Formats) (part_size : ℕ) (w : World) (m : Moment) (command : Asked) → Tracked w → Allowed f part_size w m → m.entry.step ≡ AskStep command → (after f w m).readers ≡ w.readers }
     ensures looks { (f : Formats) (part_size : ℕ) (w : World) (m : Moment) → Tracked w → Allowed f part_size w m → m.entry.step ≡ LookStep → (after f w m).readers ≡ w.readers }
+    ensures reads { (f : Formats) (w : World) (m : Moment) (read : Read) → m.entry.who ≡ 0 → m.entry.step ≡ ReadStep read → (after f w m).readers ≡ w.readers }
 {}

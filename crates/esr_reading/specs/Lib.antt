@@ -3,4 +3,4 @@ pub mod Once
 pub mod Conditions
 pub mod Parts
 pub mod Shown
-pub mod AllShown
+pub mod Reports

@@ -5,15 +5,17 @@ use Rattle.esr_model.specs.Names.{BlobName}
 use Rattle.esr_model.specs.Values.{Bytes, Formats}
 use Rattle.esr_model.specs.Image.{Image}
 use Rattle.esr_core.specs.World.{World, Caller, no_caller}
-use Rattle.esr_core.specs.Entry.{Read, ReadBlob, RestoredShard, CheckedAll, DrawTest, CommitTest, RemoveTests, VerifiedAll, ReadFails, Step, AskStep, LookStep, ReadStep, Reply, DrawnFrom, WasDone, WasRemoved, WasFetched, HasEnded, Refusal, Refused, DeposedAt, Moment}
-use Rattle.esr_core.specs.After.{told_blob, is_heard, caller_told, caller_ended, caller_read, caller_by, caller_after, answered, after}
+use Rattle.esr_core.specs.Entry.{Read, ReadBlob, RestoredShard, CheckedAll, DrawTest, CommitTest, RemoveTests, VerifiedAll, ReadFails, Step, AskStep, LookStep, ReadStep, Reply, DrawnFrom, WasDone, WasRemoved, WasFetched, HasEnded, Refusal, Refused, IdsSpent, DeposedAt, Moment}
+use Rattle.esr_core.specs.After.{told_blob, is_heard, caller_told, caller_wrote, caller_ended, caller_read, caller_by, caller_after, after}
 use Rattle.esr_core.specs.Allowed.{ReadAllows, VerifyAllows, Allows, Allowed}
 use Rattle.esr_core.specs.Allowed as allowed
 use Rattle.esr_desk.specs.Refusals.{refusal_of}
+use Rattle.esr_desk.specs.declared.refusal.EntryRefusal.{EntryRefusal}
+use Rattle.esr_desk.specs.declared.refusal.EntryRefusal.TheVariants as refusals
 use Rattle.esr_desk.specs.declared.refusal.StepRefusal.{StepRefusal}
 use Rattle.esr_desk.specs.declared.refusal.StepRefusal.TheVariants as steps
 use Rattle.esr_desk.specs.Start.{Start, formats_of, world_of}
-use Rattle.esr_checking.specs.Caller.{caller_of}
+use Rattle.esr_checking.specs.Caller.{caller_of, drawn_by}
 use Rattle.esr_repo.specs.Repo.{IsTest, AreTests}
 use Rattle.esr_repo.specs.Next.{Added, AddedOr, Did}
 use Rattle.esr_repo.specs.Grown.{added_world}
@@ -34,23 +36,36 @@ added_caller s old new who step reply a =
 
 -- ---- a refusal
 
--- a step that reads and was refused
-unread : (f : Formats) (c : Caller) (who : ℕ) (read : Read) (refusal : Refusal) (image : Option Image) → caller_by f c who read (Refused refusal) image ≡ c
-unread f c zero (ReadBlob name) refusal image = refl
-unread f c zero (RestoredShard files bytes) refusal image = refl
-unread f c zero (CheckedAll snapshots blobs) refusal image = refl
-unread f c zero DrawTest refusal image = refl
-unread f c zero (CommitTest name) refusal image = refl
-unread f c zero (RemoveTests names) refusal image = refl
-unread f c zero VerifiedAll refusal image = refl
-unread f c zero (ReadFails why) refusal image = refl
-unread f c zero read refusal image = refl
-unread f c (suc k) read refusal image = refl
+-- a step that reads, and isn't the draw of an id, was refused
+unread : (f : Formats) (c : Caller) (who : ℕ) (read : Read) (refusal : Refusal) (image : Option Image) → (read ≡ DrawTest → ⊥) → caller_by f c who read (Refused refusal) image ≡ c
+unread f c zero (ReadBlob name) refusal image other = refl
+unread f c zero (RestoredShard files bytes) refusal image other = refl
+unread f c zero (CheckedAll snapshots blobs) refusal image other = refl
+unread f c zero DrawTest refusal image other = absurd (other refl)
+unread f c zero (CommitTest name) refusal image other = refl
+unread f c zero (RemoveTests names) refusal image other = refl
+unread f c zero VerifiedAll refusal image other = refl
+unread f c zero (ReadFails why) refusal image other = refl
+unread f c zero read refusal image other = refl
+unread f c (suc k) read refusal image other = refl
+
+-- nothing was heard
+unread_deposed : (f : Formats) (c : Caller) (who : ℕ) (read : Read) (place : ℕ) (image : Option Image) → caller_by f c who read (Refused (DeposedAt place)) image ≡ c
+unread_deposed f c zero (ReadBlob name) place image = refl
+unread_deposed f c zero (RestoredShard files bytes) place image = refl
+unread_deposed f c zero (CheckedAll snapshots blobs) place image = refl
+unread_deposed f c zero DrawTest place image = refl
+unread_deposed f c zero (CommitTest name) place image = refl
+unread_deposed f c zero (RemoveTests names) place image = refl
+unread_deposed f c zero VerifiedAll place image = refl
+unread_deposed f c zero (ReadFails why) place image = refl
+unread_deposed f c zero read place image = refl
+unread_deposed f c (suc k) read place image = refl
 
 unheard : (f : Formats) (c : Caller) (who : ℕ) (step : Step) (place : ℕ) (image : Option Image) → caller_after f c who step (Refused (DeposedAt place)) image ≡ c
 unheard f c who (AskStep command) place image = refl
 unheard f c who LookStep place image = refl
-unheard f c who (ReadStep read) place image = unread f c who read (DeposedAt place) image
+unheard f c who (ReadStep read) place image = unread_deposed f c who read place image
 unheard f c who step place image = refl
 
 -- after a record swap that failed
@@ -58,15 +73,26 @@ pub deposed_caller : (s : Start) (old new : List Moment) (who : ℕ) (step : Ste
 deposed_caller s old new who step place a = added_caller s old new who step (Refused (DeposedAt place)) a ∙ unheard (formats_of s) (caller_of s old) who step place a.image
 
 -- whatever the refusal of a step that reads
-pub refused_caller : (s : Start) (old new : List Moment) (who : ℕ) (read : Read) (e : StepRefusal) → AddedOr s old new who (ReadStep read) e → caller_of s new ≡ caller_of s old
-refused_caller s old new who read steps.Memory same = ap (caller_of s) same
-refused_caller s old new who read steps.TurnsSpent never = absurd never
-refused_caller s old new who read (steps.Refused x) a =
-    added_caller s old new who (ReadStep read) (Refused (refusal_of x)) a ∙ unread (formats_of s) (caller_of s old) who read (refusal_of x) a.image
+pub refused_caller : (s : Start) (old new : List Moment) (who : ℕ) (read : Read) (e : StepRefusal) → (read ≡ DrawTest → ⊥) → AddedOr s old new who (ReadStep read) e → caller_of s new ≡ caller_of s old
+refused_caller s old new who read steps.Memory other same = ap (caller_of s) same
+refused_caller s old new who read steps.TurnsSpent other never = absurd never
+refused_caller s old new who read (steps.Refused x) other a =
+    added_caller s old new who (ReadStep read) (Refused (refusal_of x)) a ∙ unread (formats_of s) (caller_of s old) who read (refusal_of x) a.image other
 
-pub kept_caller : {X : Type 0} (s : Start) (old mid new : List Moment) (who : ℕ) (read : Read) (ok : X → Reply) (r : Result X StepRefusal) → mid ≡ old → Did s mid new who (ReadStep read) ok r → OnErr r (caller_of s new ≡ caller_of s old)
-kept_caller s old mid new who read ok (Ok x) e did = tt
-kept_caller s old mid new who read ok (Err x) e did = refused_caller s mid new who read x did ∙ ap (caller_of s) e
+pub kept_caller : {X : Type 0} (s : Start) (old mid new : List Moment) (who : ℕ) (read : Read) (ok : X → Reply) (r : Result X StepRefusal) → (read ≡ DrawTest → ⊥) → mid ≡ old → Did s mid new who (ReadStep read) ok r → OnErr r (caller_of s new ≡ caller_of s old)
+kept_caller s old mid new who read ok (Ok x) other e did = tt
+kept_caller s old mid new who read ok (Err x) other e did = refused_caller s mid new who read x other did ∙ ap (caller_of s) e
+
+-- a draw that was refused: where no id is left, that is noted
+draw_refused : (f : Formats) (c : Caller) (x : EntryRefusal) (image : Option Image) → caller_read f c DrawTest (Refused (refusal_of x)) image ≡ drawn_by (Err (steps.Refused x)) c
+draw_refused f c (refusals.IdsSpent next) image = refl
+draw_refused f c x image = refl
+
+pub undrawn_caller : (s : Start) (old new : List Moment) (e : StepRefusal) → AddedOr s old new 0 (ReadStep DrawTest) e → caller_of s new ≡ drawn_by (Err e) (caller_of s old)
+undrawn_caller s old new steps.Memory same = ap (caller_of s) same
+undrawn_caller s old new steps.TurnsSpent never = absurd never
+undrawn_caller s old new (steps.Refused x) a =
+    added_caller s old new 0 (ReadStep DrawTest) (Refused (refusal_of x)) a ∙ draw_refused (formats_of s) (caller_of s old) x a.image
 
 -- ---- what it has committed are test blobs
 
@@ -81,6 +107,10 @@ tests_told : (c : Caller) (name : BlobName) (bytes : Option Bytes) → AreTests 
 tests_told c name None h = h
 tests_told c name (Some bytes) h = h
 
+tests_wrote : (c : Caller) (name : BlobName) (bytes : Option Bytes) → IsTest name → AreTests c → AreTests (caller_wrote c name bytes)
+tests_wrote c name None own h = λ m has. elim has [ inl e ↦ subst IsTest e own | inr was ↦ h m was ]
+tests_wrote c name (Some bytes) own h = λ m has. elim has [ inl e ↦ subst IsTest e own | inr was ↦ h m was ]
+
 tests_ended : (c : Caller) (reply : Reply) → AreTests c → AreTests (caller_ended c reply)
 tests_ended c HasEnded h = tests_none false
 tests_ended c reply h = h
@@ -91,7 +121,8 @@ tests_read f c (ReadBlob name) reply image own h = h
 tests_read f c (RestoredShard files bytes) reply image own h = h
 tests_read f c (CheckedAll snapshots blobs) reply image own h = tests_ended c reply h
 tests_read f c DrawTest (DrawnFrom first) image own h = h
-tests_read f c (CommitTest name) WasDone image own h = λ m has. elim has [ inl e ↦ subst IsTest e (own name refl refl) | inr was ↦ h m was ]
+tests_read f c DrawTest (Refused (IdsSpent next)) image own h = h
+tests_read f c (CommitTest name) WasDone image own h = tests_wrote c name (told_blob f image name) (own name refl refl) h
 tests_read f c (RemoveTests names) WasRemoved image own h = h
 tests_read f c VerifiedAll reply image own h = tests_ended c reply h
 tests_read f c (ReadFails why) reply image own h = tests_ended c reply h

@@ -31,7 +31,7 @@ may_look s log snapshots safe next listed safe_is next_is = record {
 
 may_draw : (s : Start) (log : List Moment) (k n : ℕ) → CanDraw s (ticket_of s log k) n → MayDraw (formats_of s) (world_of s log) k n
 unfolding formats
-may_draw s log k n can = record { t = ticket_of s log k; out = out_is s log k can.out; shard = can.shard; once = can.once; some = can.some; most = can.most }
+may_draw s log k n can = record { t = ticket_of s log k; out = out_is s log k can.out; shard = can.shard; once = can.once; some = can.some; most = can.most; few = can.few }
 
 abbrev drawing : ℕ → ℕ → Ticket → Ticket
 drawing first n t = record t { first = first; drawn = n }

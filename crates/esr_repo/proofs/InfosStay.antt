@@ -346,7 +346,7 @@ module _ (f : Formats) (size : ℕ) (w : World) where
   verified_kept read reply image tests (allowed.RemovingTests names im may left) = told_kept im _ (λ now is. blobs_left f w names now tests may is.0) left
   verified_kept read reply image tests (allowed.RemoveTestsFails names im may left) = told_kept im _ (λ now is. blobs_left f w names now tests may is) left
   verified_kept read reply image tests (allowed.VerifyingAll im done same) = same_kept im same
-  verified_kept read reply image tests (allowed.VerifyFailing why id im drawn same) = same_kept im same
+  verified_kept read reply image tests (allowed.VerifyFailing why im begun same) = same_kept im same
 
   pub allowed_kept : (who : ℕ) (step : Step) (reply : Reply) (image : Option Image) → AreTests w.caller → Allows f size w who step reply image → Kept image
   allowed_kept who step reply image tests (allowed.Accepting name indices moment o im a same) = same_kept im same

@@ -1,5 +1,5 @@
 -- The steps of a verification.
-use Rattle.std.proofs.Common.{◌≡◌, ◌≢◌, ℕ, suc, ◌+◌, ◌<◌, ◌≤◌, List, ◌∷◌, ◌++◌, map, Option, Some, None, Result, Ok, Err, IfOk, OnErr, refl, sym, ap, ◌∙◌, subst, inl, inr, arith}
+use Rattle.std.proofs.Common.{◌≡◌, ◌≢◌, ℕ, suc, ◌+◌, ◌<◌, ◌≤◌, List, ◌++◌, map, Option, Some, None, Result, Ok, Err, IfOk, OnErr, refl, sym, ap, ◌∙◌, subst, inl, inr, arith}
 use Rattle.esr_model.specs.Names.{BlobName, Latest}
 use Rattle.esr_model.specs.Values.{Bytes}
 use Rattle.esr_model.specs.Kept.{first_id}
@@ -8,23 +8,24 @@ use Rattle.esr_core.specs.Restores.{IsTestOf}
 use Rattle.esr_core.specs.Texts.{IsMetaOf}
 use Rattle.esr_core.specs.ReadTracked.{ReadTracked}
 use Rattle.esr_core.specs.Entry.{Why, ReadBlob, DrawTest, BeginTest, CommitTest, RemoveTests, VerifiedAll, ReadFails, Step, ReadStep, DrawnFrom, WasBegun, WasDone, WasFetched, WasAbsent, WasRemoved, HasEnded, Refused, DepotFault, IdsSpent, NameTaken, Moment}
-use Rattle.esr_core.specs.After.{caller_told}
-use Rattle.esr_core.specs.Allowed.{Allows, IsMetadata, MayVerify, IsOwnTest, MayRemoveTests, Verifies, ByVerify, ReadFound, ReadMissing, ReadFault, Reading, Verifying, DrawingTest, TestSpent, BeginningTest, BeginTestFails, CommittingTest, TestTaken, CommitTestFails, RemovingTests, RemoveTestsFails, VerifyingAll, VerifyFailing}
+use Rattle.esr_core.specs.After.{caller_told, caller_wrote}
+use Rattle.esr_core.specs.Allowed.{Allows, IsMetadata, MayVerify, MayDrawTest, IsVerifying, IsOwnTest, MayRemoveTests, Verifies, ByVerify, ReadFound, ReadMissing, ReadFault, Reading, Verifying, DrawingTest, TestSpent, BeginningTest, BeginTestFails, CommittingTest, TestTaken, CommitTestFails, RemovingTests, RemoveTestsFails, VerifyingAll, VerifyFailing}
 use Rattle.esr_depot.specs.declared.depot.Commit.{Commit}
 use Rattle.esr_depot.specs.declared.depot.Commit.TheVariants as commits
 use Rattle.esr_names.specs.declared.blob.BlobName.{BlobName as CodeName}
+use Rattle.esr_names.specs.declared.ids.Id.{Id}
 use Rattle.esr_formats.specs.Names.{name_of}
 use Rattle.esr_progress.specs.Plan.{Plan, IsPlanOf}
 use Rattle.esr_desk.specs.Conditions.{Holds}
 use Rattle.esr_desk.specs.declared.refusal.StepRefusal.{StepRefusal}
 use Rattle.esr_desk.specs.Start.{Start, formats_of, world_of}
-use Rattle.esr_checking.specs.Caller.{caller_of, fetched_by}
-use Rattle.esr_checking.specs.Conditions.{IsOwn, CanCommit, CanFetch, CanRemove, CanEnd}
+use Rattle.esr_checking.specs.Caller.{caller_of, drawn_by, fetched_by}
+use Rattle.esr_checking.specs.Conditions.{CanDraw, IsOpen, IsOwn, CanCommit, CanFetch, CanRemove, CanEnd}
 use Rattle.esr_repo.specs.Repo.{AreTests}
 use Rattle.esr_repo.specs.Next.{Added, AddedOr, Did}
 use Rattle.esr_repo.specs.May.{IsNamed, MayNote, MayRefuse, MayBegin, MayCommit, MayFetch, MayRemove}
 use Rattle.esr_repo.specs.Calls.{CommitDid, FetchDid}
-use Rattle.esr_repo.proofs.Callers.{added_caller, refused_caller}
+use Rattle.esr_repo.proofs.Callers.{added_caller, refused_caller, undrawn_caller}
 use Rattle.esr_repo.proofs.Stepping.{did_from}
 use Rattle.esr_repo.proofs.Reading.{found_there, found_none}
 use Rattle.esr_repo.proofs.Written.{commit_from, fetch_from}
@@ -45,10 +46,13 @@ drawn_plan w next p h = record { ops = h.ops; deletes = h.deletes; completed = h
 next_one : (n next : ℕ) → next ≡ n + 1 → next ≡ suc n
 next_one n next e = omega (arith, e)
 
-pub may_note_draw_test : (s : Start) (old log : List Moment) (first next : ℕ) → log ≡ old → (caller_of s old).drawn ≡ None → first ≡ (world_of s log).next_id → next ≡ (world_of s log).next_id + 1 → next < first_id (suc (world_of s log).term)
+may_draw_test : (s : Start) (old log : List Moment) → log ≡ old → CanDraw (caller_of s old) → MayDrawTest (world_of s log)
+may_draw_test s old log e before = let can : CanDraw (caller_of s log) = subst (λ (l : List Moment). CanDraw (caller_of s l)) (sym e) before in record { undrawn = can.undrawn; unspent = can.unspent }
+
+pub may_note_draw_test : (s : Start) (old log : List Moment) (first next : ℕ) → log ≡ old → CanDraw (caller_of s old) → first ≡ (world_of s log).next_id → next ≡ (world_of s log).next_id + 1 → next < first_id (suc (world_of s log).term)
     → MayNote s log 0 (ReadStep DrawTest) (DrawnFrom first) None next
 may_note_draw_test s old log first next e before first_is next_is below =
-    let idle : (caller_of s log).drawn ≡ None = ap (λ (l : List Moment). (caller_of s l).drawn) e ∙ before in
+    let idle = may_draw_test s old log e before in
     let is : next ≡ suc (world_of s log).next_id = next_one (world_of s log).next_id next next_is in
     record {
       plain = refl;
@@ -58,10 +62,10 @@ may_note_draw_test s old log first next e before first_is next_is below =
       next_is = λ image. is;
     }
 
-pub may_refuse_draw_test : (s : Start) (old log : List Moment) (next : ℕ) → log ≡ old → (caller_of s old).drawn ≡ None → next ≡ (world_of s log).next_id → first_id (suc (world_of s log).term) ≤ (world_of s log).next_id + 1
+pub may_refuse_draw_test : (s : Start) (old log : List Moment) (next : ℕ) → log ≡ old → CanDraw (caller_of s old) → next ≡ (world_of s log).next_id → first_id (suc (world_of s log).term) ≤ (world_of s log).next_id + 1
     → MayRefuse s log 0 (ReadStep DrawTest) (IdsSpent next)
 may_refuse_draw_test s old log next e before next_is spent =
-    let idle : (caller_of s log).drawn ≡ None = ap (λ (l : List Moment). (caller_of s l).drawn) e ∙ before in
+    let idle = may_draw_test s old log e before in
     record {
       plain = refl;
       allows = λ image tells same. subst (λ (n : ℕ). Allows (formats_of s) s.part_size (world_of s log) 0 (ReadStep DrawTest) (Refused (IdsSpent n)) image) (sym next_is)
@@ -72,8 +76,12 @@ may_refuse_draw_test s old log next e before next_is spent =
 pub drawn_caller : (s : Start) (old mid new : List Moment) (first : ℕ) → mid ≡ old → Added s mid new 0 (ReadStep DrawTest) (DrawnFrom first) → caller_of s new ≡ record (caller_of s old) { drawn = Some first }
 drawn_caller s old mid new first e a = added_caller s mid new 0 (ReadStep DrawTest) (DrawnFrom first) a ∙ ap (λ (l : List Moment). record (caller_of s l) { drawn = Some first }) e
 
-pub undrawn_caller : (s : Start) (old mid new : List Moment) (x : StepRefusal) → mid ≡ old → AddedOr s mid new 0 (ReadStep DrawTest) x → caller_of s new ≡ caller_of s old
-undrawn_caller s old mid new x e d = refused_caller s mid new 0 DrawTest x d ∙ ap (caller_of s) e
+pub refused_draw : (s : Start) (old mid new : List Moment) (x : StepRefusal) → mid ≡ old → AddedOr s mid new 0 (ReadStep DrawTest) x → caller_of s new ≡ drawn_by (Err x) (caller_of s old)
+refused_draw s old mid new x e d = undrawn_caller s mid new x d ∙ ap (λ (l : List Moment). drawn_by (Err x) (caller_of s l)) e
+
+pub drew_caller : (s : Start) (old new : List Moment) (r : Result Id StepRefusal) → Did s old new 0 (ReadStep DrawTest) (λ id. DrawnFrom id.number) r → caller_of s new ≡ drawn_by r (caller_of s old)
+drew_caller s old new (Ok id) did = added_caller s old new 0 (ReadStep DrawTest) (DrawnFrom id.number) did
+drew_caller s old new (Err x) did = undrawn_caller s old new x did
 
 -- ---- test blobs
 
@@ -105,7 +113,7 @@ may_begin_test s old log name e tracked before =
 
 pub begun_caller : {X : Type 0} (s : Start) (old mid new : List Moment) (name : BlobName) (r : Result X StepRefusal) → mid ≡ old → Did s mid new 0 (ReadStep (BeginTest name)) (λ x. WasBegun) r → caller_of s new ≡ caller_of s old
 begun_caller s old mid new name (Ok x) e did = added_caller s mid new 0 (ReadStep (BeginTest name)) WasBegun did ∙ ap (caller_of s) e
-begun_caller s old mid new name (Err x) e did = refused_caller s mid new 0 (BeginTest name) x did ∙ ap (caller_of s) e
+begun_caller s old mid new name (Err x) e did = refused_caller s mid new 0 (BeginTest name) x (λ is. cc) did ∙ ap (caller_of s) e
 
 -- ---- commit
 
@@ -130,8 +138,13 @@ pub committed_test : (s : Start) (old mid new : List Moment) (name : BlobName) (
 committed_test s old mid new name contents commits.Done e can did = (commit_from s old mid new 0 (ReadStep (CommitTest name)) name contents (Ok commits.Done) e did).0
 committed_test s old mid new name contents commits.Exists e can did = absurd (no_metadata can.own.id name can.own.test did.1)
 
-pub committed_caller : (s : Start) (old new : List Moment) (name : BlobName) → Added s old new 0 (ReadStep (CommitTest name)) WasDone → caller_of s new ≡ record (caller_of s old) { committed = name ∷ (caller_of s old).committed }
-committed_caller s old new name a = added_caller s old new 0 (ReadStep (CommitTest name)) WasDone a
+-- what it held is noted, where the container tells
+pub committed_caller : (s : Start) (old mid new : List Moment) (name : BlobName) (contents : Option Bytes) (c : Commit) → mid ≡ old → CanCommit (caller_of s old) name → CommitDid s mid new 0 (ReadStep (CommitTest name)) name contents (Ok c)
+    → caller_of s new ≡ caller_wrote (caller_of s old) name contents
+committed_caller s old mid new name contents commits.Done e can did =
+    let from = commit_from s old mid new 0 (ReadStep (CommitTest name)) name contents (Ok commits.Done) e did in
+    added_caller s old new 0 (ReadStep (CommitTest name)) WasDone from.0 ∙ ap (caller_wrote (caller_of s old) name) from.1
+committed_caller s old mid new name contents commits.Exists e can did = absurd (no_metadata can.own.id name can.own.test did.1)
 
 -- ---- fetch
 
@@ -160,7 +173,7 @@ fetched_caller left s old mid new name r e did = fetched left s old new name r (
 
 pub fetch_kept_caller : {F : Type 0} (left : F → Option Bytes) (s : Start) (old mid new : List Moment) (name : BlobName) (r : Result (Option F) StepRefusal) → mid ≡ old → FetchDid left s mid new 0 (ReadStep (ReadBlob name)) name r → OnErr r (caller_of s new ≡ caller_of s old)
 fetch_kept_caller left s old mid new name (Ok o) e did = tt
-fetch_kept_caller left s old mid new name (Err x) e did = refused_caller s mid new 0 (ReadBlob name) x did ∙ ap (caller_of s) e
+fetch_kept_caller left s old mid new name (Err x) e did = refused_caller s mid new 0 (ReadBlob name) x (λ is. cc) did ∙ ap (caller_of s) e
 
 -- ---- remove
 
@@ -197,13 +210,16 @@ may_note_verified s old log next e before next_is =
       next_is = λ image. next_is;
     }
 
-pub may_note_unverified : (s : Start) (old log : List Moment) (why : Why) (next : ℕ) → log ≡ old → ((caller_of s old).drawn ≡ None → ⊥) → next ≡ (world_of s log).next_id → MayNote s log 0 (ReadStep (ReadFails why)) HasEnded None next
+is_verifying : (w : World) → IsOpen w.caller → IsVerifying w
+is_verifying w (inl still) = inl (drawn_is w.caller still)
+is_verifying w (inr spent) = inr spent
+
+pub may_note_unverified : (s : Start) (old log : List Moment) (why : Why) (next : ℕ) → log ≡ old → IsOpen (caller_of s old) → next ≡ (world_of s log).next_id → MayNote s log 0 (ReadStep (ReadFails why)) HasEnded None next
 may_note_unverified s old log why next e before next_is =
-    let still : (caller_of s log).drawn ≡ None → ⊥ = subst (λ (l : List Moment). (caller_of s l).drawn ≡ None → ⊥) (sym e) before in
-    let drew = drawn_is (caller_of s log) still in
+    let still : IsOpen (caller_of s log) = subst (λ (l : List Moment). IsOpen (caller_of s l)) (sym e) before in
     record {
       plain = refl;
-      allows = λ image tells same. Verifying (ReadFails why) HasEnded image (VerifyFailing why drew.0 image drew.1 same);
+      allows = λ image tells same. Verifying (ReadFails why) HasEnded image (VerifyFailing why image (is_verifying (world_of s log) still) same);
       plan_is = λ image p h. h;
       next_is = λ image. next_is;
     }

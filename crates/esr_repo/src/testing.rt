@@ -1,15 +1,16 @@
 //! The steps of a verification.
-ghost use Rattle.std.specs.Prelude.{◌≡◌, ◌<◌, ◌≤◌, ◌^◌, [], ◌∷◌, ◌++◌, length, map, true, None, IsTrue, IfOk, IfSome, OnOk, OnErr};
+ghost use Rattle.std.specs.Prelude.{◌≡◌, ◌<◌, ◌≤◌, ◌^◌, [], ◌++◌, length, map, true, IsTrue, IfOk, IfSome, OnOk, OnErr};
 ghost use Rattle.esr_model.specs.Values.{Bytes, Has};
 ghost use Rattle.esr_core.specs.World.{no_caller};
 ghost use Rattle.esr_core.specs.Entry.{ReadStep, ReadBlob, DrawTest, BeginTest, CommitTest, RemoveTests, VerifiedAll, ReadFails, DrawnFrom, WasBegun, WasDone, WasRemoved, HasEnded};
+ghost use Rattle.esr_core.specs.After.{caller_wrote};
 ghost use Rattle.esr_names.specs.Layout.{IsName};
 ghost use Rattle.esr_formats.specs.Names.{name_of};
 ghost use Rattle.esr_desk.specs.Entries.{why_of, step_of};
 ghost use Rattle.esr_desk.specs.Outcome.{fetch_reply};
 ghost use Rattle.esr_desk.specs.Conditions.{Holds};
 ghost use Rattle.esr_checking.specs.Caller.{caller_of, drawn_by, fetched_by};
-ghost use Rattle.esr_checking.specs.Conditions.{IsOwn, CanCommit, CanFetch, CanRemove, CanEnd};
+ghost use Rattle.esr_checking.specs.Conditions.{CanDraw, IsOpen, IsOwn, CanCommit, CanFetch, CanRemove, CanEnd};
 ghost use Rattle.esr_repo.specs.Next.{Did};
 
 use crate::{Repo, Told};
@@ -31,7 +32,7 @@ fn removes(alloc: Global, names: &[BlobName]) -> Result<Step, AllocError>
 impl<D: Depot, K: Told> Repo<D, K> {
     /// Draws the id of the test blobs, which begins a verification.
     pub fn draw_test(&mut self, alloc: Global) -> Result<Id, StepRefusal>
-        requires idle { (caller_of K.start self.old).drawn ≡ None }
+        requires may { CanDraw (caller_of K.start self.old) }
         ensures step { Did K.start self.old self.new 0 (ReadStep DrawTest) (λ id. DrawnFrom id.number) result }
         ensures own { caller_of K.start self.new ≡ drawn_by result (caller_of K.start self.old) }
         ensures range { IfOk result (λ id. id.number < 2 ^ 128) }
@@ -80,7 +81,7 @@ impl<D: Depot, K: Told> Repo<D, K> {
         requires may { CanCommit (caller_of K.start self.old) (name_of stage.name) }
         ensures step { Did K.start self.old self.new 0 (ReadStep (CommitTest (name_of stage.name))) (λ _. WasDone) result }
         ensures own { OnOk result (caller_of K.start self.new
-            ≡ record (caller_of K.start self.old) { committed = name_of stage.name ∷ (caller_of K.start self.old).committed }) }
+            ≡ caller_wrote (caller_of K.start self.old) (name_of stage.name) (D.Stage.contents stage.stage)) }
         ensures kept { OnErr result (caller_of K.start self.new ≡ caller_of K.start self.old) }
     {
         let name = stage.name;
@@ -147,7 +148,7 @@ impl<D: Depot, K: Told> Repo<D, K> {
 
     /// The verification failed.
     pub fn unverified(&mut self, alloc: Global, why: Why) -> Result<(), StepRefusal>
-        requires open { (caller_of K.start self.old).drawn ≡ None → ⊥ }
+        requires open { IsOpen (caller_of K.start self.old) }
         ensures step { Did K.start self.old self.new 0 (ReadStep (ReadFails (why_of why))) (λ _. HasEnded) result }
         ensures own { OnOk result (caller_of K.start self.new ≡ no_caller) }
         ensures kept { OnErr result (caller_of K.start self.new ≡ caller_of K.start self.old) }

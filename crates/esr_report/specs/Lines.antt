@@ -6,7 +6,7 @@ use Rattle.esr_names.specs.IdText.{id_text}
 use Rattle.esr_model.specs.Values.{RootSnap}
 use Rattle.esr_model.specs.Places.{by_order, sorted_by}
 use Rattle.esr_core.specs.Entry.{Why, OfDepot, OfSource, OfChange, OfDamage, OfTaken, OfIdsSpent, OfGenerationsSpent, OfTarget, OfPrint, OfDisagreement}
-use Rattle.esr_core.specs.Entry.{Refusal, CleanupRunning, NameInUse, TooMany, DeposedAt, AbortedBy, StaleTerm, GenerationsSpent, TermsSpent, IdsSpent, NameTaken, DepotFault, NoSnapshot, BeingDeleted}
+use Rattle.esr_core.specs.Entry.{Refusal, CleanupRunning, NameInUse, TooMany, DeposedAt, AbortedBy, StaleTerm, GenerationsSpent, TermsSpent, IdsSpent, NameTaken, DepotFault, NoSnapshot, NoIndex, BeingDeleted, CloneRunning, RestoreRunning, BusyOp, BusyTicket}
 use Rattle.esr_formats.specs.Names.{name_kind}
 use Rattle.esr_script.specs.declared.item.Item.{Item}
 use Rattle.esr_script.specs.declared.item.Item.TheVariants as items
@@ -36,6 +36,11 @@ name_at (items.Clone source name indices) place = source
 name_at (items.Delete names) place = get_or names place []
 name_at item place = []
 
+-- the index's name that stands at a place of a command, from 0 on
+abbrev pub index_at : Item → ℕ → Text
+index_at (items.Clone source name indices) place = get_or indices place []
+index_at item place = []
+
 -- a rule that refused a command, or a number that is spent
 abbrev pub refusal_text : Item → Refusal → Text
 refusal_text item (NameInUse uuid) = codes " refused name-in-use " ++ id_text uuid
@@ -50,7 +55,12 @@ refusal_text item (IdsSpent next) = codes " failed spent"
 refusal_text item (NameTaken name) = codes " failed name-taken " ++ name_kind.text name
 refusal_text item DepotFault = codes " failed depot"
 refusal_text item (NoSnapshot place) = codes " refused no-snapshot " ++ name_at item place
+refusal_text item (NoIndex place) = codes " refused no-index " ++ index_at item place
 refusal_text item (BeingDeleted op) = codes " refused being-deleted " ++ decimal op
+refusal_text item (CloneRunning op) = codes " refused clone-running " ++ decimal op
+refusal_text item (RestoreRunning op) = codes " refused restore-running " ++ decimal op
+refusal_text item (BusyOp op) = codes " refused busy op " ++ decimal op
+refusal_text item (BusyTicket ticket) = codes " refused busy ticket " ++ decimal ticket
 
 -- 1 is success and 3 partial
 abbrev pub state_text : ℕ → Text

@@ -4,7 +4,7 @@ use Rattle.esr_model.specs.Values.{IndexRef, RootSnap}
 use Rattle.esr_model.specs.Places.{places}
 use Rattle.esr_core.specs.After.{or_else, swaps_record}
 use Rattle.esr_core.specs.Entry as entry
-use Rattle.esr_core.specs.Entry.{Given, GivenShard, GivenFinalize, GivenDrop, GivenRestore, GivenClone, GivenDelete, GivenCleanup, Why, OfDepot, RestoredShard, ReadFails, Step, AskStep, SettleStep, FailedStep, LookStep, ReadStep, Refusal, DeposedAt, DepotFault, Accepted, AcceptedRestore, Gave, WasSettled, HasEnded, Looked, Entry}
+use Rattle.esr_core.specs.Entry.{Given, GivenShard, GivenFinalize, GivenDrop, GivenRestore, GivenClone, GivenDelete, GivenCleanup, Why, OfDepot, Read, RestoredShard, CheckedAll, VerifiedAll, ReadFails, Step, AskStep, SettleStep, FailedStep, LookStep, ReadStep, Refusal, DeposedAt, DepotFault, Accepted, AcceptedRestore, Gave, WasSettled, HasEnded, Looked, Entry}
 use Rattle.esr_script.specs.declared.item.Item.{Item}
 use Rattle.esr_script.specs.declared.item.Item.TheVariants as items
 use Rattle.esr_script.specs.declared.item.ScriptLine.{ScriptLine}
@@ -207,19 +207,46 @@ look_reply (Looked snapshots safe) = Some (Listed snapshots)
 look_reply (entry.Refused (DeposedAt place)) = Some Deposed
 look_reply reply = None
 
+-- what the end of a verification or of a check answers its line
+abbrev pub ended_reply : Read → Option Reply
+ended_reply VerifiedAll = Some Verified
+ended_reply (CheckedAll snapshots blobs) = Some (Checked snapshots blobs)
+ended_reply (ReadFails why) = Some (Failed why None)
+ended_reply read = None
+
+abbrev pub read_reply : Read → entry.Reply → Option Reply
+read_reply read HasEnded = ended_reply read
+read_reply read (entry.Refused (DeposedAt place)) = Some Deposed
+read_reply read reply = None
+
 abbrev pub answer_at : List Entry → Step → entry.Reply → Option Reply
 answer_at all (AskStep command) reply = ask_reply all reply
 answer_at all LookStep reply = look_reply reply
+answer_at all (ReadStep read) reply = read_reply read reply
 answer_at all step reply = None
 
-abbrev pub is_line_step : Step → Bool
-is_line_step (AskStep command) = true
-is_line_step LookStep = true
-is_line_step step = false
+-- a verification or a check ends by it
+abbrev pub is_end : Read → Bool
+is_end VerifiedAll = true
+is_end (CheckedAll snapshots blobs) = true
+is_end (ReadFails why) = true
+is_end read = false
 
--- an ask or a look of who 0 belongs to a line
+-- it has ended; or it is over, since a step of it was refused as a record swap had failed
+abbrev pub is_line_read : Read → entry.Reply → Bool
+is_line_read read HasEnded = is_end read
+is_line_read read (entry.Refused (DeposedAt place)) = true
+is_line_read read reply = false
+
+abbrev pub is_line_step : Step → entry.Reply → Bool
+is_line_step (AskStep command) reply = true
+is_line_step LookStep reply = true
+is_line_step (ReadStep read) reply = is_line_read read reply
+is_line_step step reply = false
+
+-- an ask or a look of who 0 belongs to a line, and so does the end of a verification or a check; their other steps don't
 abbrev pub is_of_line : Entry → Bool
-is_of_line e = (e.who == 0) && is_line_step e.step
+is_of_line e = (e.who == 0) && is_line_step e.step e.reply
 
 -- the entries from the next one on that belongs to a line
 abbrev pub from_line : List Entry → List Entry

@@ -1,17 +1,17 @@
 //! The replies of a script's lines.
 ghost use Rattle.std.specs.Prelude.{◌≡◌, [], Some, map, IfOk, option_map};
-ghost use Rattle.esr_report.specs.Replies.{fails_swap, has_fallen, is_of_line, from_line, falls_before, deposed_by, ask_reply, look_reply, answer_at, is_wait, wait_reply, replies};
+ghost use Rattle.esr_report.specs.Replies.{fails_swap, has_fallen, is_end, is_line_read, is_of_line, from_line, falls_before, deposed_by, ask_reply, look_reply, ended_reply, read_reply, answer_at, is_wait, wait_reply, replies};
 ghost use Rattle.esr_core.specs.After.{or_else, swaps_record};
 ghost use Rattle.esr_core.specs.Entry.{is_recorded, Refused};
 ghost use Rattle.esr_progress.specs.Asked.{asked_of};
 ghost use Rattle.esr_desk.specs.Refusals.{refusal_of};
-ghost use Rattle.esr_desk.specs.Entries.{step_of, answer_of};
+ghost use Rattle.esr_desk.specs.Entries.{read_of, step_of, answer_of};
 ghost use Rattle.esr_report.specs.Ends.{AreAllEnds};
 ghost use Rattle.esr_report.specs.Code.{reply_of};
 
 use crate::told::{ToldEnds, op_reply, restore_reply, told_ends};
 use crate::{Replies, Reply};
-use esr_desk::{Answer, Entry, EntryRefusal, History, Step, Why};
+use esr_desk::{Answer, Entry, EntryRefusal, History, Read, Step, Why};
 use esr_progress::Command;
 use esr_script::{Item, Script};
 use std::alloc::{AllocError, Global};
@@ -66,13 +66,39 @@ pub fn has_fallen(entries: &[Entry]) -> bool
     false
 }
 
-/// It belongs to a line: an ask or a look of who 0.
+/// A verification or a check ends by it.
+fn is_end(read: &Read) -> bool
+    ensures { result ≡ is_end (read_of read.now) }
+{
+    match read {
+        Read::Verified => true,
+        Read::Checked { .. } => true,
+        Read::Failed { .. } => true,
+        _ => false,
+    }
+}
+
+/// A verification or a check has ended, or is over since a step of it was refused as a record swap had failed.
+fn is_line_read(read: &Read, answer: &Answer) -> bool
+    ensures { result ≡ is_line_read (read_of read.now) (answer_of answer.now) }
+{
+    match answer {
+        Answer::Ended => is_end(read),
+        Answer::Refused {
+            refusal: EntryRefusal::Deposed { entry: _ },
+        } => true,
+        _ => false,
+    }
+}
+
+/// It belongs to a line: an ask or a look of who 0, or the end of a verification or a check.
 fn is_of_line(entry: &Entry) -> bool
     ensures { result ≡ is_of_line entry.now }
 {
     let is_line = match &entry.step {
         Step::Ask { command: _ } => true,
         Step::Look => true,
+        Step::Read { read } => is_line_read(read, &entry.answer),
         _ => false,
     };
     entry.who == 0 && is_line
@@ -167,6 +193,37 @@ fn look_reply(alloc: Global, answer: &Answer) -> Result<Option<Reply>, AllocErro
     }
 }
 
+/// What the end of a verification or of a check answers its line.
+fn ended_reply(read: &Read) -> Option<Reply>
+    ensures { option_map reply_of result ≡ ended_reply (read_of read.now) }
+{
+    match read {
+        Read::Verified => Some(Reply::Verified),
+        Read::Checked { snapshots, blobs } => Some(Reply::Checked {
+            snapshots: *snapshots,
+            blobs: *blobs,
+        }),
+        Read::Failed { why } => Some(Reply::Failed {
+            why: *why,
+            op: None,
+        }),
+        _ => None,
+    }
+}
+
+/// What a step of a verification or a check answers its line, where it is over by then.
+fn read_reply(read: &Read, answer: &Answer) -> Option<Reply>
+    ensures { option_map reply_of result ≡ read_reply (read_of read.now) (answer_of answer.now) }
+{
+    match answer {
+        Answer::Ended => ended_reply(read),
+        Answer::Refused {
+            refusal: EntryRefusal::Deposed { entry: _ },
+        } => Some(Reply::Deposed),
+        _ => None,
+    }
+}
+
 /// What the line of an entry is answered.
 fn answer_at(
     alloc: Global,
@@ -180,6 +237,7 @@ fn answer_at(
     match &entry.step {
         Step::Ask { command: _ } => ask_reply(alloc, entries, told, &entry.answer),
         Step::Look => look_reply(alloc, &entry.answer),
+        Step::Read { read } => Ok(read_reply(read, &entry.answer)),
         _ => Ok(None),
     }
 }

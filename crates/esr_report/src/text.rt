@@ -5,7 +5,7 @@ ghost use Rattle.esr_formats.specs.Names.{name_kind, name_of};
 ghost use Rattle.esr_formats.specs.Roots.{root_snap_of};
 ghost use Rattle.esr_desk.specs.Refusals.{refusal_of};
 ghost use Rattle.esr_desk.specs.Entries.{why_of};
-ghost use Rattle.esr_report.specs.Lines.{why_text, name_at, refusal_text, state_text, snap_text, snap_texts, reply_text, item_text, line_text, lines_text};
+ghost use Rattle.esr_report.specs.Lines.{why_text, name_at, index_at, refusal_text, state_text, snap_text, snap_texts, reply_text, item_text, line_text, lines_text};
 ghost use Rattle.esr_report.specs.Status.{last_line};
 ghost use Rattle.esr_report.specs.Code.{reply_of, ending_of};
 
@@ -114,6 +114,26 @@ fn push_no_snapshot(out: &mut Bytes, item: &Item, place: u64) -> Result<(), Allo
     push_name_at(out, item, place)
 }
 
+/// Appends the index's name that stands at this place of a command.
+fn push_index_at(out: &mut Bytes, item: &Item, place: u64) -> Result<(), AllocError>
+    ensures { OnOk result (out.new ≡ out.old ++ index_at item.now place) }
+{
+    let Item::Clone { indices, .. } = item else {
+        return Ok(());
+    };
+    match indices.as_slice().get(place as usize) {
+        Some(name) => push(out, name.as_str().as_bytes()),
+        None => Ok(()),
+    }
+}
+
+fn push_no_index(out: &mut Bytes, item: &Item, place: u64) -> Result<(), AllocError>
+    ensures { OnOk result (out.new ≡ out.old ++ (codes " refused no-index " ++ index_at item.now place)) }
+{
+    push(out, b" refused no-index ")?;
+    push_index_at(out, item, place)
+}
+
 pub fn push_refusal(out: &mut Bytes, item: &Item, refusal: &EntryRefusal) -> Result<(), AllocError>
     ensures { OnOk result (out.new ≡ out.old ++ refusal_text item.now (refusal_of refusal.now)) }
 {
@@ -130,7 +150,12 @@ pub fn push_refusal(out: &mut Bytes, item: &Item, refusal: &EntryRefusal) -> Res
         EntryRefusal::NameTaken { name } => push_named(out, b" failed name-taken ", name),
         EntryRefusal::DepotFault => push(out, b" failed depot"),
         EntryRefusal::NoSnapshot { place } => push_no_snapshot(out, item, *place),
+        EntryRefusal::NoIndex { place } => push_no_index(out, item, *place),
         EntryRefusal::BeingDeleted { op } => push_count(out, b" refused being-deleted ", *op),
+        EntryRefusal::CloneRunning { op } => push_count(out, b" refused clone-running ", *op),
+        EntryRefusal::RestoreRunning { op } => push_count(out, b" refused restore-running ", *op),
+        EntryRefusal::BusyOp { op } => push_count(out, b" refused busy op ", *op),
+        EntryRefusal::BusyTicket { ticket } => push_count(out, b" refused busy ticket ", *ticket),
     }
 }
 

@@ -18,7 +18,8 @@ use Rattle.esr_desk.specs.declared.unit.UnitRefusal.{UnitRefusal}
 use Rattle.esr_desk.specs.declared.unit.UnitRefusal.TheVariants as units
 use Rattle.esr_desk.specs.Entries.{why_of}
 use Rattle.esr_desk.specs.Start.{Start}
-use Rattle.esr_desk.specs.Last.{IsLast, IsRefusal}
+use Rattle.esr_desk.specs.Last.{IsLast}
+use Rattle.esr_desk.specs.Halts.{Halts}
 use Rattle.esr_desk.specs.Readers.{reader_of}
 use Rattle.esr_reading.specs.Outcome.{Waited, Stepped}
 use Rattle.esr_reading.specs.Shown.{Counts, HadFault, WasMissing, IsOf, DepotShown, TargetShown, ReadShown, IsDamaged, IsMisprinted, IsMiscut, IsShown}
@@ -29,7 +30,7 @@ use Rattle.esr_restore.specs.Cause.{cause_refused, cause_by}
 use Rattle.esr_restore.specs.Refused.{HasFailed, IsUnitRefused}
 use Rattle.esr_restore.specs.Trouble.{IsFound, IsReadRefusal, Shown}
 use Rattle.esr_restore.specs.Worked.{Worked}
-use Rattle.esr_restore.proofs.Going.{refusal_of_read, worked_on}
+use Rattle.esr_restore.proofs.Going.{worked_on}
 
 -- ---- a refusal that leaves the ticket out
 
@@ -50,12 +51,25 @@ refusal_same (steps.Refused (refusals.IdsSpent next)) refusal is = cc
 refusal_same (steps.Refused (refusals.NameTaken name)) refusal is = cc
 refusal_same (steps.Refused (refusals.NoSnapshot at)) refusal is = cc
 refusal_same (steps.Refused (refusals.BeingDeleted op)) refusal is = cc
+refusal_same (steps.Refused (refusals.NoIndex place)) refusal is = cc
+refusal_same (steps.Refused (refusals.CloneRunning op)) refusal is = cc
+refusal_same (steps.Refused (refusals.RestoreRunning op)) refusal is = cc
+refusal_same (steps.Refused (refusals.BusyOp op)) refusal is = cc
+refusal_same (steps.Refused (refusals.BusyTicket ticket)) refusal is = cc
 
--- a trouble that leaves the ticket out is a step's refusal
+-- a fetch that ends no ticket was refused since a record swap had failed
+fetch_halts : {S F H T : Type 0} (s : Start) (log : List Moment) (who : ℕ) (e refusal : StepRefusal) → IsReadRefusal s log who e → cause_refused {S = S} {F = F} {H = H} {T = T} e ≡ Err refusal → Halts s log who e
+fetch_halts s log who steps.Memory refusal h is = tt
+fetch_halts s log who steps.TurnsSpent refusal h is = h.1
+fetch_halts s log who (steps.Refused (refusals.Deposed entry)) refusal h is = (ReadStep (ReadBlob h.0.0), h.0.1)
+fetch_halts s log who (steps.Refused refusals.DepotFault) refusal h is = absurd cc
+fetch_halts s log who (steps.Refused e) refusal h is = absurd h.0.2
+
+-- a trouble that leaves the ticket out stops the unit
 pub stopped : {S F H T : Type 0} (fetch_faults : F → ℕ) (count : ℕ) (sure : Bool) (s : Start) (log : List Moment) (who : ℕ) (target : T) (trouble : Trouble F) (refusal : StepRefusal)
-    → Shown fetch_faults count sure s log who trouble → cause_by {S = S} {F = F} {H = H} {T = T} target trouble ≡ Err refusal → IsRefusal s log who refusal
+    → Shown fetch_faults count sure s log who trouble → cause_by {S = S} {F = F} {H = H} {T = T} target trouble ≡ Err refusal → Halts s log who refusal
 stopped {S} {F} {H} {T} fetch_faults count sure s log who target (troubles.Step e) refusal shown is =
-    subst (λ (r : StepRefusal). IsRefusal s log who r) (refusal_same {S = S} {F = F} {H = H} {T = T} e refusal is) (refusal_of_read s log who e shown)
+    subst (λ (r : StepRefusal). Halts s log who r) (refusal_same {S = S} {F = F} {H = H} {T = T} e refusal is) (fetch_halts {S = S} {F = F} {H = H} {T = T} s log who e refusal shown is)
 stopped fetch_faults count sure s log who target (troubles.Fetch fetch) refusal shown is = absurd cc
 stopped fetch_faults count sure s log who target troubles.Target refusal shown is = absurd cc
 stopped fetch_faults count sure s log who target (troubles.Found why) refusal shown is = absurd cc
@@ -115,6 +129,11 @@ module _ {S F H T : Type 0} (c : Counts F T) (s : Start) (log : List Moment) (wh
   refused_shown (steps.Refused (refusals.NameTaken name)) cause h is = absurd cc
   refused_shown (steps.Refused (refusals.NoSnapshot at)) cause h is = absurd cc
   refused_shown (steps.Refused (refusals.BeingDeleted op)) cause h is = absurd cc
+  refused_shown (steps.Refused (refusals.NoIndex place)) cause h is = absurd cc
+  refused_shown (steps.Refused (refusals.CloneRunning op)) cause h is = absurd cc
+  refused_shown (steps.Refused (refusals.RestoreRunning op)) cause h is = absurd cc
+  refused_shown (steps.Refused (refusals.BusyOp op)) cause h is = absurd cc
+  refused_shown (steps.Refused (refusals.BusyTicket ticket)) cause h is = absurd cc
 
   pub cause_shown : (sure : Bool) (target : T) (trouble : Trouble F) (cause : Cause S F H T) → (s.sure_targets ≡ true → sure ≡ true) → IsOf (reader_of s log who) (c.made_for target)
       → Shown c.fetch (c.target target) sure s log who trouble → cause_by target trouble ≡ Ok cause → IsShown c s log who (why_of cause.why) cause.by

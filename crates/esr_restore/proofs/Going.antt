@@ -4,11 +4,15 @@ use Rattle.std.specs.Result.{IsErrAnd}
 use Rattle.esr_model.specs.Names.{BlobName}
 use Rattle.esr_model.specs.Values.{Bytes}
 use Rattle.esr_core.specs.World.{Reader}
-use Rattle.esr_core.specs.Entry.{Read, ReadStep, ReadBlob, Reply, Refusal, Refused, Moment}
+use Rattle.esr_core.specs.Entry.{Read, Step, ReadStep, ReadBlob, Reply, Refusal, Refused, Moment}
 use Rattle.esr_desk.specs.declared.refusal.StepRefusal.{StepRefusal}
-use Rattle.esr_desk.specs.Refusals.{told_refusal}
+use Rattle.esr_desk.specs.declared.refusal.StepRefusal.TheVariants as steps
+use Rattle.esr_desk.specs.declared.refusal.EntryRefusal.{EntryRefusal}
+use Rattle.esr_desk.specs.declared.refusal.EntryRefusal.TheVariants as refusals
+use Rattle.esr_desk.specs.Refusals.{refusal_of, told_refusal}
+use Rattle.esr_desk.specs.Halts.{Halts}
 use Rattle.esr_desk.specs.Start.{Start}
-use Rattle.esr_desk.specs.Last.{WasRefused, IsRefusal}
+use Rattle.esr_desk.specs.Last.{IsLast}
 use Rattle.esr_desk.specs.Grew.{GrewBy, AllOf, grew_by_none, grew_by_on}
 use Rattle.esr_desk.specs.Outcome.{Spends}
 use Rattle.esr_desk.specs.Readers.{reader_of, with_read}
@@ -16,6 +20,7 @@ use Rattle.esr_reading.specs.Outcome.{Stepped, Refusing, Outcome}
 use Rattle.esr_restore.specs.Worked.{Worked}
 use Rattle.esr_restore.specs.Went.{Went}
 use Rattle.esr_restore.specs.Snapped.{IsAt}
+use Rattle.esr_restore.specs.Refusable.{MayRefuseEnd, MayRefuseFetch}
 use Rattle.esr_restore.specs.Trouble.{WasReadRefused, IsReadRefusal}
 
 pub passed : {T E : Type 0} (r : Result T E) (P : E → Type 0) (e : E) → IsErrAnd r (λ x. x ≡ e) → P e → IfErr r P
@@ -94,16 +99,22 @@ went_at s old new who index number uuid went at = worked_at (reader_of s old who
 
 -- ---- what a refusal says
 
-refused_last : (s : Start) (old new : List Moment) (who : ℕ) (read : Read) (refusal : Option Refusal) → Refusing s old new who read refusal → WasRefused new who refusal
-refused_last s old new who read None h = tt
-refused_last s old new who read (Some refusal) h = (ReadStep read, record { front = h.front; image = h.image; is = h.is })
+-- a fetch that was refused is the last entry
+fetch_last : (s : Start) (old new : List Moment) (who : ℕ) (name : BlobName) (refusal : Option Refusal) → ((r : Refusal) → Stepped s old new who (ReadBlob name) (Refused r) → MayRefuseFetch r) → Refusing s old new who (ReadBlob name) refusal → WasReadRefused new who refusal
+fetch_last s old new who name None may h = tt
+fetch_last s old new who name (Some refusal) may h = (name, record { front = h.front; image = h.image; is = h.is }, may refusal h)
 
-pub step_refusal : (s : Start) (old new : List Moment) (who : ℕ) (read : Read) (e : StepRefusal) → Refusing s old new who read (told_refusal e) × Spends s new e → IsRefusal s new who e
-step_refusal s old new who read e h = (refused_last s old new who read (told_refusal e) h.0, h.1)
+pub fetch_refusal : (s : Start) (old new : List Moment) (who : ℕ) (name : BlobName) (e : StepRefusal) → ((r : Refusal) → Stepped s old new who (ReadBlob name) (Refused r) → MayRefuseFetch r)
+    → Refusing s old new who (ReadBlob name) (told_refusal e) × Spends s new e → IsReadRefusal s new who e
+fetch_refusal s old new who name e may h = (fetch_last s old new who name (told_refusal e) may h.0, h.1)
 
-was_refused : (log : List Moment) (who : ℕ) (refusal : Option Refusal) → WasReadRefused log who refusal → WasRefused log who refusal
-was_refused log who None h = tt
-was_refused log who (Some refusal) h = (ReadStep (ReadBlob h.0), h.1)
+-- what stops a unit at the end of its ticket
+end_halts : (s : Start) (log : List Moment) (who : ℕ) (step : Step) (e : EntryRefusal) → IsLast log who step (Refused (refusal_of e)) → MayRefuseEnd (refusal_of e) → Halts s log who (steps.Refused e)
+end_halts s log who step (refusals.Deposed entry) last may = (step, last)
+end_halts s log who step e last may = absurd may
 
-pub refusal_of_read : (s : Start) (log : List Moment) (who : ℕ) (e : StepRefusal) → IsReadRefusal s log who e → IsRefusal s log who e
-refusal_of_read s log who e h = (was_refused log who (told_refusal e) h.0, h.1)
+-- a step that ends the ticket and was refused stops the unit
+pub end_refusal : (s : Start) (old new : List Moment) (who : ℕ) (read : Read) (e : StepRefusal) → ((r : Refusal) → Stepped s old new who read (Refused r) → MayRefuseEnd r) → Refusing s old new who read (told_refusal e) × Spends s new e → Halts s new who e
+end_refusal s old new who read steps.Memory may h = tt
+end_refusal s old new who read steps.TurnsSpent may h = h.1
+end_refusal s old new who read (steps.Refused e) may h = end_halts s new who (ReadStep read) e (record { front = h.0.front; image = h.0.image; is = h.0.is }) (may (refusal_of e) h.0)

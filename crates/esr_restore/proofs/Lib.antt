@@ -1,4 +1,5 @@
 pub mod Going
+pub mod Refusals
 pub mod Reading
 pub mod Pairs
 pub mod Sizes

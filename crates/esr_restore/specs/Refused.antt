@@ -9,7 +9,7 @@ use Rattle.esr_desk.specs.declared.unit.UnitRefusal.{UnitRefusal}
 use Rattle.esr_desk.specs.declared.unit.UnitRefusal.TheVariants as units
 use Rattle.esr_desk.specs.Entries.{why_of}
 use Rattle.esr_desk.specs.Start.{Start}
-use Rattle.esr_desk.specs.Last.{IsRefusal}
+use Rattle.esr_desk.specs.Halts.{Halts}
 use Rattle.esr_desk.specs.Readers.{reader_of}
 use Rattle.esr_reading.specs.Shown.{Counts, IsShown}
 use Rattle.esr_restore.specs.Worked.{Worked}
@@ -22,8 +22,8 @@ pub record HasFailed {F T : Type 0} (c : Counts F T) (s : Start) (log : List Mom
   pub by : By ⊥ F ⊥ T
   pub shown : IsShown c s front who (why_of why) by
 
--- it has failed and its ticket has ended, with the cause; or it was stopped with its ticket out
+-- it has failed and its ticket has ended, with the cause; or it was stopped with its ticket out, for no failure of its own
 abbrev pub IsUnitRefused : {F T : Type 0} → Counts F T → Start → List Moment → List Moment → ℕ → UnitRefusal → Type 0
 IsUnitRefused c s old new who (units.Failed why) =
     ((q : Reader) × Worked (reader_of s old who) q × (reader_of s new who ≡ record q { out = false })) × HasFailed c s new who why
-IsUnitRefused c s old new who (units.Stopped refusal) = Worked (reader_of s old who) (reader_of s new who) × IsRefusal s new who refusal
+IsUnitRefused c s old new who (units.Stopped refusal) = Worked (reader_of s old who) (reader_of s new who) × Halts s new who refusal

@@ -19,6 +19,7 @@ use Rattle.esr_desk.specs.Last.{IsLast}
 use Rattle.esr_desk.specs.Shown.{Faulty}
 use Rattle.esr_desk.specs.Readers.{reader_of}
 use Rattle.esr_reading.specs.Shown.{IsDamaged, IsMisprinted, IsMiscut}
+use Rattle.esr_restore.specs.Refusable.{MayRefuseFetch}
 use Rattle.esr_restore.specs.declared.trouble.Trouble.{Trouble}
 use Rattle.esr_restore.specs.declared.trouble.Trouble.TheVariants as troubles
 
@@ -29,10 +30,10 @@ IsFound s log who (whys.Misprinted name stated found) = IsMisprinted s (reader_o
 IsFound s log who (whys.Disagreeing name other) = IsMiscut s (reader_of s log who) (name_of name) (name_of other)
 IsFound s log who why = ⊥
 
--- the ticket's last step, a fetch, was refused so, if the history tells it
+-- the ticket's last step, a fetch, was refused so, as it may be, if the history tells it
 abbrev pub WasReadRefused : List Moment → ℕ → Option Refusal → Type 0
 WasReadRefused log who None = Unit {0}
-WasReadRefused log who (Some refusal) = (name : BlobName) × IsLast log who (ReadStep (ReadBlob name)) (Refused refusal)
+WasReadRefused log who (Some refusal) = (name : BlobName) × IsLast log who (ReadStep (ReadBlob name)) (Refused refusal) × MayRefuseFetch refusal
 
 -- the same, or memory was wanting, or turns were spent
 abbrev pub IsReadRefusal : Start → List Moment → ℕ → StepRefusal → Type 0

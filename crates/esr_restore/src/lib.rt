@@ -4,6 +4,7 @@
 mod cause;
 mod file;
 mod files;
+mod law;
 mod part;
 mod snap;
 mod trouble;

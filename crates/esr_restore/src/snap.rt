@@ -12,6 +12,7 @@ ghost use Rattle.esr_restore.specs.Snapped.{IsAt, HasSnap};
 ghost use Rattle.esr_restore.specs.Trouble.{Shown};
 ghost use Rattle.esr_restore.specs.Went.{Went};
 
+use crate::law::refusals;
 use crate::trouble::Trouble;
 use esr_depot::CallError;
 use esr_desk::{Desk, StepRefusal, Why};
@@ -41,6 +42,7 @@ pub fn fetch<Q: RestoreDesk>(
     ensures went { Went Q.start (Q.seen desk.old) (Q.seen desk.new) ticket }
     ensures holds { Q.holds desk.new ticket }
 {
+    refusals();
     match desk.read(alloc, ticket, name)? {
         Some(fetch) => Ok(fetch),
         None => Err(Trouble::Found {

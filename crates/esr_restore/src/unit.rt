@@ -15,6 +15,7 @@ ghost use Rattle.esr_restore.specs.Refused.{IsUnitRefused};
 
 use crate::cause::cause_of;
 use crate::files::{restore_files, sum_of};
+use crate::law::refusals;
 use crate::snap::fetch_snap;
 use crate::trouble::Trouble;
 use esr_desk::{Desk, StepRefusal, Unit, UnitRefusal};
@@ -91,6 +92,7 @@ fn fail<Q: RestoreDesk>(
     ensures grew { GrewBy Q.start ticket (Q.seen desk.old) (Q.seen desk.new) }
     ensures holds { Q.holds desk.new ticket }
 {
+    refusals();
     match cause_of(target, trouble) {
         Ok(cause) => {
             let why = cause.why;
@@ -124,6 +126,7 @@ pub fn run_unit<Q: RestoreDesk, T: Targets<Target = Q::Target>>(
     ensures grew { GrewBy Q.start unit.now.ready.ticket (Q.seen desk.old) (Q.seen desk.new) }
     ensures holds { Q.holds desk.new unit.now.ready.ticket }
 {
+    refusals();
     let ticket = unit.ready.ticket;
     let Work::RestoreShard {
         uuid,

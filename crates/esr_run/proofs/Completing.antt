@@ -1,13 +1,13 @@
 -- What a run over quiet objects ends with.
-use Rattle.std.proofs.Common.{◌≡◌, ◌≢◌, ◌⊎◌, ℕ, suc, ◌+◌, ◌^◌, ◌<◌, ◌≤◌, Bool, true, false, cond, nat_lt, List, [], ◌∷◌, ◌++◌, map, length, Option, Some, None, is_some, refl, sym, ap, ◌∙◌, subst, inl, inr, ⊎_elim, arith}
+use Rattle.std.proofs.Common.{◌≡◌, ◌⊎◌, ℕ, suc, ◌+◌, ◌^◌, ◌<◌, ◌≤◌, Bool, true, false, cond, nat_lt, List, [], ◌∷◌, ◌++◌, map, length, Option, Some, is_some, refl, sym, ap, ◌∙◌, subst, inl, inr, ⊎_elim, arith}
 use Rattle.std.specs.FinMap as fin
-use Rattle.std.specs.Prelude.{◌&&◌, ◌==◌, not, unwrap_or, if◌then◌else◌}
+use Rattle.std.specs.Prelude.{◌&&◌, ◌==◌, unwrap_or, if◌then◌else◌}
 use Rattle.std.proofs.lemmas.Bool.{ltb-true, ltb-false}
 use Rattle.std.proofs.lemmas.List.Sums.{sum_by-cons}
 use Rattle.esr_model.specs.Values.{Bytes, Has, Formats}
 use Rattle.esr_model.specs.Image.{Image}
 use Rattle.esr_core.specs.World.{World, Opened}
-use Rattle.esr_core.specs.Entry.{AskedIndex, Asked, Snapshot, Restore, Read, CommitTest, Step, AskStep, TakeStep, ElectStep, ReadStep, Reply, Refused, DepotFault, DeposedAt, IdsSpent, GenerationsSpent, TermsSpent, Entry, Moment}
+use Rattle.esr_core.specs.Entry.{AskedIndex, Asked, Snapshot, Restore, Read, CommitTest, Step, AskStep, TakeStep, ElectStep, ReadStep, Reply, Refused, DepotFault, DeposedAt, IdsSpent, GenerationsSpent, TermsSpent, Entry, Moment, DrawTest}
 use Rattle.esr_core.specs.Allowed as allowed
 use Rattle.esr_core.specs.Allowed.{ReadAllows, VerifyAllows, Allows, Allowed}
 use Rattle.esr_core.specs.History.{world_from, IsLegal, AreTold}
@@ -27,41 +27,18 @@ use Rattle.esr_repo.specs.Log.{image_of, image_at, log_from, log_of, tick}
 use Rattle.esr_repo.specs.Counted.{is_fault, fault_entries}
 use Rattle.esr_repo.specs.Calm.{IsCalm}
 use Rattle.esr_repo.specs.Deposed.{FailedSwap, AreDeposedSo}
-use Rattle.esr_quiet.specs.Asked.{is_take, is_asked, asked_steps, AreSteady}
-use Rattle.esr_quiet.specs.Smooth.{IsSmooth, IsSpent, AreCalm, AreUnelected, AreTestedOnce, NoneFailed, NoneUnrestored, NoneAsked}
+use Rattle.esr_quiet.specs.Asked.{is_line_ask, is_asked, asked_steps, AreSteady}
+use Rattle.esr_quiet.specs.Smooth.{HasDrawn, IsSmooth, IsSpent, AreCalm, AreUnelected, AreTestedOnce, NoneFailed, NoneUnrestored, NoneAsked, AreDrawn}
 use Rattle.esr_quiet.specs.Refusals.{AreByRule}
 use Rattle.esr_complete.specs.Lines.{index_of_line, steps_of_item, steps_of, IsKnown, AreKnown, entries_of}
 use Rattle.esr_complete.specs.Answers.{AreAnswered, EndsWell}
-use Rattle.esr_run.specs.Script.{is_carried, first_bad}
 use Rattle.esr_run.specs.Start.{Telling, formats_by, steady_by, start_of}
 use Rattle.esr_run.specs.Images.{TellsAll}
 use Rattle.esr_run.specs.Complete.{AsksRestore, IsQuietFor, IsAnsweredWell, Completes}
 use Rattle.esr_run.specs.Laws.{QuietLaws}
-use Rattle.esr_run.specs.Made.{MadeFirst, HasStopped, AreDone}
-
--- ---- lines that can be carried out
-
-known_item : (item : Item) → is_carried item ≡ true → IsKnown item
-known_item (items.Snapshot name indices) e = tt
-known_item items.Wait e = tt
-known_item items.List e = tt
-known_item (items.Clone source name indices) e = absurd cc
-known_item (items.Delete names) e = absurd cc
-known_item (items.Restore name place) e = tt
-known_item items.Cleanup e = absurd cc
-known_item items.Failover e = absurd cc
-known_item items.Check e = absurd cc
-known_item items.Verify e = absurd cc
-
-first_known : (line : ScriptLine) (lines : List ScriptLine) (b : Bool) → (if b then first_bad lines else Some line.number) ≡ None → (b ≡ true) × (first_bad lines ≡ None)
-first_known line lines true e = (refl, e)
-first_known line lines false e = absurd cc
-
-pub are_known : (lines : List ScriptLine) → first_bad lines ≡ None → AreKnown lines
-are_known [] e = tt
-are_known (line ∷ lines) e =
-    let h = first_known line lines (is_carried line.item) e in
-    (known_item line.item h.0, are_known lines h.1)
+use Rattle.esr_verify.specs.Began.{IsFurther}
+use Rattle.esr_run.specs.Verified.{AreBegun}
+use Rattle.esr_run.specs.Made.{MadeFirst, HasFallen, AreDone}
 
 -- ---- entries and moments
 
@@ -141,7 +118,12 @@ record Place (log : List Moment) (m : Moment) : Type 0 where
   back : List Moment
   is : log ≡ front ++ m ∷ back
 
-in_middle : {X : Type 0} (a b : List X) (x : X) → Has (a ++ x ∷ b) x
+pub in_front : {X : Type 0} (a b : List X) (x : X) → Has a x → Has (a ++ b) x
+in_front [] b x h = absurd h
+in_front (y ∷ a) b x (inl e) = inl e
+in_front (y ∷ a) b x (inr h) = inr (in_front a b x h)
+
+pub in_middle : {X : Type 0} (a b : List X) (x : X) → Has (a ++ x ∷ b) x
 in_middle [] b x = inl refl
 in_middle (y ∷ a) b x = inr (in_middle a b x)
 
@@ -214,20 +196,20 @@ module _ (s : Start) (log : List Moment) (es : List Entry) (entries : entries_of
 
 -- ---- what was asked is what lines ask for
 
-asked_true : (e : Entry) → e.who ≡ 0 → is_take e.step ≡ false → is_asked e ≡ true
-asked_true e who take = ap (λ (k : ℕ). (k == 0) && not (is_take e.step)) who ∙ ap not take
+pub asked_true : (e : Entry) → e.who ≡ 0 → is_line_ask e.step ≡ true → is_asked e ≡ true
+asked_true e who ask = ap (λ (k : ℕ). (k == 0) && is_line_ask e.step) who ∙ ask
 
 behind : (n : Moment) (log : List Moment) (step : Step) (b : Bool) → Has (asked_steps log) step → Has (if b then n.entry.step ∷ asked_steps log else asked_steps log) step
 behind n log step true h = inr h
 behind n log step false h = h
 
-in_asked : (log : List Moment) (m : Moment) → Has log m → is_asked m.entry ≡ true → Has (asked_steps log) m.entry.step
+pub in_asked : (log : List Moment) (m : Moment) → Has log m → is_asked m.entry ≡ true → Has (asked_steps log) m.entry.step
 in_asked [] m h asked = absurd h
 in_asked (n ∷ log) m (inl e) asked =
     subst (λ (l : List Step). Has l m.entry.step) (sym (ap (λ (b : Bool). if b then n.entry.step ∷ asked_steps log else asked_steps log) (ap (λ (x : Moment). is_asked x.entry) e ∙ asked))) (inl (ap (λ (x : Moment). x.entry.step) e))
 in_asked (n ∷ log) m (inr h) asked = behind n log m.entry.step (is_asked n.entry) (in_asked log m h asked)
 
-in_wanted : (first rest wanted : List Step) (step : Step) → first ++ rest ≡ wanted → Has first step → Has wanted step
+pub in_wanted : (first rest wanted : List Step) (step : Step) → first ++ rest ≡ wanted → Has first step → Has wanted step
 in_wanted first rest wanted step is h = subst (λ (l : List Step). Has l step) is (go first h)
   where
     go : (a : List Step) → Has a step → Has (a ++ rest) step
@@ -236,40 +218,49 @@ in_wanted first rest wanted step is h = subst (λ (l : List Step). Has l step) i
     go (x ∷ a) (inr h) = inr (go a h)
 
 -- a step of lines is that of one
-record OfLine (moment : ℕ) (lines : List ScriptLine) (step : Step) : Type 0 where
-  line : ScriptLine
-  there : Has lines line
-  step_is : Has (steps_of_item moment line.item) step
+pub record OfLine (moment : ℕ) (lines : List ScriptLine) (step : Step) : Type 0 where
+  pub line : ScriptLine
+  pub there : Has lines line
+  pub step_is : Has (steps_of_item moment line.item) step
 
 either_list : (a b : List Step) (step : Step) → Has (a ++ b) step → Has a step ⊎ Has b step
 either_list [] b step h = inr h
 either_list (x ∷ a) b step (inl e) = inl (inl e)
 either_list (x ∷ a) b step (inr h) = ⊎_elim (λ l. inl (inr l)) (λ r. inr r) (either_list a b step h)
 
-of_line : (moment : ℕ) (lines : List ScriptLine) (step : Step) → Has (steps_of moment lines) step → OfLine moment lines step
+pub of_line : (moment : ℕ) (lines : List ScriptLine) (step : Step) → Has (steps_of moment lines) step → OfLine moment lines step
 of_line moment [] step h = absurd h
 of_line moment (line ∷ lines) step h = ⊎_elim
     (λ here. record { line = line; there = inl refl; step_is = here })
     (λ later. let o = of_line moment lines step later in record { line = o.line; there = inr o.there; step_is = o.step_is })
     (either_list (steps_of_item moment line.item) (steps_of moment lines) step h)
 
-no_election : (moment : ℕ) (item : Item) → Has (steps_of_item moment item) ElectStep → ⊥
+pub no_election : (moment : ℕ) (item : Item) → Has (steps_of_item moment item) ElectStep → ⊥
 no_election moment (items.Snapshot name indices) (inl e) = cc
 no_election moment (items.Snapshot name indices) (inr h) = h
 no_election moment (items.Restore name place) (inl e) = cc
 no_election moment (items.Restore name place) (inr h) = h
 no_election moment items.List (inl e) = cc
 no_election moment items.List (inr h) = h
+no_election moment items.Verify (inl e) = cc
+no_election moment items.Verify (inr h) = h
 no_election moment item h = h
 
-no_test : (moment : ℕ) (item : Item) (read : Read) → Has (steps_of_item moment item) (ReadStep read) → ⊥
-no_test moment (items.Snapshot name indices) read (inl e) = cc
-no_test moment (items.Snapshot name indices) read (inr h) = h
-no_test moment (items.Restore name place) read (inl e) = cc
-no_test moment (items.Restore name place) read (inr h) = h
-no_test moment items.List read (inl e) = cc
-no_test moment items.List read (inr h) = h
-no_test moment item read h = h
+-- none of these lines asks for a verification
+no_read : (moment : ℕ) (item : Item) → IsKnown item → (read : Read) → Has (steps_of_item moment item) (ReadStep read) → ⊥
+no_read moment (items.Snapshot name indices) known read (inl e) = cc
+no_read moment (items.Snapshot name indices) known read (inr h) = h
+no_read moment (items.Restore name place) known read (inl e) = cc
+no_read moment (items.Restore name place) known read (inr h) = h
+no_read moment items.List known read (inl e) = cc
+no_read moment items.List known read (inr h) = h
+no_read moment items.Wait known read h = h
+no_read moment item known read h = known
+
+known_in : (lines : List ScriptLine) → AreKnown lines → (line : ScriptLine) → Has lines line → IsKnown line.item
+known_in [] known line h = absurd h
+known_in (x ∷ lines) known line (inl e) = subst (λ (l : ScriptLine). IsKnown l.item) e known.0
+known_in (x ∷ lines) known line (inr h) = known_in lines known.1 line h
 
 -- the indices of a snapshot that was asked are those of the line's
 record OfSnapshot (item : Item) (indices : List AskedIndex) : Type 0 where
@@ -285,6 +276,8 @@ of_snapshot moment (items.Restore called place) name indices when (inl e) = absu
 of_snapshot moment (items.Restore called place) name indices when (inr h) = absurd h
 of_snapshot moment items.List name indices when (inl e) = absurd cc
 of_snapshot moment items.List name indices when (inr h) = absurd h
+of_snapshot moment items.Verify name indices when (inl e) = absurd cc
+of_snapshot moment items.Verify name indices when (inr h) = absurd h
 of_snapshot moment item name indices when h = absurd h
 
 -- a restore that was asked is that of a restore line
@@ -294,6 +287,8 @@ of_restore moment (items.Snapshot called of) name place (inl e) = absurd cc
 of_restore moment (items.Snapshot called of) name place (inr h) = absurd h
 of_restore moment items.List name place (inl e) = absurd cc
 of_restore moment items.List name place (inr h) = absurd h
+of_restore moment items.Verify name place (inl e) = absurd cc
+of_restore moment items.Verify name place (inr h) = absurd h
 of_restore moment item name place h = absurd h
 
 -- whether some line asks for a restore
@@ -342,7 +337,7 @@ module _ {S F H T : Type 0} (laws : QuietLaws S F H T) (count : Counts S F H T) 
   log = log_of after clock history
 
   module _ (no_deletes : world.deletes ≡ fin.empty) (legal : Legal s log) (told : s.tells ≡ true → AreTold log) (shown : AreShown {S = S} {F = F} {H = H} {T = T} count s log faults) (once : AreOnce s log) (calm : IsCalm true after.sure history) (named : AreDeposedSo history)
-      (made : MadeFirst s (steps_of moment lines) [] log) (quiet_for : IsQuietFor telling before lines) (tells_all : TellsAll (formats_by telling) world log) (few : length history < 2 ^ 40) (unspent : (e : Entry) → Has history e → IsSpent e.reply → ⊥) where
+      (made : MadeFirst s (steps_of moment lines) [] log) (begun : AreBegun log) (quiet_for : IsQuietFor telling before lines) (tells_all : TellsAll (formats_by telling) world log) (few : length history < 2 ^ 40) (unspent : (e : Entry) → Has history e → IsSpent e.reply → ⊥) where
     entries : entries_of log ≡ history
     entries = entries_are (image_at after) clock history
 
@@ -353,16 +348,16 @@ module _ {S F H T : Type 0} (laws : QuietLaws S F H T) (count : Counts S F H T) 
     nobody = asks_nobody s log history entries legal none_faults named
 
     -- what nobody's ticket asked is what lines ask for
-    wanted : (m : Moment) → Has log m → m.entry.who ≡ 0 → is_take m.entry.step ≡ false → OfLine moment lines m.entry.step
-    wanted m h who take =
+    wanted : (m : Moment) → Has log m → m.entry.who ≡ 0 → is_line_ask m.entry.step ≡ true → OfLine moment lines m.entry.step
+    wanted m h who ask =
         let asked : asked_steps log ≡ made.first = ap asked_steps made.grew.is ∙ made.grew.asked refl in
-        let first : Has made.first m.entry.step = subst (λ (l : List Step). Has l m.entry.step) asked (in_asked log m h (asked_true m.entry who take)) in
+        let first : Has made.first m.entry.step = subst (λ (l : List Step). Has l m.entry.step) asked (in_asked log m h (asked_true m.entry who ask)) in
         of_line moment lines m.entry.step (in_wanted made.first made.rest (steps_of moment lines) m.entry.step made.is first)
 
     steady : AreSteady s log
     steady m name indices when h is a number has below =
         let who : m.entry.who ≡ 0 = subst (IsNobodys m.entry.who) is (nobody m h) in
-        let from = wanted m h who (ap is_take is) in
+        let from = wanted m h who (ap is_line_ask is) in
         let snap = of_snapshot moment from.line.item name indices when (subst (λ (step : Step). Has (steps_of_item moment from.line.item) step) is from.step_is) in
         let one = in_map snap.line_indices a (subst (λ (l : List AskedIndex). Has l a) snap.indices_are has) in
         let less : number < one.0.shards = subst (λ (x : AskedIndex). number < x.shards) (sym one.2) below in
@@ -373,16 +368,30 @@ module _ {S F H T : Type 0} (laws : QuietLaws S F H T) (count : Counts S F H T) 
     unelected : AreUnelected log
     unelected m h is =
         let who : m.entry.who ≡ 0 = subst (IsNobodys m.entry.who) is (nobody m h) in
-        let from = wanted m h who (ap is_take is) in
+        let from = wanted m h who (ap is_line_ask is) in
         no_election moment from.line.item (subst (λ (step : Step). Has (steps_of_item moment from.line.item) step) is from.step_is)
 
     -- no line asks for a verification
+    none_drawn : (m : Moment) → Has log m → m.entry.who ≡ 0 → m.entry.step ≡ ReadStep DrawTest → ⊥
+    none_drawn m h who is =
+        let from = wanted m h who (ap is_line_ask is) in
+        no_read moment from.line.item (known_in lines quiet_for.known from.line from.there) DrawTest (subst (λ (step : Step). Has (steps_of_item moment from.line.item) step) is from.step_is)
+
+    -- so who 0 has read nothing
+    none_read : (front back : List Moment) (m : Moment) (read : Read) → log ≡ front ++ m ∷ back → m.entry.who ≡ 0 → m.entry.step ≡ ReadStep read → ⊥
+    none_read front back m read split who is =
+        ⊎_elim
+        (λ (draw : m.entry.step ≡ ReadStep DrawTest). none_drawn m (subst (λ (l : List Moment). Has l m) (sym split) (in_middle front back m)) who draw)
+        (λ (further : IsFurther read × HasDrawn front). let d = further.1 in none_drawn d.0 (subst (λ (l : List Moment). Has l d.0) (sym split) (in_front front (m ∷ back) d.0 d.1)) d.2 d.3)
+        (begun front back m read split who is)
+
     tested : AreTestedOnce s log
     tested front back m name split is has =
         let h : Has log m = subst (λ (l : List Moment). Has l m) (sym split) (in_middle front back m) in
-        let who : m.entry.who ≡ 0 = subst (IsNobodys m.entry.who) is (nobody m h) in
-        let from = wanted m h who (ap is_take is) in
-        no_test moment from.line.item (CommitTest name) (subst (λ (step : Step). Has (steps_of_item moment from.line.item) step) is from.step_is)
+        none_read front back m (CommitTest name) split (subst (IsNobodys m.entry.who) is (nobody m h)) is
+
+    drawn : AreDrawn log
+    drawn front back m read split who is ended = absurd (none_read front back m read split who is)
 
     tells : s.tells ≡ true
     tells = ap is_some quiet_for.holds.told
@@ -415,7 +424,7 @@ module _ {S F H T : Type 0} (laws : QuietLaws S F H T) (count : Counts S F H T) 
     unasked : ((line : ScriptLine) (name place : Bytes) → Has lines line → line.item ≡ items.Restore name place → ⊥) → NoneAsked log
     unasked none m name place h is =
         let who : m.entry.who ≡ 0 = subst (IsNobodys m.entry.who) is (nobody m h) in
-        let from = wanted m h who (ap is_take is) in
+        let from = wanted m h who (ap is_line_ask is) in
         let it = of_restore moment from.line.item name place (subst (λ (step : Step). Has (steps_of_item moment from.line.item) step) is from.step_is) in
         none from.line it.0 it.1 from.there it.2
 
@@ -429,13 +438,8 @@ module _ {S F H T : Type 0} (laws : QuietLaws S F H T) (count : Counts S F H T) 
     rules = laws.rules s log smooth none_failed
 
     -- the work wasn't stopped
-    not_stopped : HasStopped log → ⊥
-    not_stopped (inl was) =
-        let by = rules was.moment was.refusal was.there was.refused in
-        ⊎_elim
-        (λ (some : was.moment.entry.who ≢ 0). some (subst (IsNobodys was.moment.entry.who) by.0.1 (nobody was.moment was.there)))
-        (λ (take : was.moment.entry.step ≡ TakeStep). asks_none by.0.0 (sym by.0.1 ∙ take))
-        was.step
+    not_stopped : HasFallen s moment lines [] log → ⊥
+    not_stopped (inl fell) = smooth.calm fell.1.moment fell.1.there fell.1.failed
     not_stopped (inr all) =
         let many : length history ≡ length log = ap length (sym entries) ∙ as_many log in
         let most : 2 ^ 40 ≤ length log = all in
@@ -446,14 +450,14 @@ module _ {S F H T : Type 0} (laws : QuietLaws S F H T) (count : Counts S F H T) 
     well known done =
         let asked : asked_steps log ≡ steps_of moment lines = ap asked_steps done.grew.is ∙ done.grew.asked refl in
         record {
-          answered = subst (λ (es : List Entry). AreAnswered lines (replies lines es)) entries (laws.answered s log lines moment smooth none_failed none_unrestored rules done.idle known asked);
-          ends = subst (λ (es : List Entry). EndsWell lines es) entries (laws.ends s log lines moment smooth none_failed none_unrestored rules done.idle known asked);
+          answered = subst (λ (es : List Entry). AreAnswered lines (replies lines es)) entries (laws.answered s log lines moment smooth none_failed none_unrestored rules drawn done.idle known asked);
+          ends = subst (λ (es : List Entry). EndsWell lines es) entries (laws.ends s log lines moment smooth none_failed none_unrestored rules drawn done.idle known asked);
           waits = done.waits;
         }
 
   pub completes : (status : ℕ) → (no_deletes : world.deletes ≡ fin.empty) → Legal s log → (s.tells ≡ true → AreTold log) → AreShown {S = S} {F = F} {H = H} {T = T} count s log faults → AreOnce s log → IsCalm true after.sure history → AreDeposedSo history
-      → MadeFirst s (steps_of moment lines) [] log → AreDone s moment lines [] log ⊎ HasStopped log → AreKnown lines → status ≡ status_of (ending lines history) → IsQuietFor telling before lines → Completes telling size moment lines before world clock after history status
-  completes status no_deletes legal told shown once calm named made done known is quiet_for tells_all =
+      → MadeFirst s (steps_of moment lines) [] log → AreBegun log → AreDone s moment lines [] log ⊎ HasFallen s moment lines [] log → AreKnown lines → status ≡ status_of (ending lines history) → IsQuietFor telling before lines → Completes telling size moment lines before world clock after history status
+  completes status no_deletes legal told shown once calm named made begun done known is quiet_for tells_all =
       ⊎_elim
       (λ (spent : Spent history). inl (inl spent))
       (λ (unspent : (e : Entry) → Has history e → IsSpent e.reply → ⊥).
@@ -462,8 +466,8 @@ module _ {S F H T : Type 0} (laws : QuietLaws S F H T) (count : Counts S F H T) 
       (λ (few : length history < 2 ^ 40).
       inr (
         ⊎_elim
-            (λ (all : AreDone s moment lines [] log). well no_deletes legal told shown once calm named made quiet_for tells_all few unspent known all)
-            (λ (stopped : HasStopped log). absurd (not_stopped no_deletes legal told shown once calm named made quiet_for tells_all few unspent stopped))
+            (λ (all : AreDone s moment lines [] log). well no_deletes legal told shown once calm named made begun quiet_for tells_all few unspent known all)
+            (λ (stopped : HasFallen s moment lines [] log). absurd (not_stopped no_deletes legal told shown once calm named made begun quiet_for tells_all few unspent stopped))
             done,
         is,
       ))

@@ -16,7 +16,8 @@ use Rattle.esr_repo.specs.Calm.{IsCalm}
 use Rattle.esr_quiet.specs.Asked.{asked_steps}
 use Rattle.esr_complete.specs.Lines.{steps_of}
 use Rattle.esr_report.specs.Status.{Ending, AllOk, SomeRefused, SwapFailed, BlobDamaged, NumbersSpent, ending, status_of}
-use Rattle.esr_run.specs.Made.{MadeFirst, HasStopped, AreDone}
+use Rattle.esr_run.specs.Verified.{AreWhole}
+use Rattle.esr_run.specs.Made.{MadeFirst, HasFallen, AreDone}
 use Rattle.std.specs.Io.KnownBytes.{Appends}
 use Rattle.esr_opening.specs.Opening.{Kept, IsFault, IsOpening, IsOpenRefused}
 use Rattle.esr_opening.specs.declared.refusal.OpenRefusal.{OpenRefusal}
@@ -27,7 +28,7 @@ use Rattle.esr_script.specs.declared.item.ScriptLine.{ScriptLine}
 use Rattle.esr_desk.specs.declared.fault.Fault.{Fault}
 use Rattle.esr_run.specs.Counts.{Counts, AreShown}
 use Rattle.esr_repo.specs.Log.{log_of}
-use Rattle.esr_run.specs.Asked.{wanted_of, part_size_of}
+use Rattle.esr_run.specs.Asked.{wanted_of, part_size_of, workers_of}
 use Rattle.esr_run.specs.Ends.{RunEnd, BadWords, Unreadable, BadScript, BadLine, OpenFault, Damaged, NoTerm, Carried, exit_of, text_of}
 use Rattle.esr_run.specs.Faults.{listed, fetch_of, HasFetch}
 use Rattle.esr_run.specs.Start.{Telling, is_absent, formats_by, start_of, LegalRun}
@@ -82,11 +83,12 @@ unopened laws count files before after old_faults new_faults history faults refu
 abbrev pub Begun : Telling → ℕ → Bool → Look → Kept → Start
 Begun files size quiet mid k = start_of files size quiet mid (begun_world (now mid) (cluster_of k.cluster) (root_of k.root))
 
-unfoldable pub opened_run : {S F H T : Type 0} (laws : Laws) (count : Counts S F H T) (files : Telling) (size moment : ℕ) (lines : List ScriptLine) (quiet : Bool) (before mid after : Look) (k : Kept) (history : List Entry) (faults : List (Fault S F H T)) → IsOpening before mid k → (2 ^ 62 ≤ before.sure → quiet ≡ true)
+unfoldable pub opened_run : {S F H T : Type 0} (laws : Laws) (count : Counts S F H T) (files : Telling) (size workers moment : ℕ) (lines : List ScriptLine) (quiet : Bool) (before mid after : Look) (k : Kept) (history : List Entry) (faults : List (Fault S F H T)) → IsOpening before mid k → (2 ^ 62 ≤ before.sure → quiet ≡ true)
     → LegalRun (Begun files size quiet mid k) mid.clock after history → IsPast (Begun files size quiet mid k) mid.clock mid.since after history → AreShown count (Begun files size quiet mid k) (log_of after mid.clock history) faults
     → AreOnce (Begun files size quiet mid k) (log_of after mid.clock history) → NoneTwice (log_of after mid.clock history) → IsCalm quiet after.sure history → MadeFirst (Begun files size quiet mid k) (steps_of moment lines) [] (log_of after mid.clock history)
-    → IsOpenedRun count files size moment lines before after history faults
-opened_run {S} {F} {H} {T} laws count files size moment lines quiet before mid after k history faults o quiet_is legal past shown once single calm made =
+    → AreWhole (Begun files size quiet mid k) workers (log_of after mid.clock history)
+    → IsOpenedRun count files size workers moment lines before after history faults
+opened_run {S} {F} {H} {T} laws count files size workers moment lines quiet before mid after k history faults o quiet_is legal past shown once single calm made verified =
     let is = start_is files size quiet before mid k o in
     let run = subst (λ (s : Start). LegalRun s mid.clock after history) is legal in
     let was = subst (λ (s : Start). IsPast s mid.clock mid.since after history) is past in
@@ -105,6 +107,7 @@ opened_run {S} {F} {H} {T} laws count files size moment lines quiet before mid a
       once = subst (λ (s : Start). AreOnce s (log_of after mid.clock history)) is once;
       single = single;
       calm = calm;
+      verified = subst (λ (s : Start). AreWhole s workers (log_of after mid.clock history)) is verified;
       asked = (made.rest, ap (λ (l : List Step). l ++ made.rest) (ap asked_steps made.grew.is ∙ made.grew.asked refl) ∙ made.is);
     }
 
@@ -117,18 +120,19 @@ not_wanting SwapFailed is = cc
 not_wanting (BlobDamaged name) is = cc
 not_wanting NumbersSpent is = cc
 
-pub verdict_opening : {S F H T : Type 0} (laws : Laws) (count : Counts S F H T) (files : Telling) (size moment : ℕ) (lines : List ScriptLine) (quiet : Bool) (before mid after : Look) (k : Kept) (history : List Entry) (faults : List (Fault S F H T))
+pub verdict_opening : {S F H T : Type 0} (laws : Laws) (count : Counts S F H T) (files : Telling) (size workers moment : ℕ) (lines : List ScriptLine) (quiet : Bool) (before mid after : Look) (k : Kept) (history : List Entry) (faults : List (Fault S F H T))
     (old_faults new_faults status : ℕ) (text : Bytes) → IsOpening before mid k → (2 ^ 62 ≤ before.sure → quiet ≡ true)
     → LegalRun (Begun files size quiet mid k) mid.clock after history → IsPast (Begun files size quiet mid k) mid.clock mid.since after history → AreShown count (Begun files size quiet mid k) (log_of after mid.clock history) faults
     → AreOnce (Begun files size quiet mid k) (log_of after mid.clock history) → NoneTwice (log_of after mid.clock history) → IsCalm quiet after.sure history → MadeFirst (Begun files size quiet mid k) (steps_of moment lines) [] (log_of after mid.clock history)
+    → AreWhole (Begun files size quiet mid k) workers (log_of after mid.clock history)
     → IsTold status text (Some (Carried lines history))
-    → (status ≡ 8) ⊎ (AreDone (Begun files size quiet mid k) moment lines [] (log_of after mid.clock history) ⊎ HasStopped (log_of after mid.clock history))
-    → IsVerdict status text (IsOpenCause count files size moment before after old_faults new_faults lines history faults)
+    → (status ≡ 8) ⊎ (AreDone (Begun files size quiet mid k) moment lines [] (log_of after mid.clock history) ⊎ HasFallen (Begun files size quiet mid k) moment lines [] (log_of after mid.clock history))
+    → IsVerdict status text (IsOpenCause count files size workers moment before after old_faults new_faults lines history faults)
 unfolding opened_run
-verdict_opening laws count files size moment lines quiet before mid after k history faults old_faults new_faults status text o quiet_is legal past shown once single calm made (inl wanting) done = inl wanting
-verdict_opening laws count files size moment lines quiet before mid after k history faults old_faults new_faults status text o quiet_is legal past shown once single calm made (inr told) (inl wanting) =
+verdict_opening laws count files size workers moment lines quiet before mid after k history faults old_faults new_faults status text o quiet_is legal past shown once single calm made verified (inl wanting) done = inl wanting
+verdict_opening laws count files size workers moment lines quiet before mid after k history faults old_faults new_faults status text o quiet_is legal past shown once single calm made verified (inr told) (inl wanting) =
     absurd (not_wanting (ending lines history) (sym told.0 ∙ wanting))
-verdict_opening laws count files size moment lines quiet before mid after k history faults old_faults new_faults status text o quiet_is legal past shown once single calm made (inr told) (inr done) =
+verdict_opening laws count files size workers moment lines quiet before mid after k history faults old_faults new_faults status text o quiet_is legal past shown once single calm made verified (inr told) (inr done) =
     inr (record {
       end = Carried lines history;
       status_is = told.0;
@@ -137,8 +141,8 @@ verdict_opening laws count files size moment lines quiet before mid after k hist
         refl,
         refl,
         (
-          opened_run laws count files size moment lines quiet before mid after k history faults o quiet_is legal past shown once single calm made,
-          subst (λ (s : Start). AreDone s moment lines [] (log_of after mid.clock history) ⊎ HasStopped (log_of after mid.clock history)) (start_is files size quiet before mid k o) done,
+          opened_run laws count files size workers moment lines quiet before mid after k history faults o quiet_is legal past shown once single calm made verified,
+          subst (λ (s : Start). AreDone s moment lines [] (log_of after mid.clock history) ⊎ HasFallen s moment lines [] (log_of after mid.clock history)) (start_is files size quiet before mid k o) done,
         ),
       );
     })
@@ -158,13 +162,13 @@ has_fetch count faults old_faults new_faults fetch are (inl cause) = inl cause
 has_fetch count faults old_faults new_faults None are (inr failed) = absurd failed
 has_fetch count faults old_faults new_faults (Some fetch) are (inr failed) = inr (subst (λ fs. HasFetch count.fetch fs) (sym are) (record { fetch = fetch; listed_so = inl refl; failed = failed }))
 
-pub verdict_refused : {S F H T : Type 0} (status : ℕ) (text : Bytes) (count : Counts S F H T) (files : Telling) (size moment : ℕ) (before after : Look) (old_faults new_faults : ℕ) (lines : List ScriptLine) (history : List Entry) (faults : List (Fault S F H T))
-    (refusal : OpenRefusal F) → IsTold status text (end_of_refusal refusal) → IsOpenRefused count.fetch before after old_faults new_faults refusal → history ≡ [] → faults ≡ listed (fetch_of refusal) → IsVerdict status text (IsOpenCause count files size moment before after old_faults new_faults lines history faults)
-verdict_refused status text count files size moment before after old_faults new_faults lines history faults refusals.Memory told refused empty are = told_none status text (IsOpenCause count files size moment before after old_faults new_faults lines history faults) told
-verdict_refused status text count files size moment before after old_faults new_faults lines history faults (refusals.DepotFault fetch) told refused empty are =
-    told_end status text (IsOpenCause count files size moment before after old_faults new_faults lines history faults) OpenFault told (empty, record { fetch = fetch; refused = refused; shown = has_fetch count faults old_faults new_faults fetch are refused.0 })
-verdict_refused status text count files size moment before after old_faults new_faults lines history faults (refusals.Damaged name why) told refused empty are = told_end status text (IsOpenCause count files size moment before after old_faults new_faults lines history faults) (Damaged name) told (empty, (why, refused))
-verdict_refused status text count files size moment before after old_faults new_faults lines history faults (refusals.TermsSpent term) told refused empty are = told_end status text (IsOpenCause count files size moment before after old_faults new_faults lines history faults) NoTerm told (empty, (term, refused))
+pub verdict_refused : {S F H T : Type 0} (status : ℕ) (text : Bytes) (count : Counts S F H T) (files : Telling) (size workers moment : ℕ) (before after : Look) (old_faults new_faults : ℕ) (lines : List ScriptLine) (history : List Entry) (faults : List (Fault S F H T))
+    (refusal : OpenRefusal F) → IsTold status text (end_of_refusal refusal) → IsOpenRefused count.fetch before after old_faults new_faults refusal → history ≡ [] → faults ≡ listed (fetch_of refusal) → IsVerdict status text (IsOpenCause count files size workers moment before after old_faults new_faults lines history faults)
+verdict_refused status text count files size workers moment before after old_faults new_faults lines history faults refusals.Memory told refused empty are = told_none status text (IsOpenCause count files size workers moment before after old_faults new_faults lines history faults) told
+verdict_refused status text count files size workers moment before after old_faults new_faults lines history faults (refusals.DepotFault fetch) told refused empty are =
+    told_end status text (IsOpenCause count files size workers moment before after old_faults new_faults lines history faults) OpenFault told (empty, record { fetch = fetch; refused = refused; shown = has_fetch count faults old_faults new_faults fetch are refused.0 })
+verdict_refused status text count files size workers moment before after old_faults new_faults lines history faults (refusals.Damaged name why) told refused empty are = told_end status text (IsOpenCause count files size workers moment before after old_faults new_faults lines history faults) (Damaged name) told (empty, (why, refused))
+verdict_refused status text count files size workers moment before after old_faults new_faults lines history faults (refusals.TermsSpent term) told refused empty are = told_end status text (IsOpenCause count files size workers moment before after old_faults new_faults lines history faults) NoTerm told (empty, (term, refused))
 
 pub verdict_stopped : {S F H T : Type 0} (status : ℕ) (text : Bytes) (count : Counts S F H T) (given : Given) (files : Telling) (reader : ℕ) (before after : Look) (old_faults new_faults : ℕ) (history : List Entry) (faults : List (Fault S F H T)) (end : Option RunEnd)
     → IsTold status text end → StoppedBy (wanted_of (job_of given.words)) given.script given.faults reader end → IsUntouched files before after history faults → IsVerdict status text (IsCauseOf count given files reader before after old_faults new_faults history faults)
@@ -179,29 +183,29 @@ verdict_stopped status text count given files reader before after old_faults new
 verdict_stopped status text count given files reader before after old_faults new_faults history faults (Some (Carried script entries)) told stop un = absurd stop
 
 -- from the opening on, with the words and the script
-with_script : {S F H T : Type 0} (count : Counts S F H T) (given : Given) (files : Telling) (reader size : ℕ) (before after : Look) (old_faults new_faults : ℕ) (lines : List ScriptLine) (history : List Entry) (faults : List (Fault S F H T)) (end : RunEnd)
-    → part_size_of (wanted_of (job_of given.words)) ≡ Some size → IsScript given lines → IsOpenCause count files size given.moment before after old_faults new_faults lines history faults end → IsCauseOf count given files reader before after old_faults new_faults history faults end
-with_script count given files reader size before after old_faults new_faults lines history faults (Carried script entries) size_is is cause =
-    (cause.1, (record { size = size; size_is = size_is; lines = lines; script = is; run = cause.2.0 }, sym cause.0, cause.2.1))
-with_script count given files reader size before after old_faults new_faults lines history faults OpenFault size_is is cause = ((lines, is), cause)
-with_script count given files reader size before after old_faults new_faults lines history faults (Damaged name) size_is is cause = ((lines, is), cause)
-with_script count given files reader size before after old_faults new_faults lines history faults NoTerm size_is is cause = ((lines, is), cause)
-with_script count given files reader size before after old_faults new_faults lines history faults BadWords size_is is cause = absurd cause
-with_script count given files reader size before after old_faults new_faults lines history faults Unreadable size_is is cause = absurd cause
-with_script count given files reader size before after old_faults new_faults lines history faults BadScript size_is is cause = absurd cause
-with_script count given files reader size before after old_faults new_faults lines history faults (BadLine number) size_is is cause = absurd cause
+with_script : {S F H T : Type 0} (count : Counts S F H T) (given : Given) (files : Telling) (reader size workers : ℕ) (before after : Look) (old_faults new_faults : ℕ) (lines : List ScriptLine) (history : List Entry) (faults : List (Fault S F H T)) (end : RunEnd)
+    → part_size_of (wanted_of (job_of given.words)) ≡ Some size → workers_of (job_of given.words) ≡ Some workers → IsScript given lines → IsOpenCause count files size workers given.moment before after old_faults new_faults lines history faults end → IsCauseOf count given files reader before after old_faults new_faults history faults end
+with_script count given files reader size workers before after old_faults new_faults lines history faults (Carried script entries) size_is workers_are is cause =
+    (cause.1, (record { size = size; size_is = size_is; workers = workers; workers_are = workers_are; lines = lines; script = is; run = cause.2.0 }, sym cause.0, cause.2.1))
+with_script count given files reader size workers before after old_faults new_faults lines history faults OpenFault size_is workers_are is cause = ((lines, is), cause)
+with_script count given files reader size workers before after old_faults new_faults lines history faults (Damaged name) size_is workers_are is cause = ((lines, is), cause)
+with_script count given files reader size workers before after old_faults new_faults lines history faults NoTerm size_is workers_are is cause = ((lines, is), cause)
+with_script count given files reader size workers before after old_faults new_faults lines history faults BadWords size_is workers_are is cause = absurd cause
+with_script count given files reader size workers before after old_faults new_faults lines history faults Unreadable size_is workers_are is cause = absurd cause
+with_script count given files reader size workers before after old_faults new_faults lines history faults BadScript size_is workers_are is cause = absurd cause
+with_script count given files reader size workers before after old_faults new_faults lines history faults (BadLine number) size_is workers_are is cause = absurd cause
 
-pub verdict_opened : {S F H T : Type 0} (status : ℕ) (text : Bytes) (count : Counts S F H T) (given : Given) (files : Telling) (reader size : ℕ) (before after : Look) (old_faults new_faults : ℕ) (lines : List ScriptLine) (history : List Entry) (faults : List (Fault S F H T))
-    → part_size_of (wanted_of (job_of given.words)) ≡ Some size → IsScript given lines → IsVerdict status text (IsOpenCause count files size given.moment before after old_faults new_faults lines history faults)
+pub verdict_opened : {S F H T : Type 0} (status : ℕ) (text : Bytes) (count : Counts S F H T) (given : Given) (files : Telling) (reader size workers : ℕ) (before after : Look) (old_faults new_faults : ℕ) (lines : List ScriptLine) (history : List Entry) (faults : List (Fault S F H T))
+    → part_size_of (wanted_of (job_of given.words)) ≡ Some size → workers_of (job_of given.words) ≡ Some workers → IsScript given lines → IsVerdict status text (IsOpenCause count files size workers given.moment before after old_faults new_faults lines history faults)
     → IsVerdict status text (IsCauseOf count given files reader before after old_faults new_faults history faults)
-verdict_opened status text count given files reader size before after old_faults new_faults lines history faults size_is is (inl wanting) = inl wanting
-verdict_opened status text count given files reader size before after old_faults new_faults lines history faults size_is is (inr v) =
-    inr (record { end = v.end; status_is = v.status_is; text_is = v.text_is; cause = with_script count given files reader size before after old_faults new_faults lines history faults v.end size_is is v.cause })
+verdict_opened status text count given files reader size workers before after old_faults new_faults lines history faults size_is workers_are is (inl wanting) = inl wanting
+verdict_opened status text count given files reader size workers before after old_faults new_faults lines history faults size_is workers_are is (inr v) =
+    inr (record { end = v.end; status_is = v.status_is; text_is = v.text_is; cause = with_script count given files reader size workers before after old_faults new_faults lines history faults v.end size_is workers_are is v.cause })
 
-pub run_opened : {S F H T : Type 0} (count : Counts S F H T) (given : Given) (files : Telling) (size : ℕ) (lines : List ScriptLine) (before after : Look) (old_faults new_faults : ℕ) (history : List Entry) (faults : List (Fault S F H T))
-    → IsScript given lines → part_size_of (wanted_of (job_of given.words)) ≡ Some size → IsUnopened count files before after old_faults new_faults history faults ⊎ IsOpenedRun count files size given.moment lines before after history faults → IsRunOf count given files before after old_faults new_faults history faults
-run_opened count given files size lines before after old_faults new_faults history faults is size_is (inl unopened) = inr (inl unopened)
-run_opened count given files size lines before after old_faults new_faults history faults is size_is (inr run) = inr (inr (record { size = size; size_is = size_is; lines = lines; script = is; run = run }))
+pub run_opened : {S F H T : Type 0} (count : Counts S F H T) (given : Given) (files : Telling) (size workers : ℕ) (lines : List ScriptLine) (before after : Look) (old_faults new_faults : ℕ) (history : List Entry) (faults : List (Fault S F H T))
+    → IsScript given lines → part_size_of (wanted_of (job_of given.words)) ≡ Some size → workers_of (job_of given.words) ≡ Some workers → IsUnopened count files before after old_faults new_faults history faults ⊎ IsOpenedRun count files size workers given.moment lines before after history faults → IsRunOf count given files before after old_faults new_faults history faults
+run_opened count given files size workers lines before after old_faults new_faults history faults is size_is workers_are (inl unopened) = inr (inl unopened)
+run_opened count given files size workers lines before after old_faults new_faults history faults is size_is workers_are (inr run) = inr (inr (record { size = size; size_is = size_is; workers = workers; workers_are = workers_are; lines = lines; script = is; run = run }))
 
 -- ---- printed
 

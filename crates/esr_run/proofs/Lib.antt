@@ -12,3 +12,5 @@ pub mod Counting
 pub mod Completing
 pub mod Smoothly
 pub mod Waiting
+pub mod Verifying
+pub mod Falling

@@ -14,14 +14,14 @@ use Rattle.esr_script.specs.declared.item.ScriptLine.{ScriptLine}
 use Rattle.esr_desk.specs.declared.refusal.StepRefusal.{StepRefusal}
 use Rattle.esr_desk.specs.declared.refusal.StepRefusal.TheVariants as steps
 use Rattle.esr_desk.specs.declared.refusal.EntryRefusal.{EntryRefusal}
-use Rattle.esr_desk.specs.Refusals.{refusal_of}
+use Rattle.esr_desk.specs.Refusals.{refusal_of, told_refusal}
 use Rattle.esr_desk.specs.Start.{Start, Legal, formats_of, world_of, or_no_ticket, ticket_of}
-use Rattle.esr_desk.specs.Outcome.{Stepped, Outcome}
+use Rattle.esr_desk.specs.Outcome.{Stepped, Refusing, Outcome}
 use Rattle.esr_desk.specs.Last.{IsLast}
 use Rattle.esr_desk.specs.Grew.{NoneOut}
 use Rattle.esr_desk.specs.Readers.{or_no_reader, reader_of}
 use Rattle.esr_quiet.specs.Asked.{GrewAsking}
-use Rattle.esr_quiet.specs.Asking.{asking_none, asking_on}
+use Rattle.esr_quiet.specs.Asking.{asking_none, asking_on, asks_of, asking_refused}
 use Rattle.esr_quiet.specs.Numbers.{HasNoTickets}
 use Rattle.esr_drive.specs.Stopped.{IsStopped}
 use Rattle.esr_complete.specs.Lines.{steps_of_item, steps_of}
@@ -29,7 +29,7 @@ use Rattle.esr_complete.specs.Answers.{NoReaderOut, IsIdle}
 use Rattle.esr_run.specs.Script.{is_carried, first_bad}
 use Rattle.esr_run.specs.Laws.{StepsStay}
 use Rattle.esr_run.proofs.Filling.{AsksLine}
-use Rattle.esr_run.specs.Made.{MadeFirst, HasStopped, HasNoReaders, AreIn, LineMade, LineRests, WaitEnds, WaitEnded, WaitsEnded, AreMade, AreDone}
+use Rattle.esr_run.specs.Made.{MadeFirst, HasStopped, HasNoReaders, AreIn, LineMade, LineRests, WaitEnds, WaitEnded, WaitsEnded, AreMade, AreDone, NoneOpen, WasStopped, WasLeft, AreAsked, LineSpends}
 
 abbrev Readers : Type 0
 Readers = FinMap nat_cmp Reader
@@ -52,17 +52,17 @@ restore_none op uuid indices ticket o unit e = cc
 pub looked_none : (snapshots : List RootSnap) (safe : ℕ) → GivesNone (Looked snapshots safe)
 looked_none snapshots safe ticket o unit e = cc
 
-same_or_not : (k : ℕ) → (k ≡ 0) ⊎ (k ≢ 0)
+pub same_or_not : (k : ℕ) → (k ≡ 0) ⊎ (k ≢ 0)
 same_or_not zero = inl refl
 same_or_not (suc k) = inr (λ (e : suc k ≡ zero). omega (arith, e))
 
 -- ---- one more moment
 
-world_one : (f : Formats) (w : World) (log : List Moment) (m : Moment) → world_from f w (log ++ m ∷ []) ≡ after f (world_from f w log) m
+pub world_one : (f : Formats) (w : World) (log : List Moment) (m : Moment) → world_from f w (log ++ m ∷ []) ≡ after f (world_from f w log) m
 world_one f w [] m = refl
 world_one f w (n ∷ log) m = world_one f (after f w n) log m
 
-legal_one : (f : Formats) (size : ℕ) (w : World) (log : List Moment) (m : Moment) → IsLegal f size w (log ++ m ∷ []) → IsLegal f size w log × IsLegal f size (world_from f w log) (m ∷ [])
+pub legal_one : (f : Formats) (size : ℕ) (w : World) (log : List Moment) (m : Moment) → IsLegal f size w (log ++ m ∷ []) → IsLegal f size w log × IsLegal f size (world_from f w log) (m ∷ [])
 legal_one f size w [] m legal = (tt, legal)
 legal_one f size w (n ∷ log) m legal = let h = legal_one f size (after f w n) log m legal.1 in ((legal.0, h.0), h.1)
 
@@ -106,6 +106,41 @@ module _ (laws : StepsStay) (s : Start) (numbered : HasNoTickets s) (ops : Track
   rests_by old new step ok (Err steps.TurnsSpent) asks none h rest = h.1 alone
   rests_by old new step ok (Err (steps.Refused refusal)) asks none h rest = inl (stepped_in old new step (Refused (refusal_of refusal)) asks (refused_none (refusal_of refusal)) h.0 rest)
 
+-- ---- turns that are spent
+
+pub spent_by : {X : Type 0} (s : Start) (old new : List Moment) (step : Step) (ok : X → Reply) (result : Result X StepRefusal) → s.alone ≡ true → Outcome s old new 0 step ok result → LineSpends new result
+spent_by s old new step ok (Ok x) alone h = tt
+spent_by s old new step ok (Err steps.Memory) alone h = tt
+spent_by s old new step ok (Err steps.TurnsSpent) alone h = h.1 alone
+spent_by s old new step ok (Err (steps.Refused refusal)) alone h = tt
+
+pub spent_waiting : (s : Start) (new : List Moment) (e : StepRefusal) → IsStopped s new e → s.alone ≡ true → LineSpends {X = Unit} new (Err e)
+spent_waiting s new steps.Memory h alone = tt
+spent_waiting s new steps.TurnsSpent h alone = h alone
+spent_waiting s new (steps.Refused refusal) h alone = tt
+
+-- ---- a line that was refused
+
+-- a front of what it asks for was asked, and all of it where the history tells the refusal
+pub made_refused : (s : Start) (old new : List Moment) (step : Step) (e : StepRefusal) → asks_of step ≡ step ∷ [] → Refusing s old new 0 step (told_refusal e) → LineMade {X = Unit} s (step ∷ []) old new (Err e)
+made_refused s old new step steps.Memory asks h = record { first = []; rest = step ∷ []; grew = asking_refused s old new step None h; is = refl }
+made_refused s old new step steps.TurnsSpent asks h = record { first = []; rest = step ∷ []; grew = asking_refused s old new step None h; is = refl }
+made_refused s old new step (steps.Refused refusal) asks h = subst (λ (l : List Step). GrewAsking s l old new) asks (asking_refused s old new step (Some (refusal_of refusal)) h)
+
+-- where it asks for nothing, nothing was asked
+none_first : (first rest : List Step) → first ++ rest ≡ [] → first ≡ []
+none_first [] rest e = refl
+none_first (x ∷ first) rest e = absurd cc
+
+made_nothing : (s : Start) (old new : List Moment) → MadeFirst s [] old new → GrewAsking s [] old new
+made_nothing s old new h = subst (λ (l : List Step). GrewAsking s l old new) (none_first h.first h.rest h.is) h.grew
+
+pub made_none : (s : Start) (old new : List Moment) (r : Result Unit StepRefusal) → LineMade s [] old new r → GrewAsking s [] old new
+made_none s old new (Ok x) h = h
+made_none s old new (Err steps.Memory) h = made_nothing s old new h
+made_none s old new (Err steps.TurnsSpent) h = made_nothing s old new h
+made_none s old new (Err (steps.Refused refusal)) h = h
+
 -- ---- a wait
 
 has_at : (front back : List Moment) (m : Moment) → Has (front ++ m ∷ back) m
@@ -122,7 +157,8 @@ was_stopped s new (steps.Refused refusal) alone h some =
       there = subst (λ (l : List Moment). Has l m) (sym h.2.is) (has_at h.2.front [] m);
       refusal = refusal_of refusal;
       refused = refl;
-      step = h.3;
+      step = h.4;
+      stops = h.3;
     })
 
 pub rests_waiting : (s : Start) (old new : List Moment) (result : Result Unit StepRefusal) → OnOk result (s.alone ≡ true → AreIn s old → AreIn s new) → IfErr result (IsStopped s new) → s.alone ≡ true → AreIn s old → LineRests s new result
@@ -152,6 +188,7 @@ stopped_stays s asked old new g (inl was) = inl (record {
   refusal = was.refusal;
   refused = was.refused;
   step = was.step;
+  stops = was.stops;
 })
 stopped_stays s asked old new g (inr all) =
     let whole : length new ≡ length old + length g.more = ap length g.is ∙ length-append old g.more in
@@ -277,30 +314,38 @@ front_next s moment line rest lines old mid new f g ended =
 front_steps : (s : Start) (moment : ℕ) (left lines : List ScriptLine) (old new : List Moment) (f : Front s moment left lines old new) → steps_of moment f.done ++ steps_of moment left ≡ steps_of moment lines
 front_steps s moment left lines old new f = sym (steps_append moment f.done left) ∙ ap (steps_of moment) f.is
 
--- a line that added nothing of its own
-front_first : (s : Start) (moment : ℕ) (left lines : List ScriptLine) (old mid new : List Moment) → Front s moment left lines old mid → GrewAsking s [] mid new → MadeFirst s (steps_of moment lines) old new
-front_first s moment left lines old mid new f g = record {
-  first = steps_of moment f.done ++ [];
-  rest = steps_of moment left;
-  grew = asking_on s (steps_of moment f.done) [] old mid new f.grew g;
-  is = ap (λ (l : List Step). l ++ steps_of moment left) (append-nil (steps_of moment f.done)) ∙ front_steps s moment left lines old mid f;
+-- the first of the lines asks for these steps
+abbrev pub AsksFirst : ℕ → List ScriptLine → List Step → Type 0
+AsksFirst moment left wanted = (after : List Step) × (steps_of moment left ≡ wanted ++ after)
+
+pub asks_first : (moment : ℕ) (line : ScriptLine) (left : List ScriptLine) → 1 ≤ length left → line ≡ slice_index_or left 0 line → AsksFirst moment left (steps_of_item moment line.item)
+asks_first moment line [] some is = absurd (let none : List ScriptLine = [] in let le : 1 ≤ length none = some in omega (arith, le))
+asks_first moment line (x ∷ rest) some is = (steps_of moment rest, ap (λ (l : ScriptLine). steps_of_item moment l.item ++ steps_of moment rest) (sym is))
+
+-- a line that added a front of its own
+front_first : (s : Start) (moment : ℕ) (left lines : List ScriptLine) (wanted : List Step) (old mid new : List Moment) → AsksFirst moment left wanted → Front s moment left lines old mid → MadeFirst s wanted mid new → MadeFirst s (steps_of moment lines) old new
+front_first s moment left lines wanted old mid new asks f h = record {
+  first = steps_of moment f.done ++ h.first;
+  rest = h.rest ++ asks.0;
+  grew = asking_on s (steps_of moment f.done) h.first old mid new f.grew h.grew;
+  is = append_assoc (steps_of moment f.done) h.first (h.rest ++ asks.0)
+      ∙ ap (λ (l : List Step). steps_of moment f.done ++ l) (sym (append_assoc h.first h.rest asks.0) ∙ ap (λ (l : List Step). l ++ asks.0) h.is ∙ sym asks.1)
+      ∙ front_steps s moment left lines old mid f;
 }
 
 pub front_made : (s : Start) (moment : ℕ) (left lines : List ScriptLine) (old new : List Moment) → Front s moment left lines old new → MadeFirst s (steps_of moment lines) old new
 front_made s moment left lines old new f = record { first = steps_of moment f.done; rest = steps_of moment left; grew = f.grew; is = front_steps s moment left lines old new f }
 
 -- all of them
-pub front_all : (s : Start) (moment : ℕ) (left lines : List ScriptLine) (old new : List Moment) → left ≡ [] → Front s moment left lines old new → s.alone ≡ true → AreIn s old → AreMade s moment lines old new ⊎ HasStopped new
-front_all s moment left lines old new none f alone out =
+pub front_all : (s : Start) (moment : ℕ) (left lines : List ScriptLine) (old new : List Moment) → left ≡ [] → Front s moment left lines old new → NoneOpen s new → s.alone ≡ true → AreIn s old → AreMade s moment lines old new ⊎ WasLeft s moment lines old new
+front_all s moment left lines old new none f closed alone out =
     let all : f.done ≡ lines = sym (append-nil f.done) ∙ ap (λ (l : List ScriptLine). f.done ++ l) (sym none) ∙ f.is in
-    ⊎_elim
-    (λ (r : Rested s moment f.done old new). inl (record {
-      grew = subst (λ (l : List ScriptLine). GrewAsking s (steps_of moment l) old new) all f.grew;
-      waits = subst (λ (l : List ScriptLine). WaitsEnded s moment l old new) all r.waits;
-      rests = r.none_out;
-    }))
-    (λ (was : HasStopped new). inr was)
-    (f.rests alone out)
+    let grew : GrewAsking s (steps_of moment lines) old new = subst (λ (l : List ScriptLine). GrewAsking s (steps_of moment l) old new) all f.grew in
+    elim (f.rests alone out) [
+      | inl r ↦ inl (record { grew = grew; waits = subst (λ (l : List ScriptLine). WaitsEnded s moment l old new) all r.waits; rests = r.none_out; closed = closed })
+      | inr (inl was) ↦ inr (inl (record { grew = grew; closed = closed }, was))
+      | inr (inr turns) ↦ inr (inr turns)
+    ]
 
 -- ---- and the work after them
 
@@ -312,20 +357,39 @@ made_then s wanted old mid new f g = record {
   is = ap (λ (l : List Step). l ++ f.rest) (append-nil f.first) ∙ f.is;
 }
 
-pub done_then : (s : Start) (moment : ℕ) (lines : List ScriptLine) (old mid new : List Moment) → (s.alone ≡ true → AreIn s old → AreMade s moment lines old mid ⊎ HasStopped mid) → GrewAsking s [] mid new → (s.alone ≡ true → AreIn s mid → IsIdle s new ⊎ HasStopped new)
-    → s.alone ≡ true → AreIn s old → AreDone s moment lines old new ⊎ HasStopped new
-done_then s moment lines old mid new made g done alone none =
-    ⊎_elim
-    (λ all. ⊎_elim
-    (λ idle. inl (record {
-      grew = subst (λ (l : List Step). GrewAsking s l old new) (append-nil (steps_of moment lines)) (asking_on s (steps_of moment lines) [] old mid new all.grew g);
+then_asked : (s : Start) (moment : ℕ) (lines : List ScriptLine) (old mid new : List Moment) → GrewAsking s (steps_of moment lines) old mid → GrewAsking s [] mid new → GrewAsking s (steps_of moment lines) old new
+then_asked s moment lines old mid new all g = subst (λ (l : List Step). GrewAsking s l old new) (append-nil (steps_of moment lines)) (asking_on s (steps_of moment lines) [] old mid new all g)
+
+pub done_then : (s : Start) (moment : ℕ) (lines : List ScriptLine) (old mid new : List Moment) → (s.alone ≡ true → AreIn s old → AreMade s moment lines old mid ⊎ WasLeft s moment lines old mid) → GrewAsking s [] mid new → (s.alone ≡ true → AreIn s mid → IsIdle s new ⊎ HasStopped new)
+    → (NoneOpen s mid → NoneOpen s new) → s.alone ≡ true → AreIn s old → AreDone s moment lines old new ⊎ WasLeft s moment lines old new
+done_then s moment lines old mid new made g done closes alone none = elim (made alone none) [
+  | inl all ↦ made_well all (done alone all.rests)
+  | inr (inl left) ↦ inr (left_on left (stopped_stays s [] mid new g (inl left.1)))
+  | inr (inr turns) ↦ inr (turns_on turns)
+]
+  where
+    asked : GrewAsking s (steps_of moment lines) old mid → NoneOpen s mid → AreAsked s moment lines old new
+    asked all closed = record { grew = then_asked s moment lines old mid new all g; closed = closes closed }
+
+    made_well : AreMade s moment lines old mid → IsIdle s new ⊎ HasStopped new → AreDone s moment lines old new ⊎ WasLeft s moment lines old new
+    made_well all (inl idle) = inl (record {
+      grew = then_asked s moment lines old mid new all.grew g;
       waits = λ before after line is wait. wait_on s moment before [] old mid new g (all.waits before after line is wait);
       idle = idle;
-    }))
-    (λ stopped. inr stopped)
-    (done alone all.rests))
-    (λ stopped. inr (stopped_stays s [] mid new g stopped))
-    (made alone none)
+      closed = closes all.closed;
+    })
+    made_well all (inr (inl was)) = inr (inl (asked all.grew all.closed, was))
+    made_well all (inr (inr turns)) = inr (inr turns)
+
+    left_on : AreAsked s moment lines old mid × WasStopped mid → HasStopped new → WasLeft s moment lines old new
+    left_on left (inl was) = inl (asked left.0.grew left.0.closed, was)
+    left_on left (inr turns) = inr turns
+
+    turns_on : 2 ^ 40 ≤ length mid → WasLeft s moment lines old new
+    turns_on turns =
+        let whole : length new ≡ length mid + length g.more = ap length g.is ∙ length-append mid g.more in
+        let most : 2 ^ 40 ≤ length mid = turns in
+        inr (omega (arith, whole, most))
 
 pub turns_spent : (s : Start) (new : List Moment) (e : StepRefusal) → e ≡ steps.TurnsSpent → IsStopped s new e → s.alone ≡ true → HasStopped new
 turns_spent s new e is h alone = inr (subst (IsStopped s new) is h alone)
@@ -336,11 +400,11 @@ step_refused s new e refusal is h alone = was_stopped s new (steps.Refused refus
 -- ---- by the answer of a line
 
 -- a line that stopped
-pub made_stopped : (s : Start) (moment : ℕ) (left lines : List ScriptLine) (wanted : List Step) (old mid new : List Moment) (e : StepRefusal) → Front s moment left lines old mid → LineMade {X = Unit} s wanted mid new (Err e) → (e ≡ steps.Memory) ⊎ (e ≡ steps.TurnsSpent)
+pub made_stopped : (s : Start) (moment : ℕ) (left lines : List ScriptLine) (wanted : List Step) (old mid new : List Moment) (e : StepRefusal) → AsksFirst moment left wanted → Front s moment left lines old mid → LineMade {X = Unit} s wanted mid new (Err e) → (e ≡ steps.Memory) ⊎ (e ≡ steps.TurnsSpent)
     → MadeFirst s (steps_of moment lines) old new
-made_stopped s moment left lines wanted old mid new steps.Memory f made which = front_first s moment left lines old mid new f made
-made_stopped s moment left lines wanted old mid new steps.TurnsSpent f made which = front_first s moment left lines old mid new f made
-made_stopped s moment left lines wanted old mid new (steps.Refused refusal) f made which = absurd (⊎_elim (λ e. no_memory refusal e) (λ e. no_turns refusal e) which)
+made_stopped s moment left lines wanted old mid new steps.Memory asks f made which = front_first s moment left lines wanted old mid new asks f made
+made_stopped s moment left lines wanted old mid new steps.TurnsSpent asks f made which = front_first s moment left lines wanted old mid new asks f made
+made_stopped s moment left lines wanted old mid new (steps.Refused refusal) asks f made which = absurd (⊎_elim (λ e. no_memory refusal e) (λ e. no_turns refusal e) which)
   where
     no_memory : (refusal : EntryRefusal) → steps.Refused refusal ≡ steps.Memory → ⊥
     no_memory refusal e = cc
@@ -349,22 +413,20 @@ made_stopped s moment left lines wanted old mid new (steps.Refused refusal) f ma
     no_turns refusal e = cc
 
 -- all turns were taken
-pub turns_stopped : (s : Start) (moment : ℕ) (wanted : List Step) (left lines : List ScriptLine) (old mid new : List Moment) → Front s moment left lines old mid → LineMade {X = Unit} s wanted mid new (Err steps.TurnsSpent) → (s.alone ≡ true → AreIn s mid → LineRests {X = Unit} s new (Err steps.TurnsSpent))
-    → s.alone ≡ true → AreIn s old → AreMade s moment lines old new ⊎ HasStopped new
-turns_stopped s moment wanted left lines old mid new f made line alone none =
-    ⊎_elim (λ (r : Rested s moment f.done old mid). inr (inr (line alone r.none_out))) (λ (was : HasStopped mid). inr (stopped_stays s [] mid new made was)) (f.rests alone none)
+pub spent_turns : (new : List Moment) (e : StepRefusal) → e ≡ steps.TurnsSpent → LineSpends {X = Unit} new (Err e) → 2 ^ 40 ≤ length new
+spent_turns new e is h = subst (λ (x : StepRefusal). LineSpends {X = Unit} new (Err x)) is h
 
 -- on the history of a repository, from its beginning on
-pub done_on : {X E : Type 0} (s : Start) (moment : ℕ) (lines : List ScriptLine) (old new same : List Moment) (r : Result X E) → OnOk r (s.alone ≡ true → AreIn s old → AreDone s moment lines old new ⊎ HasStopped new) → same ≡ new → old ≡ [] → s.alone ≡ true → HasNoTickets s → HasNoReaders s
-    → OnOk r (AreDone s moment lines [] same ⊎ HasStopped same)
+pub done_on : {X E : Type 0} (s : Start) (moment : ℕ) (lines : List ScriptLine) (old new same : List Moment) (r : Result X E) → OnOk r (s.alone ≡ true → AreIn s old → AreDone s moment lines old new ⊎ WasLeft s moment lines old new) → same ≡ new → old ≡ [] → s.alone ≡ true → HasNoTickets s → HasNoReaders s
+    → OnOk r (AreDone s moment lines [] same ⊎ WasLeft s moment lines [] same)
 done_on {X} {E} s moment lines old new same (Err e) done is begun alone numbered unread = tt
 done_on {X} {E} s moment lines old new same (Ok x) done is begun alone numbered unread =
     let none : AreIn s [] = record {
       tickets = λ k. ap (λ (m : FinMap nat_cmp Ticket). (or_no_ticket (fin.get m k)).out) numbered.none ∙ ap (λ (o : Option Ticket). (or_no_ticket o).out) (fin.get-empty nat_cmp k);
       readers = λ k. ap (λ (m : Readers). (or_no_reader (fin.get m k)).out) unread ∙ ap (λ (o : Option Reader). (or_no_reader o).out) (fin.get-empty nat_cmp k);
     } in
-    subst (λ (l : List Moment). AreDone s moment lines [] l ⊎ HasStopped l) (sym is)
-    (subst (λ (l : List Moment). AreDone s moment lines l new ⊎ HasStopped new) begun (done alone (subst (AreIn s) (sym begun) none)))
+    subst (λ (l : List Moment). AreDone s moment lines [] l ⊎ WasLeft s moment lines [] l) (sym is)
+    (subst (λ (l : List Moment). AreDone s moment lines l new ⊎ WasLeft s moment lines l new) begun (done alone (subst (AreIn s) (sym begun) none)))
 
 pub done_or : {X E : Type 0} (P : Type 0) (status : ℕ) (r : Result X E) → OnOk r P → (IsErr r → status ≡ 8) → (status ≡ 8) ⊎ P
 done_or {X} {E} P status (Ok x) h wanting = inr h

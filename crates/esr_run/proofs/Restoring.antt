@@ -23,7 +23,7 @@ use Rattle.esr_targets.specs.declared.target.Restored.{Restored}
 use Rattle.esr_targets.specs.Lines.{AreNumbered, ops_of_lines}
 use Rattle.esr_targets.specs.Listed.{target_first, listed}
 use Rattle.esr_targets.specs.Targets.{AreTargetsOfLines}
-use Rattle.esr_run.specs.Asked.{wanted_of, part_size_of}
+use Rattle.esr_run.specs.Asked.{wanted_of, part_size_of, workers_of}
 use Rattle.esr_run.specs.Counts.{Counts, AreShown}
 use Rattle.esr_run.specs.Start.{Telling, LegalRun}
 use Rattle.esr_run.specs.Laws.{Laws}
@@ -33,6 +33,7 @@ use Rattle.esr_run.specs.Causes.{Given, IsScript}
 use Rattle.esr_run.specs.Restored.{target_telling, OpensRestored, HasRestored}
 use Rattle.esr_run.proofs.Worlds.{start_is}
 use Rattle.esr_run.proofs.Ending.{Begun, opened_run}
+use Rattle.esr_run.specs.Verified.{AreWhole}
 
 -- ---- what was filled
 
@@ -81,17 +82,18 @@ module _ {T : Type 0} (law : ByLines T) (c : drive.Telling T) (s : Start) (momen
 
 -- ---- from the opening on
 
-pub opens_restored : {S F H T : Type 0} (laws : Laws) (count : Counts S F H T) (files : Telling) (size moment : ℕ) (lines : List ScriptLine) (quiet : Bool) (before mid after : Look) (k : Kept) (history : List Entry) (faults : List (Fault S F H T)) (targets : List (Restored T)) (status : ℕ)
+pub opens_restored : {S F H T : Type 0} (laws : Laws) (count : Counts S F H T) (files : Telling) (size workers moment : ℕ) (lines : List ScriptLine) (quiet : Bool) (before mid after : Look) (k : Kept) (history : List Entry) (faults : List (Fault S F H T)) (targets : List (Restored T)) (status : ℕ)
     (o : IsOpening before mid k) → (2 ^ 62 ≤ before.sure → quiet ≡ true)
     → LegalRun (Begun files size quiet mid k) mid.clock after history → IsPast (Begun files size quiet mid k) mid.clock mid.since after history → AreShown count (Begun files size quiet mid k) (log_of after mid.clock history) faults
     → AreOnce (Begun files size quiet mid k) (log_of after mid.clock history) → NoneTwice (log_of after mid.clock history) → IsCalm quiet after.sure history → MadeFirst (Begun files size quiet mid k) (steps_of moment lines) [] (log_of after mid.clock history)
+    → AreWhole (Begun files size quiet mid k) workers (log_of after mid.clock history)
     → (status ≡ 8) ⊎ AreTargetsOfLines (target_telling count files) (Begun files size quiet mid k) moment lines (log_of after mid.clock history) targets
-    → OpensRestored count files size moment lines before after history faults targets status
+    → OpensRestored count files size workers moment lines before after history faults targets status
 unfolding opened_run
-opens_restored {S} {F} {H} {T} laws count files size moment lines quiet before mid after k history faults targets status o quiet_is legal past shown once single calm made (inl wanting) = inl wanting
-opens_restored {S} {F} {H} {T} laws count files size moment lines quiet before mid after k history faults targets status o quiet_is legal past shown once single calm made (inr of) =
+opens_restored {S} {F} {H} {T} laws count files size workers moment lines quiet before mid after k history faults targets status o quiet_is legal past shown once single calm made verified (inl wanting) = inl wanting
+opens_restored {S} {F} {H} {T} laws count files size workers moment lines quiet before mid after k history faults targets status o quiet_is legal past shown once single calm made verified (inr of) =
     inr (inr (
-      opened_run laws count files size moment lines quiet before mid after k history faults o quiet_is legal past shown once single calm made,
+      opened_run laws count files size workers moment lines quiet before mid after k history faults o quiet_is legal past shown once single calm made verified,
       subst (λ (s : Start). AreTargetsOfLines {T = T} (target_telling count files) s moment lines (log_of after mid.clock history) targets) (start_is files size quiet before mid k o) of,
     ))
 
@@ -100,16 +102,16 @@ pub none_restored : {S F H T : Type 0} (count : Counts S F H T) (given : Given) 
     → history ≡ [] → targets ≡ [] → HasRestored count given files before after history faults targets status
 none_restored count given files before after history faults targets status empty none = inr (inl (empty, none))
 
-pub opens_none : {S F H T : Type 0} (count : Counts S F H T) (files : Telling) (size moment : ℕ) (lines : List ScriptLine) (before after : Look) (history : List Entry) (faults : List (Fault S F H T)) (targets : List (Restored T)) (status : ℕ)
-    → history ≡ [] → targets ≡ [] → OpensRestored count files size moment lines before after history faults targets status
-opens_none count files size moment lines before after history faults targets status empty none = inr (inl (empty, none))
+pub opens_none : {S F H T : Type 0} (count : Counts S F H T) (files : Telling) (size workers moment : ℕ) (lines : List ScriptLine) (before after : Look) (history : List Entry) (faults : List (Fault S F H T)) (targets : List (Restored T)) (status : ℕ)
+    → history ≡ [] → targets ≡ [] → OpensRestored count files size workers moment lines before after history faults targets status
+opens_none count files size workers moment lines before after history faults targets status empty none = inr (inl (empty, none))
 
 -- with the words and the script
-pub restored_opened : {S F H T : Type 0} (count : Counts S F H T) (given : Given) (files : Telling) (size : ℕ) (lines : List ScriptLine) (before after : Look) (history : List Entry) (faults : List (Fault S F H T)) (targets : List (Restored T)) (status : ℕ)
-    → part_size_of (wanted_of (job_of given.words)) ≡ Some size → IsScript given lines → OpensRestored count files size given.moment lines before after history faults targets status → HasRestored count given files before after history faults targets status
-restored_opened count given files size lines before after history faults targets status size_is is (inl wanting) = inl wanting
-restored_opened count given files size lines before after history faults targets status size_is is (inr (inl none)) = inr (inl none)
-restored_opened count given files size lines before after history faults targets status size_is is (inr (inr run)) = inr (inr (record { size = size; size_is = size_is; lines = lines; script = is; run = run.0 }, run.1))
+pub restored_opened : {S F H T : Type 0} (count : Counts S F H T) (given : Given) (files : Telling) (size workers : ℕ) (lines : List ScriptLine) (before after : Look) (history : List Entry) (faults : List (Fault S F H T)) (targets : List (Restored T)) (status : ℕ)
+    → part_size_of (wanted_of (job_of given.words)) ≡ Some size → workers_of (job_of given.words) ≡ Some workers → IsScript given lines → OpensRestored count files size workers given.moment lines before after history faults targets status → HasRestored count given files before after history faults targets status
+restored_opened count given files size workers lines before after history faults targets status size_is workers_are is (inl wanting) = inl wanting
+restored_opened count given files size workers lines before after history faults targets status size_is workers_are is (inr (inl none)) = inr (inl none)
+restored_opened count given files size workers lines before after history faults targets status size_is workers_are is (inr (inr run)) = inr (inr (record { size = size; size_is = size_is; workers = workers; workers_are = workers_are; lines = lines; script = is; run = run.0 }, run.1))
 
 -- printed
 pub restored_printed : {S F H T : Type 0} (count : Counts S F H T) (given : Given) (files : Telling) (before after : Look) (history : List Entry) (faults : List (Fault S F H T)) (targets : List (Restored T)) (status wanted : ℕ)

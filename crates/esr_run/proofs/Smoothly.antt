@@ -22,18 +22,19 @@ use Rattle.esr_repo.specs.Past.{IsPast}
 use Rattle.esr_repo.specs.Calm.{IsCalm}
 use Rattle.esr_repo.specs.Deposed.{AreDeposedSo}
 use Rattle.esr_complete.specs.Lines.{steps_of}
-use Rattle.esr_run.specs.Asked.{Wanted, ReadScript, OneCommand, NoCommand, NoRun, wanted_of, part_size_of}
+use Rattle.esr_run.specs.Asked.{Wanted, ReadScript, OneCommand, NoCommand, NoRun, wanted_of, part_size_of, workers_of}
 use Rattle.esr_run.specs.Script.{AreBytes, first_bad, bad_line}
 use Rattle.esr_run.specs.Ends.{RunEnd, BadWords, Unreadable, BadScript, BadLine, OpenFault, Damaged, NoTerm, Carried}
 use Rattle.esr_run.specs.Start.{Telling, is_calm_by, start_of, LegalRun}
 use Rattle.esr_run.specs.Complete.{IsQuietFor, IsLastTerm}
 use Rattle.esr_run.specs.Laws.{Laws, QuietLaws}
-use Rattle.esr_run.specs.Made.{MadeFirst, HasStopped, AreDone}
+use Rattle.esr_run.specs.Verified.{AreWhole}
+use Rattle.esr_run.specs.Made.{MadeFirst, HasFallen, AreDone}
 use Rattle.esr_run.specs.Stops.{StoppedBy}
 use Rattle.esr_run.specs.Causes.{Given, AreWanted, IsScriptFor, IsScript, IsStoppedFor, OpensWell, IsComplete, IsTold, IsPrinted, end_of_refusal}
 use Rattle.esr_run.proofs.Worlds.{start_is}
 use Rattle.esr_run.proofs.Ending.{Begun, opened_run}
-use Rattle.esr_run.proofs.Completing.{are_known, completes}
+use Rattle.esr_run.proofs.Completing.{completes}
 
 -- ---- whether a container is taken for quiet
 
@@ -61,21 +62,22 @@ carried_status : (status : ℕ) (text : Bytes) (lines : List ScriptLine) (histor
 carried_status status text lines history (inl wanting) = inl wanting.0
 carried_status status text lines history (inr told) = inr told.0
 
-pub opens_well : {S F H T : Type 0} (laws : Laws) (quiet_laws : QuietLaws S F H T) (count : Counts S F H T) (files : Telling) (size moment : ℕ) (lines : List ScriptLine) (quiet : Bool) (before mid after : Look) (k : Kept) (history : List Entry) (faults : List (Fault S F H T))
+pub opens_well : {S F H T : Type 0} (laws : Laws) (quiet_laws : QuietLaws S F H T) (count : Counts S F H T) (files : Telling) (size workers moment : ℕ) (lines : List ScriptLine) (quiet : Bool) (before mid after : Look) (k : Kept) (history : List Entry) (faults : List (Fault S F H T))
     (status : ℕ) (text : Bytes) (o : IsOpening before mid k) → (2 ^ 62 ≤ before.sure → quiet ≡ true)
     → LegalRun (Begun files size quiet mid k) mid.clock after history → IsPast (Begun files size quiet mid k) mid.clock mid.since after history → AreShown count (Begun files size quiet mid k) (log_of after mid.clock history) faults
     → AreOnce (Begun files size quiet mid k) (log_of after mid.clock history) → NoneTwice (log_of after mid.clock history) → IsCalm quiet after.sure history → MadeFirst (Begun files size quiet mid k) (steps_of moment lines) [] (log_of after mid.clock history)
-    → AreDeposedSo history → first_bad lines ≡ None → IsTold status text (Some (Carried lines history))
-    → (status ≡ 8) ⊎ (AreDone (Begun files size quiet mid k) moment lines [] (log_of after mid.clock history) ⊎ HasStopped (log_of after mid.clock history))
-    → OpensWell count files size moment lines before after history faults status
+    → AreWhole (Begun files size quiet mid k) workers (log_of after mid.clock history)
+    → AreDeposedSo history → IsTold status text (Some (Carried lines history))
+    → (status ≡ 8) ⊎ (AreDone (Begun files size quiet mid k) moment lines [] (log_of after mid.clock history) ⊎ HasFallen (Begun files size quiet mid k) moment lines [] (log_of after mid.clock history))
+    → OpensWell count files size workers moment lines before after history faults status
 unfolding opened_run
-opens_well {S} {F} {H} {T} laws quiet_laws count files size moment lines quiet before mid after k history faults status text o quiet_is legal past shown once single calm made named good told (inl wanting) quiet_for = inl wanting
-opens_well {S} {F} {H} {T} laws quiet_laws count files size moment lines quiet before mid after k history faults status text o quiet_is legal past shown once single calm made named good told (inr done) quiet_for =
+opens_well {S} {F} {H} {T} laws quiet_laws count files size workers moment lines quiet before mid after k history faults status text o quiet_is legal past shown once single calm made verified named told (inl wanting) quiet_for = inl wanting
+opens_well {S} {F} {H} {T} laws quiet_laws count files size workers moment lines quiet before mid after k history faults status text o quiet_is legal past shown once single calm made verified named told (inr done) quiet_for =
     ⊎_elim
     (λ (wanting : status ≡ 8). inl wanting)
     (λ (is : status ≡ status_of (ending lines history)).
     inr (inr (
-      opened_run laws count files size moment lines quiet before mid after k history faults o quiet_is legal past shown once single calm made,
+      opened_run laws count files size workers moment lines quiet before mid after k history faults o quiet_is legal past shown once single calm made verified,
       completes quiet_laws count files size moment lines before after world mid.clock history faults (λ i e. o.opens i _ _ e) status o.order.no_deletes
           (subst (λ (s : Start). LegalRun s mid.clock after history) same legal).legal
           (subst (λ (s : Start). IsPast s mid.clock mid.since after history) same past).told
@@ -84,8 +86,9 @@ opens_well {S} {F} {H} {T} laws quiet_laws count files size moment lines quiet b
           (subst (λ (b : Bool). IsCalm b after.sure history) yes_quiet calm)
           named
           (subst (λ (s : Start). MadeFirst s (steps_of moment lines) [] (log_of after mid.clock history)) same made)
-          (subst (λ (s : Start). AreDone s moment lines [] (log_of after mid.clock history) ⊎ HasStopped (log_of after mid.clock history)) same done)
-          (are_known lines good) is quiet_for,
+          verified.begun
+          (subst (λ (s : Start). AreDone s moment lines [] (log_of after mid.clock history) ⊎ HasFallen s moment lines [] (log_of after mid.clock history)) same done)
+          quiet_for.known is quiet_for,
     )))
     (carried_status status text lines history told)
   where
@@ -103,17 +106,17 @@ wanting_told status text (inl wanting) = wanting.0
 wanting_told status text (inr told) = told.0
 
 -- a container that is refused
-pub refused_well : {S F H T : Type 0} (count : Counts S F H T) (files : Telling) (size moment : ℕ) (lines : List ScriptLine) (before mid after : Look) (old_faults new_faults : ℕ) (history : List Entry) (faults : List (Fault S F H T)) (status : ℕ) (text : Bytes) (refusal : OpenRefusal F)
+pub refused_well : {S F H T : Type 0} (count : Counts S F H T) (files : Telling) (size workers moment : ℕ) (lines : List ScriptLine) (before mid after : Look) (old_faults new_faults : ℕ) (history : List Entry) (faults : List (Fault S F H T)) (status : ℕ) (text : Bytes) (refusal : OpenRefusal F)
     → IsTold status text (end_of_refusal refusal) → IsOpenRefused count.fetch before mid old_faults new_faults refusal → (2 ^ 61 ≤ before.sure → (fetch : Option F) → refusal ≡ refusals.DepotFault fetch → ⊥)
-    → OpensWell count files size moment lines before after history faults status
-refused_well count files size moment lines before mid after old_faults new_faults history faults status text refusals.Memory told refused sure quiet_for = inl (wanting_told status text told)
-refused_well count files size moment lines before mid after old_faults new_faults history faults status text (refusals.DepotFault fetch) told refused sure quiet_for =
+    → OpensWell count files size workers moment lines before after history faults status
+refused_well count files size workers moment lines before mid after old_faults new_faults history faults status text refusals.Memory told refused sure quiet_for = inl (wanting_told status text told)
+refused_well count files size workers moment lines before mid after old_faults new_faults history faults status text (refusals.DepotFault fetch) told refused sure quiet_for =
     let enough : 2 ^ 62 ≤ before.sure = quiet_for.sure in
     absurd (sure (omega (arith, enough)) fetch refl)
-refused_well count files size moment lines before mid after old_faults new_faults history faults status text (refusals.Damaged name why) told refused sure quiet_for =
+refused_well count files size workers moment lines before mid after old_faults new_faults history faults status text (refusals.Damaged name why) told refused sure quiet_for =
     let i = quiet_for.holds.image in
     absurd (quiet_for.undeleted name why (refused.2 i _ _ quiet_for.shelf quiet_for.holds.told quiet_for.holds.kept) (refused.1 i quiet_for.holds.told))
-refused_well count files size moment lines before mid after old_faults new_faults history faults status text (refusals.TermsSpent term) told refused sure quiet_for =
+refused_well count files size workers moment lines before mid after old_faults new_faults history faults status text (refusals.TermsSpent term) told refused sure quiet_for =
     inr (inl (quiet_for.holds.image, term, quiet_for.holds.told, refused.1 quiet_for.holds.image quiet_for.holds.told))
 
 -- ---- the words and the script
@@ -135,15 +138,15 @@ same_wanted (OneCommand size item) script bytes a b told first second = first �
 same_wanted NoCommand script bytes a b told first second = absurd first
 same_wanted NoRun script bytes a b told first second = absurd first
 
-pub complete_opened : {S F H T : Type 0} (count : Counts S F H T) (given : Given) (files : Telling) (reader size : ℕ) (lines : List ScriptLine) (before after : Look) (old_out new_out : ℕ) (history : List Entry) (faults : List (Fault S F H T)) (status : ℕ)
-    → part_size_of (wanted_of (job_of given.words)) ≡ Some size → IsScript given lines → OpensWell count files size given.moment lines before after history faults status → IsComplete count given files reader before after old_out new_out history faults status
-complete_opened {S} {F} {H} {T} count given files reader size lines before after old_out new_out history faults status size_is script well asked smooth =
+pub complete_opened : {S F H T : Type 0} (count : Counts S F H T) (given : Given) (files : Telling) (reader size workers : ℕ) (lines : List ScriptLine) (before after : Look) (old_out new_out : ℕ) (history : List Entry) (faults : List (Fault S F H T)) (status : ℕ)
+    → part_size_of (wanted_of (job_of given.words)) ≡ Some size → workers_of (job_of given.words) ≡ Some workers → IsScript given lines → OpensWell count files size workers given.moment lines before after history faults status → IsComplete count given files reader before after old_out new_out history faults status
+complete_opened {S} {F} {H} {T} count given files reader size workers lines before after old_out new_out history faults status size_is workers_are script well asked smooth =
     let same : asked ≡ lines = same_wanted (wanted_of (job_of given.words)) given.script smooth.bytes asked lines smooth.told smooth.script.are script.are in
     ⊎_elim
     (λ (wanting : status ≡ 8). inl wanting)
     (λ rest. ⊎_elim
     (λ (last : IsLastTerm before). inr (inl last))
-    (λ run. inr (inr (record { size = size; size_is = size_is; lines = lines; script = script; run = run.0 }, run.1)))
+    (λ run. inr (inr (record { size = size; size_is = size_is; workers = workers; workers_are = workers_are; lines = lines; script = script; run = run.0 }, run.1)))
     rest)
     (well (subst (λ (l : List ScriptLine). IsQuietFor files before l) same smooth.quiet))
 

@@ -5,9 +5,9 @@ use Rattle.esr_desk.specs.declared.refusal.StepRefusal.{StepRefusal}
 use Rattle.esr_desk.specs.Start.{Start}
 use Rattle.esr_desk.specs.Last.{IsLast}
 use Rattle.esr_drive.specs.Stopped.{IsStopped}
-use Rattle.esr_run.specs.Made.{AreIn, LineRests, WaitEnds}
+use Rattle.esr_run.specs.Made.{AreIn, LineRests, LineSpends, WaitEnds}
 use Rattle.esr_run.specs.Stop.{result_of}
-use Rattle.esr_run.proofs.Making.{rests_waiting, wait_ends}
+use Rattle.esr_run.proofs.Making.{rests_waiting, wait_ends, spent_waiting}
 
 pub rests_by : (s : Start) (old new : List Moment) (stop : Option StepRefusal) (result : Result Unit StepRefusal) → result ≡ result_of stop → (stop ≡ None → s.alone ≡ true → AreIn s old → AreIn s new) → IfSome stop (IsStopped s new)
     → s.alone ≡ true → AreIn s old → LineRests s new result
@@ -31,3 +31,7 @@ same_error e d is = cc
 pub stopped_by : (s : Start) (new : List Moment) (stop : Option StepRefusal) (e : StepRefusal) → Err e ≡ result_of stop → IfSome stop (IsStopped s new) → IsStopped s new e
 stopped_by s new None e is stopped = absurd (no_error e is)
 stopped_by s new (Some d) e is stopped = subst (IsStopped s new) (same_error e d is) stopped
+
+pub spends_by : (s : Start) (new : List Moment) (stop : Option StepRefusal) (result : Result Unit StepRefusal) → result ≡ result_of stop → IfSome stop (IsStopped s new) → s.alone ≡ true → LineSpends new result
+spends_by s new None result is stopped alone = subst (λ (r : Result Unit StepRefusal). LineSpends new r) (sym is) tt
+spends_by s new (Some e) result is stopped alone = subst (λ (r : Result Unit StepRefusal). LineSpends new r) (sym is) (spent_waiting s new e stopped alone)

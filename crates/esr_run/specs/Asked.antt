@@ -36,6 +36,11 @@ part_size_of (OneCommand size item) = Some size
 part_size_of NoCommand = None
 part_size_of NoRun = None
 
+-- the count of workers for which the words ask
+abbrev pub workers_of : Result Job WordsRefusal → Option ℕ
+workers_of (Ok job) = Some job.options.workers
+workers_of (Err refusal) = None
+
 -- a script is to be read
 abbrev pub AsksScript : Wanted → Type 0
 AsksScript (ReadScript size) = Unit {0}

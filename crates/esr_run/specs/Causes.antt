@@ -22,13 +22,14 @@ use Rattle.esr_complete.specs.Lines.{steps_of}
 use Rattle.esr_desk.specs.declared.fault.Fault.{Fault}
 use Rattle.esr_run.specs.Counts.{Counts, AreShown}
 use Rattle.esr_desk.specs.Once.{AreOnce, NoneTwice}
-use Rattle.esr_run.specs.Asked.{Wanted, ReadScript, OneCommand, NoCommand, NoRun, AsksScript, wanted_of, part_size_of, single_script}
+use Rattle.esr_run.specs.Asked.{Wanted, ReadScript, OneCommand, NoCommand, NoRun, AsksScript, wanted_of, workers_of, part_size_of, single_script}
 use Rattle.esr_run.specs.Script.{AreBytes, first_bad, bad_line}
 use Rattle.esr_run.specs.Ends.{RunEnd, BadWords, Unreadable, BadScript, BadLine, OpenFault, Damaged, NoTerm, Carried, text_of, exit_of, exit_at, text_at}
 use Rattle.esr_run.specs.Faults.{listed, fetch_of, HasFetch}
 use Rattle.esr_run.specs.Start.{Telling, formats_by, start_of, LegalRun}
 use Rattle.esr_run.specs.Images.{StaysKept, EveryImageKept, AnsweredStay}
-use Rattle.esr_run.specs.Made.{HasStopped, AreDone}
+use Rattle.esr_run.specs.Verified.{AreWhole}
+use Rattle.esr_run.specs.Made.{HasFallen, AreDone}
 use Rattle.esr_run.specs.Complete.{IsQuietFor, IsLastTerm, Completes}
 
 -- what a run is given
@@ -125,7 +126,7 @@ pub record IsUnopened {S F H T : Type 0} (count : Counts S F H T) (files : Telli
   pub faults_are : faults ≡ listed (fetch_of refusal)
 
 -- It was opened, as this world, and the history is legal from there to what it has now, over its moments from this clock on.
-pub record IsOpenedRun {S F H T : Type 0} (count : Counts S F H T) (files : Telling) (size moment : ℕ) (lines : List ScriptLine) (before after : Look) (history : List Entry) (faults : List (Fault S F H T)) : Type 0 where
+pub record IsOpenedRun {S F H T : Type 0} (count : Counts S F H T) (files : Telling) (size workers moment : ℕ) (lines : List ScriptLine) (before after : Look) (history : List Entry) (faults : List (Fault S F H T)) : Type 0 where
   pub world : World
   pub clock : ℕ
   -- whether it is taken for quiet, as it is where it was sure to serve 2^62 calls
@@ -145,22 +146,28 @@ pub record IsOpenedRun {S F H T : Type 0} (count : Counts S F H T) (files : Tell
   pub single : NoneTwice (log_of after clock history)
   -- a quiet container failed in none of the first 2^41 entries
   pub calm : IsCalm quiet after.sure history
+  -- each verification that ended well is whole; who 0 reads for verifications alone, each after a draw; and none is open where a line
+  -- asks for something
+  pub verified : AreWhole (start_of files size quiet before world) workers (log_of after clock history)
   -- what was asked is what the lines ask for, in order, as far as they were carried out
   pub asked : (rest : List Step) × (asked_steps (log_of after clock history) ++ rest ≡ steps_of moment lines)
 
--- Each line was carried out, the work of each wait was done when it ended, and at the end no unit is ready or out; or a step of a
--- ticket, or a take, was refused, or all turns were taken.
-abbrev pub IsWorked : {S F H T : Type 0} (count : Counts S F H T) (files : Telling) (size moment : ℕ) (lines : List ScriptLine) (before after : Look) (history : List Entry) (faults : List (Fault S F H T)) → IsOpenedRun count files size moment lines before after history faults → Type 0
-IsWorked count files size moment lines before after history faults r =
-    AreDone (start_of files size r.quiet before r.world) moment lines [] (log_of after r.clock history) ⊎ HasStopped (log_of after r.clock history)
+-- Each line was carried out, the work of each wait was done when it ended, and at the end no unit is ready or out and no verification
+-- is open; or a record swap failed, and each line was asked all the same; or all turns were taken.
+abbrev pub IsWorked : {S F H T : Type 0} (count : Counts S F H T) (files : Telling) (size workers moment : ℕ) (lines : List ScriptLine) (before after : Look) (history : List Entry) (faults : List (Fault S F H T)) → IsOpenedRun count files size workers moment lines before after history faults → Type 0
+IsWorked count files size workers moment lines before after history faults r =
+    AreDone (start_of files size r.quiet before r.world) moment lines [] (log_of after r.clock history) ⊎ HasFallen (start_of files size r.quiet before r.world) moment lines [] (log_of after r.clock history)
 
 -- with parts of the size for which the words ask
 pub record IsCarried {S F H T : Type 0} (count : Counts S F H T) (given : Given) (files : Telling) (before after : Look) (history : List Entry) (faults : List (Fault S F H T)) : Type 0 where
   pub size : ℕ
   pub size_is : part_size_of (wanted_of (job_of given.words)) ≡ Some size
+  -- and of as many workers
+  pub workers : ℕ
+  pub workers_are : workers_of (job_of given.words) ≡ Some workers
   pub lines : List ScriptLine
   pub script : IsScript given lines
-  pub run : IsOpenedRun count files size given.moment lines before after history faults
+  pub run : IsOpenedRun count files size workers given.moment lines before after history faults
 
 -- The container wasn't touched, or it wasn't opened, and there is no history; or it was opened, and the history is legal from
 -- there on.
@@ -194,7 +201,7 @@ EndedUnopened count before after old_faults new_faults history faults end = (his
 
 abbrev pub IsCauseOf : {S F H T : Type 0} → Counts S F H T → Given → Telling → ℕ → Look → Look → ℕ → ℕ → List Entry → List (Fault S F H T) → RunEnd → Type 0
 IsCauseOf count given files reader before after old_faults new_faults history faults (Carried script entries) =
-    (entries ≡ history) × ((c : IsCarried count given files before after history faults) × (c.lines ≡ script) × IsWorked count files c.size given.moment c.lines before after history faults c.run)
+    (entries ≡ history) × ((c : IsCarried count given files before after history faults) × (c.lines ≡ script) × IsWorked count files c.size c.workers given.moment c.lines before after history faults c.run)
 IsCauseOf count given files reader before after old_faults new_faults history faults OpenFault = AsksLines given × EndedUnopened count before after old_faults new_faults history faults OpenFault
 IsCauseOf count given files reader before after old_faults new_faults history faults (Damaged name) = AsksLines given × EndedUnopened count before after old_faults new_faults history faults (Damaged name)
 IsCauseOf count given files reader before after old_faults new_faults history faults NoTerm = AsksLines given × EndedUnopened count before after old_faults new_faults history faults NoTerm
@@ -252,16 +259,16 @@ abbrev pub IsTold : ℕ → Bytes → Option RunEnd → Type 0
 IsTold status text end = ((status ≡ 8) × (text ≡ [])) ⊎ ((status ≡ exit_at end) × (text ≡ text_at end))
 
 -- the same as why a run ended so, from the opening of the container on
-abbrev pub IsOpenCause : {S F H T : Type 0} → Counts S F H T → Telling → ℕ → ℕ → Look → Look → ℕ → ℕ → List ScriptLine → List Entry → List (Fault S F H T) → RunEnd → Type 0
-IsOpenCause count files size moment before after old_faults new_faults lines history faults (Carried script entries) =
-    (script ≡ lines) × (entries ≡ history) × ((r : IsOpenedRun count files size moment lines before after history faults) × IsWorked count files size moment lines before after history faults r)
-IsOpenCause count files size moment before after old_faults new_faults lines history faults OpenFault = EndedUnopened count before after old_faults new_faults history faults OpenFault
-IsOpenCause count files size moment before after old_faults new_faults lines history faults (Damaged name) = EndedUnopened count before after old_faults new_faults history faults (Damaged name)
-IsOpenCause count files size moment before after old_faults new_faults lines history faults NoTerm = EndedUnopened count before after old_faults new_faults history faults NoTerm
-IsOpenCause count files size moment before after old_faults new_faults lines history faults BadWords = ⊥
-IsOpenCause count files size moment before after old_faults new_faults lines history faults Unreadable = ⊥
-IsOpenCause count files size moment before after old_faults new_faults lines history faults BadScript = ⊥
-IsOpenCause count files size moment before after old_faults new_faults lines history faults (BadLine number) = ⊥
+abbrev pub IsOpenCause : {S F H T : Type 0} → Counts S F H T → Telling → ℕ → ℕ → ℕ → Look → Look → ℕ → ℕ → List ScriptLine → List Entry → List (Fault S F H T) → RunEnd → Type 0
+IsOpenCause count files size workers moment before after old_faults new_faults lines history faults (Carried script entries) =
+    (script ≡ lines) × (entries ≡ history) × ((r : IsOpenedRun count files size workers moment lines before after history faults) × IsWorked count files size workers moment lines before after history faults r)
+IsOpenCause count files size workers moment before after old_faults new_faults lines history faults OpenFault = EndedUnopened count before after old_faults new_faults history faults OpenFault
+IsOpenCause count files size workers moment before after old_faults new_faults lines history faults (Damaged name) = EndedUnopened count before after old_faults new_faults history faults (Damaged name)
+IsOpenCause count files size workers moment before after old_faults new_faults lines history faults NoTerm = EndedUnopened count before after old_faults new_faults history faults NoTerm
+IsOpenCause count files size workers moment before after old_faults new_faults lines history faults BadWords = ⊥
+IsOpenCause count files size workers moment before after old_faults new_faults lines history faults Unreadable = ⊥
+IsOpenCause count files size workers moment before after old_faults new_faults lines history faults BadScript = ⊥
+IsOpenCause count files size workers moment before after old_faults new_faults lines history faults (BadLine number) = ⊥
 
 -- how a run ends whose container wasn't opened; None: memory was wanting
 abbrev pub end_of_refusal : {F : Type 0} → OpenRefusal F → Option RunEnd
@@ -274,10 +281,10 @@ end_of_refusal (refusals.TermsSpent term) = Some NoTerm
 
 -- from the opening on: over quiet objects memory was wanting, or the last term had come, or the container was opened and each
 -- line was answered well, unless a number was spent
-abbrev pub OpensWell : {S F H T : Type 0} → Counts S F H T → Telling → ℕ → ℕ → List ScriptLine → Look → Look → List Entry → List (Fault S F H T) → ℕ → Type 0
-OpensWell count files size moment lines before after history faults status =
+abbrev pub OpensWell : {S F H T : Type 0} → Counts S F H T → Telling → ℕ → ℕ → ℕ → List ScriptLine → Look → Look → List Entry → List (Fault S F H T) → ℕ → Type 0
+OpensWell count files size workers moment lines before after history faults status =
     IsQuietFor files before lines
-    → (status ≡ 8) ⊎ (IsLastTerm before ⊎ ((r : IsOpenedRun count files size moment lines before after history faults) × Completes files size moment lines before r.world r.clock after history status))
+    → (status ≡ 8) ⊎ (IsLastTerm before ⊎ ((r : IsOpenedRun count files size workers moment lines before after history faults) × Completes files size moment lines before r.world r.clock after history status))
 
 -- The words ask for these lines, each of which can be carried out, over quiet objects; and no call of the script or of the
 -- output failed.

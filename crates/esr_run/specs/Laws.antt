@@ -1,12 +1,12 @@
 -- The laws of the core on which a run rests.
-use Rattle.std.specs.Prelude.{◌≡◌, ◌≢◌, ℕ, suc, ◌≤◌, List, [], ◌∷◌, ◌++◌, Some, true}
+use Rattle.std.specs.Prelude.{◌≡◌, ◌≢◌, ◌⊎◌, ℕ, suc, ◌≤◌, List, [], ◌∷◌, ◌++◌, Some, true, false}
 use Rattle.std.specs.FinMap as fin
-use Rattle.esr_model.specs.Values.{Formats, ReadsBack, RootData, ClusterRecord}
+use Rattle.esr_model.specs.Values.{Has, Formats, ReadsBack, RootData, ClusterRecord}
 use Rattle.esr_model.specs.Image.{Image, Blobs}
 use Rattle.esr_model.specs.Kept.{Kept}
 use Rattle.esr_model.specs.Shelf.{Shelved, shelf_after}
 use Rattle.esr_core.specs.World.{World, Ticket, image_of, record_of, opened, Opened}
-use Rattle.esr_core.specs.Entry.{Asked, AskStep, LookStep, Given, Gave, Moment, SettleStep, WasSettled}
+use Rattle.esr_core.specs.Entry.{Asked, Read, AskStep, TakeStep, LookStep, ReadStep, Refusal, StaleTerm, Refused, Given, Gave, Moment, SettleStep, WasSettled}
 use Rattle.esr_core.specs.After.{after}
 use Rattle.esr_core.specs.History.{world_from, IsLegal, AllKnown, AreTold, AreHonest, committed}
 use Rattle.esr_core.specs.Ids.{Law}
@@ -14,6 +14,7 @@ use Rattle.esr_core.specs.Allowed.{Allowed}
 use Rattle.esr_core.specs.Tracked.{Tracked}
 use Rattle.esr_core.specs.ReadTracked.{ReadTracked}
 use Rattle.esr_core.specs.Left.{Leaves, safe_in}
+use Rattle.esr_core.specs.Refusing.{RefusedSo, SwapFailed}
 use Rattle.esr_desk.specs.Start.{Start, Legal, no_ticket, ticket_of}
 use Rattle.esr_desk.specs.declared.fault.Fault.{Fault}
 use Rattle.esr_desk.specs.Shown.{Counts}
@@ -23,7 +24,7 @@ use Rattle.esr_reading.specs.Shown as reading
 use Rattle.esr_quiet.specs.Caused.{AreCaused, AreReadCaused}
 use Rattle.esr_quiet.specs.Numbers.{HasNoTickets}
 use Rattle.esr_quiet.specs.Asked.{asked_steps}
-use Rattle.esr_quiet.specs.Smooth.{IsSmooth, NoneFailed, NoneUnrestored, NoneAsked}
+use Rattle.esr_quiet.specs.Smooth.{IsSmooth, NoneFailed, NoneUnrestored, NoneAsked, AreDrawn, AreUnelected}
 use Rattle.esr_quiet.specs.Refusals.{AreByRule}
 use Rattle.esr_complete.specs.Lines.{steps_of, AreKnown, entries_of}
 use Rattle.esr_complete.specs.Answers.{IsIdle, AreAnswered, EndsWell}
@@ -45,7 +46,19 @@ pub record StepsStay : Type 0 where
   pub none : (s : Start) (log : List Moment) → HasNoTickets s → ticket_of s log 0 ≡ no_ticket
   pub tracked : (f : Formats) (part_size : ℕ) (w : World) (log : List Moment) → Tracked w → IsLegal f part_size w log → Tracked (world_from f w log)
   pub asks : (f : Formats) (part_size : ℕ) (w : World) (m : Moment) (command : Asked) → Tracked w → Allowed f part_size w m → m.entry.step ≡ AskStep command → (after f w m).readers ≡ w.readers
+  pub checks : (s : Start) (log : List Moment) (m : Moment) (read : Read) (k : ℕ) → Legal s (log ++ m ∷ []) → m.entry.who ≡ 0 → m.entry.step ≡ ReadStep read → k ≢ 0 → ticket_of s (log ++ m ∷ []) k ≡ ticket_of s log k
+  pub reads : (f : Formats) (w : World) (m : Moment) (read : Read) → m.entry.who ≡ 0 → m.entry.step ≡ ReadStep read → (after f w m).readers ≡ w.readers
   pub looks : (f : Formats) (part_size : ℕ) (w : World) (m : Moment) → Tracked w → Allowed f part_size w m → m.entry.step ≡ LookStep → (after f w m).readers ≡ w.readers
+
+-- steps of tickets, and takes of units, leave what who 0 has done of a check or a verification
+abbrev pub WorkLeaves : Type 0
+WorkLeaves = (f : Formats) (part_size : ℕ) (w : World) (m : Moment) → Allowed f part_size w m → (m.entry.who ≢ 0) ⊎ (m.entry.step ≡ TakeStep) → (after f w m).caller ≡ w.caller
+
+-- why steps may be refused, and which world is deposed
+pub record Refusals : Type 0 where
+  pub of_steps : (f : Formats) (part_size : ℕ) (w : World) (m : Moment) (refusal : Refusal) → Allowed f part_size w m → m.entry.reply ≡ Refused refusal → RefusedSo w m.entry.step refusal
+  pub deposed : (f : Formats) (w : World) (log : List Moment) → w.deposed ≡ false → (world_from f w log).deposed ≡ true → SwapFailed log
+  pub stale : (s : Start) (log : List Moment) → HasNoTickets s → Legal s log → AreUnelected log → (m : Moment) (own now : ℕ) → Has log m → m.entry.reply ≢ Refused (StaleTerm own now)
 
 -- the laws of histories in which nothing fails
 pub record QuietLaws (S F H T : Type 0) : Type 0 where
@@ -53,7 +66,7 @@ pub record QuietLaws (S F H T : Type 0) : Type 0 where
   pub restores : (c : reading.Counts F T) (s : Start) (log : List Moment) (faults : List (Fault S F H T)) → IsSmooth s log → s.sure_targets ≡ true → AreReadCaused c s log faults → NoneUnrestored log
   pub unasked : (s : Start) (log : List Moment) → IsSmooth s log → NoneAsked log → NoneUnrestored log
   pub rules : (s : Start) (log : List Moment) → IsSmooth s log → NoneFailed log → AreByRule log
-  pub answered : (s : Start) (log : List Moment) (lines : List ScriptLine) (moment : ℕ) → IsSmooth s log → NoneFailed log → NoneUnrestored log → AreByRule log → IsIdle s log → AreKnown lines → asked_steps log ≡ steps_of moment lines
+  pub answered : (s : Start) (log : List Moment) (lines : List ScriptLine) (moment : ℕ) → IsSmooth s log → NoneFailed log → NoneUnrestored log → AreByRule log → AreDrawn log → IsIdle s log → AreKnown lines → asked_steps log ≡ steps_of moment lines
       → AreAnswered lines (replies lines (entries_of log))
-  pub ends : (s : Start) (log : List Moment) (lines : List ScriptLine) (moment : ℕ) → IsSmooth s log → NoneFailed log → NoneUnrestored log → AreByRule log → IsIdle s log → AreKnown lines → asked_steps log ≡ steps_of moment lines
+  pub ends : (s : Start) (log : List Moment) (lines : List ScriptLine) (moment : ℕ) → IsSmooth s log → NoneFailed log → NoneUnrestored log → AreByRule log → AreDrawn log → IsIdle s log → AreKnown lines → asked_steps log ≡ steps_of moment lines
       → EndsWell lines (entries_of log)

@@ -8,6 +8,7 @@ pub mod Images
 pub mod Made
 pub mod Filled
 pub mod Complete
+pub mod Verified
 pub mod Laws
 pub mod Causes
 pub mod Restored

@@ -1,8 +1,9 @@
 -- How far lines were carried out.
-use Rattle.std.specs.Prelude.{◌≡◌, ◌≢◌, ◌⊎◌, ℕ, ◌^◌, ◌≤◌, List, [], ◌∷◌, ◌++◌, length, Result, Ok, Err}
+use Rattle.std.specs.Prelude.{◌≡◌, ◌≢◌, ◌⊎◌, ℕ, ◌^◌, ◌≤◌, List, ◌∷◌, ◌++◌, length, Result, Ok, Err}
 use Rattle.std.specs.FinMap as fin
 use Rattle.esr_model.specs.Values.{Has}
 use Rattle.esr_core.specs.Entry.{Step, TakeStep, NothingReady, Refused, Refusal, Moment}
+use Rattle.esr_core.specs.Refusing.{SwapFailed}
 use Rattle.esr_script.specs.declared.item.Item.TheVariants as items
 use Rattle.esr_script.specs.declared.item.ScriptLine.{ScriptLine}
 use Rattle.esr_desk.specs.declared.refusal.StepRefusal.{StepRefusal}
@@ -10,9 +11,12 @@ use Rattle.esr_desk.specs.declared.refusal.StepRefusal.TheVariants as steps
 use Rattle.esr_desk.specs.Start.{Start}
 use Rattle.esr_desk.specs.Grew.{NoneOut}
 use Rattle.esr_desk.specs.Last.{IsLast}
+use Rattle.esr_checking.specs.Caller.{caller_of}
 use Rattle.esr_quiet.specs.Asked.{GrewAsking}
+use Rattle.esr_drive.specs.Stopped.{StopsWork}
 use Rattle.esr_complete.specs.Lines.{steps_of}
 use Rattle.esr_complete.specs.Answers.{NoReaderOut, IsIdle}
+use Rattle.esr_verify.specs.Idle as verify
 
 -- the first of these steps were asked
 pub record MadeFirst (s : Start) (wanted : List Step) (old new : List Moment) : Type 0 where
@@ -21,13 +25,14 @@ pub record MadeFirst (s : Start) (wanted : List Step) (old new : List Moment) : 
   pub grew : GrewAsking s first old new
   pub is : first ++ rest ≡ wanted
 
--- a step of a ticket, or a take, was refused
+-- what the code says of itself: a step of a ticket, or a take, was refused, which stops the work
 pub record WasStopped (log : List Moment) : Type 0 where
   pub moment : Moment
   pub there : Has log moment
   pub refusal : Refusal
   pub refused : moment.entry.reply ≡ Refused refusal
   pub step : (moment.entry.who ≢ 0) ⊎ (moment.entry.step ≡ TakeStep)
+  pub stops : StopsWork moment.entry.step refusal
 
 -- or all turns were taken
 abbrev pub HasStopped : List Moment → Type 0
@@ -42,12 +47,19 @@ pub record AreIn (s : Start) (log : List Moment) : Type 0 where
   pub tickets : NoneOut s log
   pub readers : NoReaderOut s log
 
--- what the line asks for was asked, if the history tells the answer
+-- what the line asks for was asked, if the history tells the answer, and else a front of it
 abbrev pub LineMade : {X : Type 0} → Start → List Step → List Moment → List Moment → Result X StepRefusal → Type 0
 LineMade s wanted old new (Ok x) = GrewAsking s wanted old new
-LineMade s wanted old new (Err steps.Memory) = GrewAsking s [] old new
-LineMade s wanted old new (Err steps.TurnsSpent) = GrewAsking s [] old new
+LineMade s wanted old new (Err steps.Memory) = MadeFirst s wanted old new
+LineMade s wanted old new (Err steps.TurnsSpent) = MadeFirst s wanted old new
 LineMade s wanted old new (Err (steps.Refused refusal)) = GrewAsking s wanted old new
+
+-- turns are spent only where all were taken
+abbrev pub LineSpends : {X : Type 0} → List Moment → Result X StepRefusal → Type 0
+LineSpends new (Ok x) = Unit {0}
+LineSpends new (Err steps.Memory) = Unit {0}
+LineSpends new (Err steps.TurnsSpent) = 2 ^ 40 ≤ length new
+LineSpends new (Err (steps.Refused refusal)) = Unit {0}
 
 -- no ticket is out after it, unless the work was stopped
 abbrev pub LineRests : {X : Type 0} → Start → List Moment → Result X StepRefusal → Type 0
@@ -76,14 +88,33 @@ pub record WaitEnded (s : Start) (moment : ℕ) (before : List ScriptLine) (old 
 abbrev pub WaitsEnded : Start → ℕ → List ScriptLine → List Moment → List Moment → Type 0
 WaitsEnded s moment lines old log = (before after : List ScriptLine) (line : ScriptLine) → lines ≡ before ++ line ∷ after → line.item ≡ items.Wait → WaitEnded s moment before old log
 
--- all lines were carried out, each wait has ended, and no ticket is out
+-- no verification is open
+abbrev pub NoneOpen : Start → List Moment → Type 0
+NoneOpen s log = verify.IsIdle (caller_of s log)
+
+-- all lines were carried out, each wait has ended, no ticket is out, and no verification is open
 pub record AreMade (s : Start) (moment : ℕ) (lines : List ScriptLine) (old new : List Moment) : Type 0 where
   pub grew : GrewAsking s (steps_of moment lines) old new
   pub waits : WaitsEnded s moment lines old new
   pub rests : AreIn s new
+  pub closed : NoneOpen s new
 
 -- and no unit is ready
 pub record AreDone (s : Start) (moment : ℕ) (lines : List ScriptLine) (old new : List Moment) : Type 0 where
   pub grew : GrewAsking s (steps_of moment lines) old new
   pub waits : WaitsEnded s moment lines old new
   pub idle : IsIdle s new
+  pub closed : NoneOpen s new
+
+-- all lines were asked, and no verification is open
+pub record AreAsked (s : Start) (moment : ℕ) (lines : List ScriptLine) (old new : List Moment) : Type 0 where
+  pub grew : GrewAsking s (steps_of moment lines) old new
+  pub closed : NoneOpen s new
+
+-- the work was stopped, after which the further lines were asked all the same; or all turns were taken
+abbrev pub WasLeft : Start → ℕ → List ScriptLine → List Moment → List Moment → Type 0
+WasLeft s moment lines old new = (AreAsked s moment lines old new × WasStopped new) ⊎ (2 ^ 40 ≤ length new)
+
+-- A record swap failed, and all lines were asked; or all turns were taken. For nothing else the work is left undone.
+abbrev pub HasFallen : Start → ℕ → List ScriptLine → List Moment → List Moment → Type 0
+HasFallen s moment lines old new = (AreAsked s moment lines old new × SwapFailed new) ⊎ (2 ^ 40 ≤ length new)

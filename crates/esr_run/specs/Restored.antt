@@ -21,9 +21,9 @@ abbrev pub NoneRestored : {T : Type 0} → List Entry → List (Restored T) → 
 NoneRestored history targets = (history ≡ []) × (targets ≡ [])
 
 -- from the opening on: memory was wanting, or nothing was carried out, or the targets are those of the lines that restored shards
-abbrev pub OpensRestored : {S F H T : Type 0} → Counts S F H T → Telling → ℕ → ℕ → List ScriptLine → Look → Look → List Entry → List (Fault S F H T) → List (Restored T) → ℕ → Type 0
-OpensRestored count files size moment lines before after history faults targets status =
-    (status ≡ 8) ⊎ (NoneRestored history targets ⊎ ((r : IsOpenedRun count files size moment lines before after history faults)
+abbrev pub OpensRestored : {S F H T : Type 0} → Counts S F H T → Telling → ℕ → ℕ → ℕ → List ScriptLine → Look → Look → List Entry → List (Fault S F H T) → List (Restored T) → ℕ → Type 0
+OpensRestored count files size workers moment lines before after history faults targets status =
+    (status ≡ 8) ⊎ (NoneRestored history targets ⊎ ((r : IsOpenedRun count files size workers moment lines before after history faults)
     × AreTargetsOfLines (target_telling count files) (start_of files size r.quiet before r.world) moment lines (log_of after r.clock history) targets))
 
 -- the same of a whole run

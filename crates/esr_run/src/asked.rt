@@ -1,7 +1,7 @@
 //! What a run is asked for.
 ghost use Rattle.std.specs.Prelude.{◌≡◌, ◌≤◌, ◌^◌, ℕ, true, Some, Ok, IfOk, IfErr};
 ghost use Rattle.esr_script.specs.Jobs.{job_of, IsOptions};
-ghost use Rattle.esr_run.specs.Asked.{ReadScript, wanted_of, part_size_of, single_script};
+ghost use Rattle.esr_run.specs.Asked.{ReadScript, wanted_of, workers_of, part_size_of, single_script};
 ghost use Rattle.esr_run.specs.Causes.{Given, IsScript, IsScriptFor, IsReadInPart, IsReadFor};
 ghost use Rattle.esr_run.specs.Script.{is_carried};
 ghost use Rattle.esr_run.specs.Stops.{IsNoRun, IsNoCommand, end_of, StoppedBy};
@@ -13,9 +13,10 @@ use esr_script::{Item, Job, JobWork, Script, ScriptLine, Words, WordsRefusal, wo
 use esr_source::Lines;
 use std::alloc::{AllocError, Global};
 
-/// What a run is asked for: its lines, and the greatest size of a part in bytes.
+/// What a run is asked for: its lines, the greatest size of a part in bytes, and how many workers there are.
 #[derive(Debug, Drop)]
 pub(crate) struct Asked {
+    pub workers: u32,
     pub part_size: u64,
     pub script: Script,
 }
@@ -34,7 +35,13 @@ fn job_for(alloc: Global, words: &Words) -> Result<Job, Stop>
 }
 
 /// The lines of the script, which is read to its end, unless it is too long.
-fn script_asked<I: Lines>(alloc: Global, part_size: u64, script: &mut I) -> Result<Asked, Stop>
+fn script_asked<I: Lines>(
+    alloc: Global,
+    workers: u32,
+    part_size: u64,
+    script: &mut I,
+) -> Result<Asked, Stop>
+    ensures workers { IfOk result (λ a. a.workers ≡ workers) }
     ensures size { IfOk result (λ a. a.part_size ≡ part_size) }
     ensures script { IfOk result (λ a. IsScriptFor (ReadScript part_size) (I.left script.old) a.script) }
     ensures reader { IsReadInPart (I.left script.old) (I.left script.new) }
@@ -42,7 +49,11 @@ fn script_asked<I: Lines>(alloc: Global, part_size: u64, script: &mut I) -> Resu
 {
     let bytes = read_all(alloc, script)?;
     match lines_of(alloc, bytes.as_slice()) {
-        Ok(script) => Ok(Asked { part_size, script }),
+        Ok(script) => Ok(Asked {
+            workers,
+            part_size,
+            script,
+        }),
         Err(stop) => Err(stop),
     }
 }
@@ -57,7 +68,8 @@ fn single_script(alloc: Global, item: Item) -> Result<Script, AllocError>
 }
 
 /// The command alone, where it is one that can be carried out.
-fn command_asked(alloc: Global, part_size: u64, item: Item) -> Result<Asked, Stop>
+fn command_asked(alloc: Global, workers: u32, part_size: u64, item: Item) -> Result<Asked, Stop>
+    ensures workers { IfOk result (λ a. a.workers ≡ workers) }
     ensures size { IfOk result (λ a. a.part_size ≡ part_size) }
     ensures script { IfOk result (λ a. a.script ≡ single_script item) }
     ensures carried { IfOk result (λ _. is_carried item ≡ true) }
@@ -67,12 +79,18 @@ fn command_asked(alloc: Global, part_size: u64, item: Item) -> Result<Asked, Sto
         return Err(Stop::BadLine { number: 1 });
     }
     let script = single_script(alloc, item)?;
-    Ok(Asked { part_size, script })
+    Ok(Asked {
+        workers,
+        part_size,
+        script,
+    })
 }
 
 /// What a job asks for. The script is read where the job is to run one, and else left alone.
 fn asked_by<I: Lines>(alloc: Global, job: Job, script: &mut I) -> Result<Asked, Stop>
     requires { IsOptions job.options }
+    ensures workers { IfOk result (λ a. workers_of (Ok job) ≡ Some a.workers) }
+    ensures few { IfOk result (λ a. (1 ≤ a.workers) × (a.workers ≤ 64)) }
     ensures size { IfOk result (λ a. part_size_of (wanted_of (Ok job)) ≡ Some a.part_size) }
     ensures bound { IfOk result (λ a. (1 ≤ a.part_size) × (a.part_size ≤ 2 ^ 30)) }
     ensures script { IfOk result (λ a. IsScriptFor (wanted_of (Ok job)) (I.left script.old) a.script) }
@@ -81,8 +99,8 @@ fn asked_by<I: Lines>(alloc: Global, job: Job, script: &mut I) -> Result<Asked, 
 {
     let Job { options, work } = job;
     match work {
-        JobWork::Run => script_asked(alloc, options.part_size, script),
-        JobWork::Single(item) => command_asked(alloc, options.part_size, item),
+        JobWork::Run => script_asked(alloc, options.workers, options.part_size, script),
+        JobWork::Single(item) => command_asked(alloc, options.workers, options.part_size, item),
         JobWork::Generate { seed: _ } => Err(Stop::BadWords),
     }
 }
@@ -93,6 +111,8 @@ pub(crate) fn asked_for<I: Lines>(
     words: &Words,
     script: &mut I,
 ) -> Result<Asked, Stop>
+    ensures workers { IfOk result (λ a. workers_of (job_of words.now) ≡ Some a.workers) }
+    ensures few { IfOk result (λ a. (1 ≤ a.workers) × (a.workers ≤ 64)) }
     ensures size { IfOk result (λ a. part_size_of (wanted_of (job_of words.now)) ≡ Some a.part_size) }
     ensures bound { IfOk result (λ a. (1 ≤ a.part_size) × (a.part_size ≤ 2 ^ 30)) }
     ensures script { IfOk result (λ a. (moment : ℕ) → IsScript (record { words = words.now; script = I.left script.old; faults = I.faults script.old; moment = moment }) a.script) }

@@ -1,23 +1,26 @@
 //! The lines of a script are carried out, in order.
-ghost use Rattle.std.specs.Prelude.{◌≡◌, ◌⊎◌, ◌≤◌, ◌^◌, ◌∷◌, ◌++◌, [], true, None, OnOk};
+ghost use Rattle.std.specs.Prelude.{◌≡◌, ◌⊎◌, ◌<◌, ◌≤◌, ℕ, ◌^◌, ◌∷◌, ◌++◌, [], true, None, OnOk};
 ghost use Rattle.esr_script.specs.declared.item.Item.TheVariants.{Wait};
-ghost use Rattle.esr_core.specs.Entry.{Restore, AskStep, LookStep};
+ghost use Rattle.esr_core.specs.Entry.{Restore, DrawTest, AskStep, LookStep, ReadStep};
 ghost use Rattle.esr_core.specs.Tracked.{Tracked};
 ghost use Rattle.esr_core.specs.ReadTracked.{ReadTracked};
 ghost use Rattle.esr_desk.specs.Sources.{AreSources};
+ghost use Rattle.esr_desk.specs.Start.{Legal};
 ghost use Rattle.esr_quiet.specs.Asked.{GrewAsking};
 ghost use Rattle.esr_quiet.specs.Numbers.{HasNoTickets};
 ghost use Rattle.esr_drive.specs.Restored.{Telling, AreTargetsOf, RestoresNone};
 ghost use Rattle.esr_complete.specs.Answers.{IsIdle};
 ghost use Rattle.esr_complete.specs.Lines.{command_of_line, steps_of_item, steps_of};
-ghost use Rattle.esr_run.specs.Made.{MadeFirst, HasStopped, AreIn, LineMade, LineRests, WaitEnds, AreMade, AreDone};
+ghost use Rattle.esr_run.specs.Made.{MadeFirst, HasStopped, WasLeft, NoneOpen, LineSpends, AreIn, LineMade, LineRests, WaitEnds, AreMade, AreDone};
 ghost use Rattle.esr_run.specs.Filled.{Fills, LineFills};
+ghost use Rattle.esr_run.specs.Verified.{AreWhole, MayVerify, VerifiesOn};
 ghost use Rattle.esr_run.specs.Stop.{result_of};
 ghost use Rattle.esr_run.specs.Script.{is_askable, is_carried, first_bad};
 
 use crate::command::command_of;
-use crate::law::steps_stay;
-use esr_desk::{Desk, StepRefusal};
+use crate::law::{steps_stay, work_leaves};
+use esr_checking::VerifyDesk;
+use esr_desk::{Desk, StepRefusal, UnitRefusal};
 use esr_drive::{RestoredTarget, RestoredTargets, work};
 use esr_names::SnapName;
 use esr_reading::RestoreDesk;
@@ -39,7 +42,9 @@ fn ask<Q: Desk>(
     requires ops { Tracked Q.start.world }
     ensures made { LineMade Q.start (AskStep (command_of_line name.now indices.now moment) ∷ []) (Q.seen desk.old) (Q.seen desk.new) result }
     ensures rests { Q.start.alone ≡ true → AreIn Q.start (Q.seen desk.old) → LineRests Q.start (Q.seen desk.new) result }
+    ensures spent { Q.start.alone ≡ true → LineSpends (Q.seen desk.new) result }
     ensures none { Q.start.alone ≡ true → RestoresNone (Q.seen desk.old) (Q.seen desk.new) }
+    ensures verified { (workers : ℕ) → Q.start.alone ≡ true → MayVerify Q.start workers (Q.seen desk.old) → VerifiesOn Q.start workers (Q.seen desk.new) result }
 {
     steps_stay();
     let Ok(command) = command_of(alloc, name, indices, moment) else {
@@ -62,7 +67,9 @@ fn restore<Q: RestoreDesk>(
     requires ops { Tracked Q.start.world }
     ensures made { LineMade Q.start (AskStep (Restore name.now place.now) ∷ []) (Q.seen desk.old) (Q.seen desk.new) result }
     ensures rests { Q.start.alone ≡ true → AreIn Q.start (Q.seen desk.old) → LineRests Q.start (Q.seen desk.new) result }
+    ensures spent { Q.start.alone ≡ true → LineSpends (Q.seen desk.new) result }
     ensures none { Q.start.alone ≡ true → RestoresNone (Q.seen desk.old) (Q.seen desk.new) }
+    ensures verified { (workers : ℕ) → Q.start.alone ≡ true → MayVerify Q.start workers (Q.seen desk.old) → VerifiesOn Q.start workers (Q.seen desk.new) result }
 {
     steps_stay();
     if let Err(refusal) = desk.restore(alloc, name, place) {
@@ -77,7 +84,9 @@ fn list<Q: Desk>(alloc: Global, desk: &mut Q) -> Result<(), StepRefusal>
     requires ops { Tracked Q.start.world }
     ensures made { LineMade Q.start (LookStep ∷ []) (Q.seen desk.old) (Q.seen desk.new) result }
     ensures rests { Q.start.alone ≡ true → AreIn Q.start (Q.seen desk.old) → LineRests Q.start (Q.seen desk.new) result }
+    ensures spent { Q.start.alone ≡ true → LineSpends (Q.seen desk.new) result }
     ensures none { Q.start.alone ≡ true → RestoresNone (Q.seen desk.old) (Q.seen desk.new) }
+    ensures verified { (workers : ℕ) → Q.start.alone ≡ true → MayVerify Q.start workers (Q.seen desk.old) → VerifiesOn Q.start workers (Q.seen desk.new) result }
 {
     steps_stay();
     if let Err(refusal) = desk.look(alloc) {
@@ -125,10 +134,15 @@ fn wait<Q: RestoreDesk<Shard = S::Shard, Target = T::Target>, S: Sources, T: Tar
     requires ops { Tracked Q.start.world }
     ensures made { LineMade Q.start [] (Q.seen desk.old) (Q.seen desk.new) result }
     ensures rests { Q.start.alone ≡ true → AreIn Q.start (Q.seen desk.old) → LineRests Q.start (Q.seen desk.new) result }
+    ensures spent { Q.start.alone ≡ true → LineSpends (Q.seen desk.new) result }
     ensures ended { Q.start.alone ≡ true → WaitEnds (Q.seen desk.new) result }
     ensures filled { Q.start.alone ≡ true → LineFills (record { made_for = T.Target.made_for; files = T.Target.files; is_sure = T.Target.is_sure; are_told = T.is_told targets.now; are_quiet = T.is_quiet targets.now })
         Q.start (Q.seen desk.old) (Q.seen desk.new) filled.old.items filled.new.items result }
+    ensures verified { (workers : ℕ) → Q.start.alone ≡ true → MayVerify Q.start workers (Q.seen desk.old) → VerifiesOn Q.start workers (Q.seen desk.new) result }
+    ensures whole { (workers : ℕ) → Q.start.alone ≡ true → AreWhole Q.start workers (Q.seen desk.old) → AreWhole Q.start workers (Q.seen desk.new) }
+    ensures closed { Q.start.alone ≡ true → Legal Q.start (Q.seen desk.old) → NoneOpen Q.start (Q.seen desk.old) → NoneOpen Q.start (Q.seen desk.new) }
 {
+    work_leaves();
     let worked = work(alloc, desk, sources, targets, gate, part_size);
     if keep(filled, worked.restored).is_err() {
         return Err(StepRefusal::Memory);
@@ -136,8 +150,30 @@ fn wait<Q: RestoreDesk<Shard = S::Shard, Target = T::Target>, S: Sources, T: Tar
     answer(worked.stop)
 }
 
+/// Verifies the container. A verification that fails is no reason to stop.
+fn verify<Q: VerifyDesk>(alloc: Global, desk: &mut Q, workers: u32) -> Result<(), StepRefusal>
+    requires alone { Q.start.alone ≡ true }
+    requires numbered { HasNoTickets Q.start }
+    requires ops { Tracked Q.start.world }
+    requires some { 0 < workers }
+    requires few { workers ≤ 64 }
+    requires may { MayVerify Q.start workers (Q.seen desk.old) }
+    ensures made { LineMade Q.start (ReadStep DrawTest ∷ []) (Q.seen desk.old) (Q.seen desk.new) result }
+    ensures rests { AreIn Q.start (Q.seen desk.old) → LineRests Q.start (Q.seen desk.new) result }
+    ensures spent { LineSpends (Q.seen desk.new) result }
+    ensures none { RestoresNone (Q.seen desk.old) (Q.seen desk.new) }
+    ensures verified { VerifiesOn Q.start workers (Q.seen desk.new) result }
+{
+    steps_stay();
+    match esr_verify::verify(alloc, desk, workers) {
+        Ok(()) => Ok(()),
+        Err(UnitRefusal::Failed(_)) => Ok(()),
+        Err(UnitRefusal::Stopped(refusal)) => Err(refusal),
+    }
+}
+
 fn carry_line<
-    Q: RestoreDesk<Shard = S::Shard, Target = T::Target>,
+    Q: RestoreDesk<Shard = S::Shard, Target = T::Target> + VerifyDesk,
     S: Sources,
     T: Targets,
     G: Gate,
@@ -149,10 +185,15 @@ fn carry_line<
     targets: &T,
     gate: &G,
     part_size: u64,
+    workers: u32,
     moment: u64,
     filled: &mut Vec<RestoredTarget<T::Target>>,
 ) -> Result<(), StepRefusal>
     requires carried { is_carried item.now ≡ true }
+    requires alone { Q.start.alone ≡ true }
+    requires some { 0 < workers }
+    requires few { workers ≤ 64 }
+    requires may { MayVerify Q.start workers (Q.seen desk.old) }
     requires sources { AreSources Q.start (S.files sources.now) (S.is_there sources.now) (S.is_quiet sources.now) }
     requires sure { Q.start.sure_targets ≡ T.is_quiet targets.now }
     requires size { part_size ≡ Q.start.part_size }
@@ -162,15 +203,18 @@ fn carry_line<
     requires ops { Tracked Q.start.world }
     ensures made { LineMade Q.start (steps_of_item moment item.now) (Q.seen desk.old) (Q.seen desk.new) result }
     ensures rests { Q.start.alone ≡ true → AreIn Q.start (Q.seen desk.old) → LineRests Q.start (Q.seen desk.new) result }
+    ensures spent { Q.start.alone ≡ true → LineSpends (Q.seen desk.new) result }
     ensures ended { item.now ≡ Wait → Q.start.alone ≡ true → WaitEnds (Q.seen desk.new) result }
     ensures filled { Q.start.alone ≡ true → LineFills (record { made_for = T.Target.made_for; files = T.Target.files; is_sure = T.Target.is_sure; are_told = T.is_told targets.now; are_quiet = T.is_quiet targets.now })
         Q.start (Q.seen desk.old) (Q.seen desk.new) filled.old.items filled.new.items result }
+    ensures verified { VerifiesOn Q.start workers (Q.seen desk.new) result }
 {
     match item {
         Item::Snapshot { name, indices } => ask(alloc, desk, name, indices.as_slice(), moment),
         Item::Restore { name, place } => restore(alloc, desk, name, place),
         Item::Wait => wait(alloc, desk, sources, targets, gate, part_size, filled),
         Item::List => list(alloc, desk),
+        Item::Verify => verify(alloc, desk, workers),
         _ => Ok(()),
     }
 }
@@ -178,7 +222,7 @@ fn carry_line<
 /// Carries out the lines. A refusal that the history tells is no reason to stop; none is carried out once the desk's turns
 /// are spent.
 fn carry_lines<
-    Q: RestoreDesk<Shard = S::Shard, Target = T::Target>,
+    Q: RestoreDesk<Shard = S::Shard, Target = T::Target> + VerifyDesk,
     S: Sources,
     T: Targets,
     G: Gate,
@@ -190,10 +234,15 @@ fn carry_lines<
     targets: &T,
     gate: &G,
     part_size: u64,
+    workers: u32,
     moment: u64,
     filled: &mut Vec<RestoredTarget<T::Target>>,
 ) -> Result<(), AllocError>
     requires carried { first_bad lines.now ≡ None }
+    requires alone { Q.start.alone ≡ true }
+    requires some { 0 < workers }
+    requires few { workers ≤ 64 }
+    requires may { MayVerify Q.start workers (Q.seen desk.old) }
     requires sources { AreSources Q.start (S.files sources.now) (S.is_there sources.now) (S.is_quiet sources.now) }
     requires sure { Q.start.sure_targets ≡ T.is_quiet targets.now }
     requires size { part_size ≡ Q.start.part_size }
@@ -202,14 +251,15 @@ fn carry_lines<
     requires tracked { ReadTracked Q.start.world }
     requires ops { Tracked Q.start.world }
     ensures made { MadeFirst Q.start (steps_of moment lines.now) (Q.seen desk.old) (Q.seen desk.new) }
-    ensures rests { OnOk result (Q.start.alone ≡ true → AreIn Q.start (Q.seen desk.old) → AreMade Q.start moment lines.now (Q.seen desk.old) (Q.seen desk.new) ⊎ HasStopped (Q.seen desk.new)) }
+    ensures rests { OnOk result (Q.start.alone ≡ true → AreIn Q.start (Q.seen desk.old) → AreMade Q.start moment lines.now (Q.seen desk.old) (Q.seen desk.new) ⊎ WasLeft Q.start moment lines.now (Q.seen desk.old) (Q.seen desk.new)) }
     ensures filled { OnOk result (Q.start.alone ≡ true → Fills (record { made_for = T.Target.made_for; files = T.Target.files; is_sure = T.Target.is_sure; are_told = T.is_told targets.now; are_quiet = T.is_quiet targets.now })
         Q.start (Q.seen desk.old) (Q.seen desk.new) filled.old.items filled.new.items) }
+    ensures whole { AreWhole Q.start workers (Q.seen desk.new) }
 {
     let mut left = lines;
     while let [line, rest @ ..] = left {
         match carry_line(
-            alloc, desk, &line.item, sources, targets, gate, part_size, moment, filled,
+            alloc, desk, &line.item, sources, targets, gate, part_size, workers, moment, filled,
         ) {
             Ok(()) => {}
             Err(StepRefusal::Refused(_)) => {}
@@ -242,6 +292,8 @@ fn work_out<Q: RestoreDesk<Shard = S::Shard, Target = T::Target>, S: Sources, T:
     ensures done { OnOk result (Q.start.alone ≡ true → AreIn Q.start (Q.seen desk.old) → IsIdle Q.start (Q.seen desk.new) ⊎ HasStopped (Q.seen desk.new)) }
     ensures filled { OnOk result (Q.start.alone ≡ true → Fills (record { made_for = T.Target.made_for; files = T.Target.files; is_sure = T.Target.is_sure; are_told = T.is_told targets.now; are_quiet = T.is_quiet targets.now })
         Q.start (Q.seen desk.old) (Q.seen desk.new) filled.old.items filled.new.items) }
+    ensures whole { (workers : ℕ) → Q.start.alone ≡ true → AreWhole Q.start workers (Q.seen desk.old) → AreWhole Q.start workers (Q.seen desk.new) }
+    ensures closed { Q.start.alone ≡ true → Legal Q.start (Q.seen desk.old) → NoneOpen Q.start (Q.seen desk.old) → NoneOpen Q.start (Q.seen desk.new) }
 {
     match wait(alloc, desk, sources, targets, gate, part_size, filled) {
         Ok(()) => Ok(()),
@@ -254,7 +306,7 @@ fn work_out<Q: RestoreDesk<Shard = S::Shard, Target = T::Target>, S: Sources, T:
 /// Carries out the lines, and works all units that are ready then. The targets that restores filled are put to those that are
 /// given.
 pub(crate) fn carry<
-    Q: RestoreDesk<Shard = S::Shard, Target = T::Target>,
+    Q: RestoreDesk<Shard = S::Shard, Target = T::Target> + VerifyDesk,
     S: Sources,
     T: Targets,
     G: Gate,
@@ -266,10 +318,15 @@ pub(crate) fn carry<
     targets: &T,
     gate: &G,
     part_size: u64,
+    workers: u32,
     moment: u64,
     filled: &mut Vec<RestoredTarget<T::Target>>,
 ) -> Result<(), AllocError>
     requires carried { first_bad lines.now ≡ None }
+    requires alone { Q.start.alone ≡ true }
+    requires some { 0 < workers }
+    requires few { workers ≤ 64 }
+    requires may { MayVerify Q.start workers (Q.seen desk.old) }
     requires sources { AreSources Q.start (S.files sources.now) (S.is_there sources.now) (S.is_quiet sources.now) }
     requires sure { Q.start.sure_targets ≡ T.is_quiet targets.now }
     requires size { part_size ≡ Q.start.part_size }
@@ -278,12 +335,13 @@ pub(crate) fn carry<
     requires tracked { ReadTracked Q.start.world }
     requires ops { Tracked Q.start.world }
     ensures made { MadeFirst Q.start (steps_of moment lines.now) (Q.seen desk.old) (Q.seen desk.new) }
-    ensures done { OnOk result (Q.start.alone ≡ true → AreIn Q.start (Q.seen desk.old) → AreDone Q.start moment lines.now (Q.seen desk.old) (Q.seen desk.new) ⊎ HasStopped (Q.seen desk.new)) }
+    ensures done { OnOk result (Q.start.alone ≡ true → AreIn Q.start (Q.seen desk.old) → AreDone Q.start moment lines.now (Q.seen desk.old) (Q.seen desk.new) ⊎ WasLeft Q.start moment lines.now (Q.seen desk.old) (Q.seen desk.new)) }
     ensures filled { OnOk result (Q.start.alone ≡ true → Fills (record { made_for = T.Target.made_for; files = T.Target.files; is_sure = T.Target.is_sure; are_told = T.is_told targets.now; are_quiet = T.is_quiet targets.now })
         Q.start (Q.seen desk.old) (Q.seen desk.new) filled.old.items filled.new.items) }
+    ensures whole { AreWhole Q.start workers (Q.seen desk.new) }
 {
     match carry_lines(
-        alloc, desk, lines, sources, targets, gate, part_size, moment, filled,
+        alloc, desk, lines, sources, targets, gate, part_size, workers, moment, filled,
     ) {
         Ok(()) => work_out(alloc, desk, sources, targets, gate, part_size, filled),
         Err(AllocError) => Err(AllocError),

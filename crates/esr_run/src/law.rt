@@ -2,7 +2,7 @@
 ghost use Rattle.std.specs.Prelude.{◌≡◌, Some};
 ghost use Rattle.esr_depot.specs.Image.{Image};
 ghost use Rattle.esr_depot.specs.Look.{now};
-ghost use Rattle.esr_run.specs.Laws.{Laws, StepsStay, QuietLaws};
+ghost use Rattle.esr_run.specs.Laws.{Laws, StepsStay, WorkLeaves, Refusals, QuietLaws};
 
 use esr_depot::Depot;
 
@@ -26,6 +26,22 @@ pub(crate) fn steps_stay()
     esr_quiet::tickets_are_numbered();
     esr_core::each_history_is_tracked();
     esr_readers::lines_leave_readers();
+}
+
+/// What the work of units leaves of verifications.
+pub(crate) fn work_leaves()
+    ensures { WorkLeaves }
+{
+    esr_quiet::work_leaves_the_caller();
+}
+
+/// Why steps may be refused, and that only a record swap that failed deposes.
+pub(crate) fn refusals()
+    ensures { Refusals }
+{
+    esr_core::refusals_are_of_their_steps();
+    esr_core::only_failed_swaps_depose();
+    esr_quiet::no_step_is_stale();
 }
 
 /// The laws of histories in which nothing fails, for the objects of a run.

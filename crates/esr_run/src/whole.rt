@@ -1,5 +1,5 @@
 //! A whole run.
-ghost use Rattle.std.specs.Prelude.{◌≡◌, ◌⊎◌, ◌<◌, ◌≤◌, ◌^◌, ℕ, true, [], Some, None, OnOk, IfOk, IsErr, vec_len, vec_capacity};
+ghost use Rattle.std.specs.Prelude.{◌≡◌, ◌⊎◌, ◌<◌, ◌≤◌, ◌^◌, ℕ, true, false, [], Some, None, OnOk, IfOk, IsErr, vec_len, vec_capacity};
 ghost use Rattle.esr_model.specs.Places.{sorted_by};
 ghost use Rattle.esr_drive.specs.Restored.{Telling, AreTargetsOf};
 ghost use Rattle.esr_targets.specs.Lines.{AreNumbered, ops_of_lines};
@@ -26,13 +26,15 @@ ghost use Rattle.esr_run.specs.Ends.{Carried};
 ghost use Rattle.esr_run.specs.Script.{first_bad};
 ghost use Rattle.esr_run.specs.Start.{LegalRun};
 ghost use Rattle.esr_run.specs.Causes.{Given, IsReadFor, IsTold, IsVerdict, IsUnopened, IsOpenedRun, IsOpenCause, IsRunOf, IsCauseOf, IsEndOf, OpensWell, IsComplete};
-ghost use Rattle.esr_run.specs.Made.{MadeFirst, HasStopped, HasNoReaders, AreDone};
+ghost use Rattle.esr_core.specs.World.{no_caller};
+ghost use Rattle.esr_run.specs.Verified.{AreWhole};
+ghost use Rattle.esr_run.specs.Made.{MadeFirst, HasFallen, HasNoReaders, AreDone};
 
 use crate::asked::{Asked, asked_for};
 use crate::carry::carry;
 use crate::ended::Ended;
 use crate::fault::{faults_of, room_for_one};
-use crate::law::{laws, only_now, quiet_laws};
+use crate::law::{laws, only_now, quiet_laws, refusals};
 use crate::stop::Stop;
 use crate::unopened::{ended_at, stop_of};
 use crate::verdict::{Verdict, print_verdict, reported, wanting};
@@ -131,14 +133,19 @@ fn carry_on<D: Depot, S: Sources, T: Targets, G: Gate, K: Told>(
     requires tracked { ReadTracked K.start.world }
     requires ops { Tracked K.start.world }
     requires alone { K.start.alone ≡ true }
+    requires workers { (1 ≤ asked.now.workers) × (asked.now.workers ≤ 64) }
+    requires nobody { K.start.world.caller ≡ no_caller }
+    requires alive { K.start.world.deposed ≡ false }
     ensures shown { AreShown (record { stage = D.Stage.faults; fetch = D.Fetch.faults; shard = S.Shard.faults; target = T.Target.faults; made_for = λ h. (S.Shard.origin h).address; target_for = T.Target.made_for; held = T.Target.files; is_sure = T.Target.is_sure }) K.start result.repo result.faults }
     ensures once { AreOnce K.start result.repo }
     ensures single { NoneTwice result.repo }
     ensures made { MadeFirst K.start (steps_of moment asked.now.script) [] result.repo }
-    ensures done { OnOk result.filled (AreDone K.start moment asked.now.script [] result.repo ⊎ HasStopped result.repo) }
+    ensures done { OnOk result.filled (AreDone K.start moment asked.now.script [] result.repo ⊎ HasFallen K.start moment asked.now.script [] result.repo) }
+    ensures whole { AreWhole K.start asked.now.workers result.repo }
     ensures filled { IfOk result.filled (AreTargetsOf (record { made_for = T.Target.made_for; files = T.Target.files; is_sure = T.Target.is_sure; are_told = T.is_told targets.now; are_quiet = T.is_quiet targets.now })
         K.start [] result.repo) }
 {
+    refusals();
     let mut desk = Solo::<D, K, S::Shard, T::Target>::new(alloc, repo);
     let mut filled = Vec::new(alloc);
     let lines = asked.script.as_slice();
@@ -150,6 +157,7 @@ fn carry_on<D: Depot, S: Sources, T: Targets, G: Gate, K: Told>(
         targets,
         gate,
         asked.part_size,
+        asked.workers,
         moment,
         &mut filled,
     );
@@ -186,6 +194,7 @@ fn run_told<D: Depot, S: Sources, T: Targets, G: Gate, K: Told>(
     requires sized { (1 ≤ asked.now.part_size) × (asked.now.part_size ≤ 2 ^ 30) }
     requires good { first_bad asked.now.script ≡ None }
     requires lines { AreNumbered asked.now.script }
+    requires workers { (1 ≤ asked.now.workers) × (asked.now.workers ≤ 64) }
     ensures legal { LegalRun K.start K.clock (D.look result.0.depot) result.0.history }
     ensures past { IsPast K.start K.clock K.past (D.look result.0.depot) result.0.history }
     ensures shown { AreShown (record { stage = D.Stage.faults; fetch = D.Fetch.faults; shard = S.Shard.faults; target = T.Target.faults; made_for = λ h. (S.Shard.origin h).address; target_for = T.Target.made_for; held = T.Target.files; is_sure = T.Target.is_sure })
@@ -196,7 +205,8 @@ fn run_told<D: Depot, S: Sources, T: Targets, G: Gate, K: Told>(
     ensures single { NoneTwice (log_of (D.look result.0.depot) K.clock result.0.history) }
     ensures calm { IsCalm K.start.quiet (D.look result.0.depot).sure result.0.history }
     ensures made { MadeFirst K.start (steps_of moment asked.now.script) [] (log_of (D.look result.0.depot) K.clock result.0.history) }
-    ensures done { (result.0.verdict.status ≡ 8) ⊎ (AreDone K.start moment asked.now.script [] (log_of (D.look result.0.depot) K.clock result.0.history) ⊎ HasStopped (log_of (D.look result.0.depot) K.clock result.0.history)) }
+    ensures done { (result.0.verdict.status ≡ 8) ⊎ (AreDone K.start moment asked.now.script [] (log_of (D.look result.0.depot) K.clock result.0.history) ⊎ HasFallen K.start moment asked.now.script [] (log_of (D.look result.0.depot) K.clock result.0.history)) }
+    ensures verified { AreWhole K.start asked.now.workers (log_of (D.look result.0.depot) K.clock result.0.history) }
     ensures told { IsTold result.0.verdict.status result.0.verdict.text (Some (Carried asked.now.script result.0.history)) }
     ensures restored { (result.0.verdict.status ≡ 8) ⊎ AreTargetsOfLines (record { made_for = T.Target.made_for; files = T.Target.files; is_sure = T.Target.is_sure; are_told = T.is_told targets.now; are_quiet = T.is_quiet targets.now })
         K.start moment asked.now.script (log_of (D.look result.0.depot) K.clock result.0.history) result.0.targets }
@@ -240,14 +250,15 @@ fn open_and_carry<D: Depot, S: Sources, T: Targets, G: Gate>(
     requires sized { (1 ≤ asked.now.part_size) × (asked.now.part_size ≤ 2 ^ 30) }
     requires good { first_bad asked.now.script ≡ None }
     requires lines { AreNumbered asked.now.script }
+    requires workers { (1 ≤ asked.now.workers) × (asked.now.workers ≤ 64) }
     ensures run { IsUnopened (record { stage = D.Stage.faults; fetch = D.Fetch.faults; shard = S.Shard.faults; target = T.Target.faults; made_for = λ h. (S.Shard.origin h).address; target_for = T.Target.made_for; held = T.Target.files; is_sure = T.Target.is_sure }) (record { files = S.files sources.now; is_there = S.is_there sources.now; is_quiet = S.is_quiet sources.now; targets_quiet = T.is_quiet targets.now; targets_told = T.is_told targets.now }) (D.look depot) (D.look result.0.depot) (D.faults depot) (D.faults result.0.depot) result.0.history result.1
-        ⊎ IsOpenedRun (record { stage = D.Stage.faults; fetch = D.Fetch.faults; shard = S.Shard.faults; target = T.Target.faults; made_for = λ h. (S.Shard.origin h).address; target_for = T.Target.made_for; held = T.Target.files; is_sure = T.Target.is_sure }) (record { files = S.files sources.now; is_there = S.is_there sources.now; is_quiet = S.is_quiet sources.now; targets_quiet = T.is_quiet targets.now; targets_told = T.is_told targets.now }) asked.now.part_size moment asked.now.script (D.look depot) (D.look result.0.depot) result.0.history result.1 }
-    ensures complete { OpensWell (record { stage = D.Stage.faults; fetch = D.Fetch.faults; shard = S.Shard.faults; target = T.Target.faults; made_for = λ h. (S.Shard.origin h).address; target_for = T.Target.made_for; held = T.Target.files; is_sure = T.Target.is_sure }) (record { files = S.files sources.now; is_there = S.is_there sources.now; is_quiet = S.is_quiet sources.now; targets_quiet = T.is_quiet targets.now; targets_told = T.is_told targets.now }) asked.now.part_size moment asked.now.script (D.look depot) (D.look result.0.depot) result.0.history result.1 result.0.verdict.status }
+        ⊎ IsOpenedRun (record { stage = D.Stage.faults; fetch = D.Fetch.faults; shard = S.Shard.faults; target = T.Target.faults; made_for = λ h. (S.Shard.origin h).address; target_for = T.Target.made_for; held = T.Target.files; is_sure = T.Target.is_sure }) (record { files = S.files sources.now; is_there = S.is_there sources.now; is_quiet = S.is_quiet sources.now; targets_quiet = T.is_quiet targets.now; targets_told = T.is_told targets.now }) asked.now.part_size asked.now.workers moment asked.now.script (D.look depot) (D.look result.0.depot) result.0.history result.1 }
+    ensures complete { OpensWell (record { stage = D.Stage.faults; fetch = D.Fetch.faults; shard = S.Shard.faults; target = T.Target.faults; made_for = λ h. (S.Shard.origin h).address; target_for = T.Target.made_for; held = T.Target.files; is_sure = T.Target.is_sure }) (record { files = S.files sources.now; is_there = S.is_there sources.now; is_quiet = S.is_quiet sources.now; targets_quiet = T.is_quiet targets.now; targets_told = T.is_told targets.now }) asked.now.part_size asked.now.workers moment asked.now.script (D.look depot) (D.look result.0.depot) result.0.history result.1 result.0.verdict.status }
     ensures told { IsVerdict result.0.verdict.status result.0.verdict.text
-        (IsOpenCause (record { stage = D.Stage.faults; fetch = D.Fetch.faults; shard = S.Shard.faults; target = T.Target.faults; made_for = λ h. (S.Shard.origin h).address; target_for = T.Target.made_for; held = T.Target.files; is_sure = T.Target.is_sure }) (record { files = S.files sources.now; is_there = S.is_there sources.now; is_quiet = S.is_quiet sources.now; targets_quiet = T.is_quiet targets.now; targets_told = T.is_told targets.now }) asked.now.part_size moment (D.look depot) (D.look result.0.depot) (D.faults depot) (D.faults result.0.depot) asked.now.script result.0.history result.1) }
+        (IsOpenCause (record { stage = D.Stage.faults; fetch = D.Fetch.faults; shard = S.Shard.faults; target = T.Target.faults; made_for = λ h. (S.Shard.origin h).address; target_for = T.Target.made_for; held = T.Target.files; is_sure = T.Target.is_sure }) (record { files = S.files sources.now; is_there = S.is_there sources.now; is_quiet = S.is_quiet sources.now; targets_quiet = T.is_quiet targets.now; targets_told = T.is_told targets.now }) asked.now.part_size asked.now.workers moment (D.look depot) (D.look result.0.depot) (D.faults depot) (D.faults result.0.depot) asked.now.script result.0.history result.1) }
     ensures counted { IsCounted (D.faults depot) (D.faults result.0.depot) result.0.history }
     ensures named { AreDeposedSo result.0.history }
-    ensures restored { OpensRestored (record { stage = D.Stage.faults; fetch = D.Fetch.faults; shard = S.Shard.faults; target = T.Target.faults; made_for = λ h. (S.Shard.origin h).address; target_for = T.Target.made_for; held = T.Target.files; is_sure = T.Target.is_sure }) (record { files = S.files sources.now; is_there = S.is_there sources.now; is_quiet = S.is_quiet sources.now; targets_quiet = T.is_quiet targets.now; targets_told = T.is_told targets.now }) asked.now.part_size moment asked.now.script (D.look depot) (D.look result.0.depot) result.0.history result.1 result.0.targets result.0.verdict.status }
+    ensures restored { OpensRestored (record { stage = D.Stage.faults; fetch = D.Fetch.faults; shard = S.Shard.faults; target = T.Target.faults; made_for = λ h. (S.Shard.origin h).address; target_for = T.Target.made_for; held = T.Target.files; is_sure = T.Target.is_sure }) (record { files = S.files sources.now; is_there = S.is_there sources.now; is_quiet = S.is_quiet sources.now; targets_quiet = T.is_quiet targets.now; targets_told = T.is_told targets.now }) asked.now.part_size asked.now.workers moment asked.now.script (D.look depot) (D.look result.0.depot) result.0.history result.1 result.0.targets result.0.verdict.status }
 {
     laws();
     quiet_laws::<D::Stage, D::Fetch, S::Shard, T::Target>();

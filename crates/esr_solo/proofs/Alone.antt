@@ -1,8 +1,9 @@
 -- A step of a verification is that of the repository.
-use Rattle.std.proofs.Common.{◌≡◌, ◌≢◌, ◌≤◌, ℕ, ◌+◌, ◌-◌, List, [], ◌∷◌, ◌++◌, length, Result, Ok, Err, refl, sym, ap, ◌∙◌, subst, ⊎_elim, arith}
-use Rattle.esr_core.specs.Entry.{Why, Read, ReadStep, FailedStep, CommitStep, Reply, Refused, Moment}
+use Rattle.std.proofs.Common.{◌≡◌, ◌≢◌, ◌≤◌, ℕ, ◌+◌, ◌-◌, List, [], ◌∷◌, ◌++◌, length, Result, Ok, Err, refl, sym, ap, ◌∙◌, subst, append-nil, ⊎_elim, arith}
+use Rattle.esr_core.specs.Entry.{Why, Read, ReadFails, ReadStep, CommitStep, HasEnded, Reply, Refused, Moment}
 use Rattle.esr_model.specs.Names.{BlobName}
 use Rattle.esr_desk.specs.declared.fault.Fault.{Fault}
+use Rattle.esr_desk.specs.declared.fault.By.{By}
 use Rattle.esr_desk.specs.declared.refusal.StepRefusal.{StepRefusal}
 use Rattle.esr_desk.specs.declared.refusal.StepRefusal.TheVariants as steps
 use Rattle.esr_desk.specs.Refusals.{refusal_of}
@@ -11,40 +12,20 @@ use Rattle.esr_desk.specs.Once.{AreOnce, NoneTwice}
 use Rattle.esr_desk.specs.Numbered.{Numbered}
 use Rattle.esr_desk.specs.Shown.{Counts}
 use Rattle.esr_reading.specs.Shown as reading
-use Rattle.esr_reading.specs.AllShown.{AreAllShown}
+use Rattle.esr_checking.specs.Caller.{caller_of}
+use Rattle.esr_checking.specs.Shown as checking
+use Rattle.esr_checking.specs.AllShown.{AreAllShown}
 use Rattle.esr_repo.specs.Next.{Did}
 use Rattle.esr_solo.specs.Turns.{turns_of}
-use Rattle.esr_solo.proofs.Showing.{AreRestoresShown, IsOfNoUnit, last_or, units_go_on, longer_either}
+use Rattle.esr_solo.specs.Kept.{listed_at, kept_by}
+use Rattle.esr_solo.proofs.Showing.{IsNoReportOf, last_or, did, added_or, verify_reports}
 use Rattle.esr_solo.proofs.Committing.{IsNew, once_did}
-use Rattle.esr_solo.proofs.Stepping.{grown, at_most_one, counted}
+use Rattle.esr_solo.proofs.Stepping.{grown, at_most_one, counted, place_is}
 
 -- ---- one more entry of who 0
 
 no_ticket : (who : ℕ) → 0 ≡ who → 1 ≤ who → ⊥
 no_ticket who is some = omega (arith, is, some)
-
--- it is no report of a restore
-restores_alone : {S F H T : Type 0} (c : reading.Counts F T) (s : Start) (log : List Moment) (m : Moment) (faults : List (Fault S F H T)) → 0 ≡ m.entry.who → AreRestoresShown c s log faults → AreRestoresShown c s (log ++ m ∷ []) faults
-restores_alone c s log m faults alone h place who why r =
-    ⊎_elim
-    (λ d. absurd (no_ticket who (alone ∙ ap (λ (x : Moment). x.entry.who) d.1 ∙ r.of) r.ticket))
-    (λ d. h place who why (record { front = r.front; moment = r.moment; back = d.0; is = d.1; place_is = r.place_is; ticket = r.ticket; of = r.of; step = r.step; reply = r.reply }))
-    (last_or log m r.front r.moment r.back r.is)
-
--- nor of a unit
-no_unit : (m : Moment) (read : Read) → m.entry.step ≡ ReadStep read → IsOfNoUnit m
-no_unit m read is why step reply = absurd (never why (sym is ∙ step))
-  where
-    never : (w : Why) → ReadStep read ≡ FailedStep w → ⊥
-    never w e = cc
-
-shown_alone : {S F H T : Type 0} {r : reading.Counts F T} (c : Counts S F H T) (s : Start) (log : List Moment) (m : Moment) (read : Read) (faults : List (Fault S F H T)) → 0 ≡ m.entry.who → m.entry.step ≡ ReadStep read → AreAllShown c r s log faults → AreAllShown c r s (log ++ m ∷ []) faults
-shown_alone {r = r} c s log m read faults alone is h =
-    record {
-      units = units_go_on c s log m faults faults (λ place b listed. listed) (no_unit m read is) h.units;
-      restores = restores_alone r s log m faults alone h.restores;
-      listed = λ fault there. let (place, who, why, e, report) = h.listed fault there in (place, who, why, e, longer_either log m place who why report);
-    }
 
 -- tickets alone make no step twice
 single_alone : (log : List Moment) (m : Moment) → 0 ≡ m.entry.who → NoneTwice log → NoneTwice (log ++ m ∷ [])
@@ -69,14 +50,40 @@ no_commit s log read name is no_metadata noted = absurd (never name is)
     never : (n : BlobName) → ReadStep read ≡ CommitStep n → ⊥
     never n e = cc
 
--- the desk's invariant after it
-pub keeps_alone : {X S F H T : Type 0} {r : reading.Counts F T} (c : Counts S F H T) (s : Start) (own new : List Moment) (read : Read) (ok : X → Reply) (result : Result X StepRefusal) (faults : List (Fault S F H T)) (left took all : ℕ)
-    → (length own + left ≡ all) × AreAllShown c r s own faults × AreOnce s own × NoneTwice own × Numbered 1 s.world → left ≢ 0 → took ≡ turns_of result → Did s own new 0 (ReadStep read) ok result
-    → (length new + (left - took) ≡ all) × AreAllShown c r s new faults × AreOnce s new × NoneTwice new × Numbered 1 s.world
-keeps_alone {X} {S} {F} {H} {T} {r} c s own new read ok result faults left took all h some turns d = (
+-- the desk's invariant after one that is no report of a failure
+pub keeps_alone : {X S F H T : Type 0} {r : reading.Counts F T} {v : checking.Counts S F} (c : Counts S F H T) (s : Start) (own new : List Moment) (read : Read) (ok : X → Reply) (result : Result X StepRefusal) (faults : List (Fault S F H T)) (left took all : ℕ)
+    → (length own + left ≡ all) × AreAllShown c r v s own faults × AreOnce s own × NoneTwice own × Numbered 1 s.world → left ≢ 0 → took ≡ turns_of result → ((x : X) → IsNoReportOf (ReadStep read) (ok x)) → Did s own new 0 (ReadStep read) ok result
+    → (length new + (left - took) ≡ all) × AreAllShown c r v s new faults × AreOnce s new × NoneTwice new × Numbered 1 s.world
+keeps_alone c s own new read ok result faults left took all h some turns none d = (
   counted (length own) (length new) left took all some (subst (λ (n : ℕ). n ≤ 1) (sym turns) (at_most_one result)) h.0 (grown s own new 0 (ReadStep read) ok result d ∙ ap (λ (n : ℕ). length own + n) (sym turns)),
-  did_alone (λ (l : List Moment). AreAllShown {S = S} {F = F} {H = H} {T = T} c r s l faults) s own new read ok result (λ m alone is. shown_alone c s own m read faults alone is h.1) d h.1,
+  did c s own new 0 (ReadStep read) ok result faults none d h.1,
   once_did s own new 0 (ReadStep read) ok result (no_commit s own read) d h.2,
   did_alone NoneTwice s own new read ok result (λ m alone is. single_alone own m alone h.3) d h.3,
   h.4,
 )
+
+-- ---- the report that a verification failed
+
+-- by its answer
+shown_by : {S F H T : Type 0} {u : Counts S F H T} {r : reading.Counts F T} (c : checking.Counts S F) (s : Start) (own new : List Moment) (why : Why) (result : Result Unit StepRefusal) (faults : List (Fault S F H T)) (b : By S F H T)
+    → AreAllShown u r c s own faults → checking.IsShown c s own (caller_of s own) why b → Did s own new 0 (ReadStep (ReadFails why)) (λ _. HasEnded) result → AreAllShown u r c s new (faults ++ kept_by (length own) b result)
+shown_by {S} {F} {H} {T} {u} {r} c s own new why (Ok x) faults b h shown d =
+    subst (λ (l : List Moment). AreAllShown {S = S} {F = F} {H = H} {T = T} u r c s l (faults ++ listed_at (length own) b)) (sym d.is)
+    (verify_reports c s own (record { entry = record { who = 0; step = ReadStep (ReadFails why); reply = HasEnded }; image = d.image }) faults why b refl refl refl shown h)
+shown_by {S} {F} {H} {T} {u} {r} c s own new why (Err e) faults b h shown d =
+    subst (λ (l : List (Fault S F H T)). AreAllShown {S = S} {F = F} {H = H} {T = T} u r c s new l) (sym (append-nil faults)) (added_or u s own new 0 (ReadStep (ReadFails why)) e faults d h)
+
+-- the desk's invariant after it
+pub keeps_verify_report : {S F H T : Type 0} {u : Counts S F H T} {r : reading.Counts F T} (c : checking.Counts S F) (s : Start) (own log new : List Moment) (why : Why) (result : Result Unit StepRefusal) (faults roomy after : List (Fault S F H T)) (left took all : ℕ) (b : By S F H T)
+    → (length own + left ≡ all) × AreAllShown u r c s own faults × AreOnce s own × NoneTwice own × Numbered 1 s.world → left ≢ 0 → took ≡ turns_of result → own ≡ log → checking.IsShown c s log (caller_of s log) why b → roomy ≡ faults → after ≡ roomy ++ kept_by (all - left) b result → Did s own new 0 (ReadStep (ReadFails why)) (λ _. HasEnded) result
+    → (length new + (left - took) ≡ all) × AreAllShown u r c s new after × AreOnce s new × NoneTwice new × Numbered 1 s.world
+keeps_verify_report {S} {F} {H} {T} {u} {r} c s own log new why result faults roomy after left took all b h some turns view shown same is d =
+    let n : all - left ≡ length own = place_is (length own) left all (all - left) h.0 refl in
+    let e : after ≡ faults ++ kept_by (length own) b result = is ∙ ap (λ (l : List (Fault S F H T)). l ++ kept_by (all - left) b result) same ∙ ap (λ (k : ℕ). faults ++ kept_by k b result) n in (
+      counted (length own) (length new) left took all some (subst (λ (k : ℕ). k ≤ 1) (sym turns) (at_most_one result)) h.0 (grown s own new 0 (ReadStep (ReadFails why)) (λ _. HasEnded) result d ∙ ap (λ (k : ℕ). length own + k) (sym turns)),
+      subst (λ (l : List (Fault S F H T)). AreAllShown {S = S} {F = F} {H = H} {T = T} u r c s new l) (sym e)
+          (shown_by c s own new why result faults b h.1 (subst (λ (l : List Moment). checking.IsShown {S = S} {F = F} {H = H} {T = T} c s l (caller_of s l) why b) (sym view) shown) d),
+      once_did s own new 0 (ReadStep (ReadFails why)) (λ _. HasEnded) result (no_commit s own (ReadFails why)) d h.2,
+      did_alone NoneTwice s own new (ReadFails why) (λ _. HasEnded) result (λ m alone is. single_alone own m alone h.3) d h.3,
+      h.4,
+    )

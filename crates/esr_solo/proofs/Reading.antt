@@ -15,7 +15,8 @@ use Rattle.esr_desk.specs.Numbered.{Numbered}
 use Rattle.esr_desk.specs.Shown as desk
 use Rattle.esr_reading.specs.Outcome.{Waited, Stepped, Outcome}
 use Rattle.esr_reading.specs.Shown.{Counts, IsShown}
-use Rattle.esr_reading.specs.AllShown.{AreAllShown}
+use Rattle.esr_checking.specs.Shown as checking
+use Rattle.esr_checking.specs.AllShown.{AreAllShown}
 use Rattle.esr_repo.specs.Next.{Added, Did}
 use Rattle.esr_repo.specs.Grown.{added_reader}
 use Rattle.esr_solo.specs.Turns.{turns_of}
@@ -68,13 +69,13 @@ from_one s own log new who why (Err e) view out d left = tt
 -- ---- the invariant
 
 -- the report of a failure whose cause is shown, by its answer
-shown_by : {S F H T : Type 0} {u : desk.Counts S F H T} (c : Counts F T) (s : Start) (own new : List Moment) (who : ℕ) (why : Why) (result : Result Unit StepRefusal) (faults : List (Fault S F H T)) (b : By S F H T)
-    → OnOk result (1 ≤ who) → AreAllShown u c s own faults → IsShown c s own who why b → Did s own new who (ReadStep (ReadFails why)) (λ _. HasEnded) result → AreAllShown u c s new (faults ++ kept_by (length own) b result)
-shown_by {S} {F} {H} {T} {u} c s own new who why (Ok x) faults b ticket h shown d =
-    subst (λ (l : List Moment). AreAllShown {S = S} {F = F} {H = H} {T = T} u c s l (faults ++ listed_at (length own) b)) (sym d.is)
+shown_by : {S F H T : Type 0} {u : desk.Counts S F H T} {v : checking.Counts S F} (c : Counts F T) (s : Start) (own new : List Moment) (who : ℕ) (why : Why) (result : Result Unit StepRefusal) (faults : List (Fault S F H T)) (b : By S F H T)
+    → OnOk result (1 ≤ who) → AreAllShown u c v s own faults → IsShown c s own who why b → Did s own new who (ReadStep (ReadFails why)) (λ _. HasEnded) result → AreAllShown u c v s new (faults ++ kept_by (length own) b result)
+shown_by {S} {F} {H} {T} {u} {v} c s own new who why (Ok x) faults b ticket h shown d =
+    subst (λ (l : List Moment). AreAllShown {S = S} {F = F} {H = H} {T = T} u c v s l (faults ++ listed_at (length own) b)) (sym d.is)
     (read_reports c s own (record { entry = record { who = who; step = ReadStep (ReadFails why); reply = HasEnded }; image = d.image }) faults why b ticket refl refl shown h)
-shown_by {S} {F} {H} {T} {u} c s own new who why (Err e) faults b ticket h shown d =
-    subst (λ (l : List (Fault S F H T)). AreAllShown {S = S} {F = F} {H = H} {T = T} u c s new l) (sym (append-nil faults)) (added_or u s own new who (ReadStep (ReadFails why)) e faults d h)
+shown_by {S} {F} {H} {T} {u} {v} c s own new who why (Err e) faults b ticket h shown d =
+    subst (λ (l : List (Fault S F H T)). AreAllShown {S = S} {F = F} {H = H} {T = T} u c v s new l) (sym (append-nil faults)) (added_or u s own new who (ReadStep (ReadFails why)) e faults d h)
 
 -- a report commits nothing
 no_commit : (s : Start) (log : List Moment) (who : ℕ) (why : Why) → IsNew s log who (ReadStep (ReadFails why))
@@ -84,14 +85,14 @@ no_commit s log who why name is no_metadata noted = absurd (never why name is)
     never w n e = cc
 
 -- the desk's invariant after the report of a restore
-pub keeps_read_report : {S F H T : Type 0} {u : desk.Counts S F H T} (c : Counts F T) (s : Start) (own log new : List Moment) (who : ℕ) (why : Why) (result : Result Unit StepRefusal) (faults roomy after : List (Fault S F H T)) (left took all : ℕ) (b : By S F H T)
-    → (length own + left ≡ all) × AreAllShown u c s own faults × AreOnce s own × NoneTwice own × Numbered 1 s.world → left ≢ 0 → took ≡ turns_of result → own ≡ log → OnOk result (1 ≤ who) → IsShown c s log who why b → roomy ≡ faults → after ≡ roomy ++ kept_by (all - left) b result → Did s own new who (ReadStep (ReadFails why)) (λ _. HasEnded) result
-    → (length new + (left - took) ≡ all) × AreAllShown u c s new after × AreOnce s new × NoneTwice new × Numbered 1 s.world
-keeps_read_report {S} {F} {H} {T} {u} c s own log new who why result faults roomy after left took all b h some turns view ticket shown same is d =
+pub keeps_read_report : {S F H T : Type 0} {u : desk.Counts S F H T} {v : checking.Counts S F} (c : Counts F T) (s : Start) (own log new : List Moment) (who : ℕ) (why : Why) (result : Result Unit StepRefusal) (faults roomy after : List (Fault S F H T)) (left took all : ℕ) (b : By S F H T)
+    → (length own + left ≡ all) × AreAllShown u c v s own faults × AreOnce s own × NoneTwice own × Numbered 1 s.world → left ≢ 0 → took ≡ turns_of result → own ≡ log → OnOk result (1 ≤ who) → IsShown c s log who why b → roomy ≡ faults → after ≡ roomy ++ kept_by (all - left) b result → Did s own new who (ReadStep (ReadFails why)) (λ _. HasEnded) result
+    → (length new + (left - took) ≡ all) × AreAllShown u c v s new after × AreOnce s new × NoneTwice new × Numbered 1 s.world
+keeps_read_report {S} {F} {H} {T} {u} {v} c s own log new who why result faults roomy after left took all b h some turns view ticket shown same is d =
     let n : all - left ≡ length own = place_is (length own) left all (all - left) h.0 refl in
     let e : after ≡ faults ++ kept_by (length own) b result = is ∙ ap (λ (l : List (Fault S F H T)). l ++ kept_by (all - left) b result) same ∙ ap (λ (k : ℕ). faults ++ kept_by k b result) n in (
       counted (length own) (length new) left took all some (subst (λ (k : ℕ). k ≤ 1) (sym turns) (at_most_one result)) h.0 (grown s own new who (ReadStep (ReadFails why)) (λ _. HasEnded) result d ∙ ap (λ (k : ℕ). length own + k) (sym turns)),
-      subst (λ (l : List (Fault S F H T)). AreAllShown {S = S} {F = F} {H = H} {T = T} u c s new l) (sym e)
+      subst (λ (l : List (Fault S F H T)). AreAllShown {S = S} {F = F} {H = H} {T = T} u c v s new l) (sym e)
           (shown_by c s own new who why result faults b ticket h.1 (subst (λ (l : List Moment). IsShown {S = S} {F = F} {H = H} {T = T} c s l who why b) (sym view) shown) d),
       once_did s own new who (ReadStep (ReadFails why)) (λ _. HasEnded) result (no_commit s own who why) d h.2,
       single_did s own new who (ReadStep (ReadFails why)) (λ _. HasEnded) result (λ single. absurd single) d h.3,

@@ -14,7 +14,8 @@ use Rattle.esr_desk.specs.Once.{AreOnce, NoneTwice}
 use Rattle.esr_desk.specs.Numbered.{Numbered}
 use Rattle.esr_desk.specs.Shown.{Counts, IsShown}
 use Rattle.esr_reading.specs.Shown as reading
-use Rattle.esr_reading.specs.AllShown.{AreAllShown}
+use Rattle.esr_checking.specs.Shown as checking
+use Rattle.esr_checking.specs.AllShown.{AreAllShown}
 use Rattle.esr_repo.specs.Next.{Added, Did}
 use Rattle.esr_solo.specs.Turns.{turns_of}
 use Rattle.esr_solo.specs.Kept.{listed_at, kept_by}
@@ -93,9 +94,9 @@ pub counted : (n k left took all : ℕ) → left ≢ 0 → took ≤ 1 → n + le
 counted n k left took all some few e d = omega (arith, some, few, e, d)
 
 -- the desk's invariant after a step that is no report of a failure
-pub keeps : {X S F H T : Type 0} {r : reading.Counts F T} (c : Counts S F H T) (s : Start) (own new : List Moment) (who : ℕ) (step : Step) (ok : X → Reply) (result : Result X StepRefusal) (faults : List (Fault S F H T)) (left took all : ℕ)
-    → (length own + left ≡ all) × AreAllShown c r s own faults × AreOnce s own × NoneTwice own × Numbered 1 s.world → left ≢ 0 → took ≡ turns_of result → ((x : X) → IsNoReportOf step (ok x)) → IsNew s own who step → IsNewIf own who step → Did s own new who step ok result
-    → (length new + (left - took) ≡ all) × AreAllShown c r s new faults × AreOnce s new × NoneTwice new × Numbered 1 s.world
+pub keeps : {X S F H T : Type 0} {r : reading.Counts F T} {v : checking.Counts S F} (c : Counts S F H T) (s : Start) (own new : List Moment) (who : ℕ) (step : Step) (ok : X → Reply) (result : Result X StepRefusal) (faults : List (Fault S F H T)) (left took all : ℕ)
+    → (length own + left ≡ all) × AreAllShown c r v s own faults × AreOnce s own × NoneTwice own × Numbered 1 s.world → left ≢ 0 → took ≡ turns_of result → ((x : X) → IsNoReportOf step (ok x)) → IsNew s own who step → IsNewIf own who step → Did s own new who step ok result
+    → (length new + (left - took) ≡ all) × AreAllShown c r v s new faults × AreOnce s new × NoneTwice new × Numbered 1 s.world
 keeps c s own new who step ok result faults left took all h some turns none unnoted fresh d = (
   counted (length own) (length new) left took all some (subst (λ (n : ℕ). n ≤ 1) (sym turns) (at_most_one result)) h.0 (grown s own new who step ok result d ∙ ap (λ (n : ℕ). length own + n) (sym turns)),
   did c s own new who step ok result faults none d h.1,
@@ -105,13 +106,13 @@ keeps c s own new who step ok result faults left took all h some turns none unno
 )
 
 -- the report of a failure whose cause is shown, by its answer
-shown_by : {S F H T : Type 0} {r : reading.Counts F T} (c : Counts S F H T) (s : Start) (own new : List Moment) (who : ℕ) (why : Why) (result : Result Unit StepRefusal) (faults : List (Fault S F H T)) (b : By S F H T)
-    → AreAllShown c r s own faults → IsShown c s own who why b → Did s own new who (FailedStep why) (λ _. HasEnded) result → AreAllShown c r s new (faults ++ kept_by (length own) b result)
-shown_by {S} {F} {H} {T} {r} c s own new who why (Ok x) faults b h shown d =
-    subst (λ (l : List Moment). AreAllShown {S = S} {F = F} {H = H} {T = T} c r s l (faults ++ listed_at (length own) b)) (sym d.is)
+shown_by : {S F H T : Type 0} {r : reading.Counts F T} {v : checking.Counts S F} (c : Counts S F H T) (s : Start) (own new : List Moment) (who : ℕ) (why : Why) (result : Result Unit StepRefusal) (faults : List (Fault S F H T)) (b : By S F H T)
+    → AreAllShown c r v s own faults → IsShown c s own who why b → Did s own new who (FailedStep why) (λ _. HasEnded) result → AreAllShown c r v s new (faults ++ kept_by (length own) b result)
+shown_by {S} {F} {H} {T} {r} {v} c s own new who why (Ok x) faults b h shown d =
+    subst (λ (l : List Moment). AreAllShown {S = S} {F = F} {H = H} {T = T} c r v s l (faults ++ listed_at (length own) b)) (sym d.is)
     (reports c s own (record { entry = record { who = who; step = FailedStep why; reply = HasEnded }; image = d.image }) faults why b refl refl shown h)
-shown_by {S} {F} {H} {T} {r} c s own new who why (Err e) faults b h shown d =
-    subst (λ (l : List (Fault S F H T)). AreAllShown {S = S} {F = F} {H = H} {T = T} c r s new l) (sym (append-nil faults)) (added_or c s own new who (FailedStep why) e faults d h)
+shown_by {S} {F} {H} {T} {r} {v} c s own new who why (Err e) faults b h shown d =
+    subst (λ (l : List (Fault S F H T)). AreAllShown {S = S} {F = F} {H = H} {T = T} c r v s new l) (sym (append-nil faults)) (added_or c s own new who (FailedStep why) e faults d h)
 
 pub place_is : (n left all place : ℕ) → n + left ≡ all → place ≡ all - left → place ≡ n
 place_is n left all place e d = omega (arith, e, d)
@@ -124,14 +125,14 @@ no_commit s log who why name is no_metadata noted = absurd (never why name is)
     never w n e = cc
 
 -- the desk's invariant after it
-pub keeps_report : {S F H T : Type 0} {r : reading.Counts F T} (c : Counts S F H T) (s : Start) (own log new : List Moment) (who : ℕ) (why : Why) (result : Result Unit StepRefusal) (faults roomy after : List (Fault S F H T)) (left took all : ℕ) (b : By S F H T)
-    → (length own + left ≡ all) × AreAllShown c r s own faults × AreOnce s own × NoneTwice own × Numbered 1 s.world → left ≢ 0 → took ≡ turns_of result → own ≡ log → IsShown c s log who why b → roomy ≡ faults → after ≡ roomy ++ kept_by (all - left) b result → Did s own new who (FailedStep why) (λ _. HasEnded) result
-    → (length new + (left - took) ≡ all) × AreAllShown c r s new after × AreOnce s new × NoneTwice new × Numbered 1 s.world
-keeps_report {S} {F} {H} {T} {r} c s own log new who why result faults roomy after left took all b h some turns view shown same is d =
+pub keeps_report : {S F H T : Type 0} {r : reading.Counts F T} {v : checking.Counts S F} (c : Counts S F H T) (s : Start) (own log new : List Moment) (who : ℕ) (why : Why) (result : Result Unit StepRefusal) (faults roomy after : List (Fault S F H T)) (left took all : ℕ) (b : By S F H T)
+    → (length own + left ≡ all) × AreAllShown c r v s own faults × AreOnce s own × NoneTwice own × Numbered 1 s.world → left ≢ 0 → took ≡ turns_of result → own ≡ log → IsShown c s log who why b → roomy ≡ faults → after ≡ roomy ++ kept_by (all - left) b result → Did s own new who (FailedStep why) (λ _. HasEnded) result
+    → (length new + (left - took) ≡ all) × AreAllShown c r v s new after × AreOnce s new × NoneTwice new × Numbered 1 s.world
+keeps_report {S} {F} {H} {T} {r} {v} c s own log new who why result faults roomy after left took all b h some turns view shown same is d =
     let n : all - left ≡ length own = place_is (length own) left all (all - left) h.0 refl in
     let e : after ≡ faults ++ kept_by (length own) b result = is ∙ ap (λ (l : List (Fault S F H T)). l ++ kept_by (all - left) b result) same ∙ ap (λ (k : ℕ). faults ++ kept_by k b result) n in (
       counted (length own) (length new) left took all some (subst (λ (k : ℕ). k ≤ 1) (sym turns) (at_most_one result)) h.0 (grown s own new who (FailedStep why) (λ _. HasEnded) result d ∙ ap (λ (k : ℕ). length own + k) (sym turns)),
-      subst (λ (l : List (Fault S F H T)). AreAllShown {S = S} {F = F} {H = H} {T = T} c r s new l) (sym e)
+      subst (λ (l : List (Fault S F H T)). AreAllShown {S = S} {F = F} {H = H} {T = T} c r v s new l) (sym e)
           (shown_by c s own new who why result faults b h.1 (subst (λ (l : List Moment). IsShown {S = S} {F = F} {H = H} {T = T} c s l who why b) (sym view) shown) d),
       once_did s own new who (FailedStep why) (λ _. HasEnded) result (no_commit s own who why) d h.2,
       single_did s own new who (FailedStep why) (λ _. HasEnded) result (λ single. absurd single) d h.3,

@@ -1,14 +1,16 @@
 //! The steps of a verification: each is that of the repository, while turns are left.
-ghost use Rattle.std.specs.Prelude.{◌≡◌, None, OnOk, OnErr};
+ghost use Rattle.std.specs.Prelude.{◌≡◌, OnOk, OnErr};
 ghost use Rattle.esr_core.specs.World.{no_caller};
 ghost use Rattle.esr_core.specs.Entry.{ReadStep, ReadFails, HasEnded};
 ghost use Rattle.esr_desk.specs.Entries.{why_of};
 ghost use Rattle.esr_desk.specs.Outcome.{Outcome};
 ghost use Rattle.esr_checking.specs.Caller.{caller_of};
+ghost use Rattle.esr_checking.specs.Conditions.{IsOpen};
 ghost use Rattle.esr_checking.specs.Shown.{IsShown};
 
 use crate::Solo;
-use crate::solo::turns;
+use crate::faults::keep;
+use crate::solo::{TURNS, turns};
 use esr_checking::VerifyDesk;
 use esr_depot::Depot;
 use esr_desk::{By, Named, StepRefusal, Why};
@@ -99,7 +101,7 @@ impl<D: Depot, K: Told, H: Shard, T: Target> VerifyDesk for Solo<D, K, H, T> {
         why: Why,
         by: By<D::Stage, D::Fetch, H, T>,
     ) -> Result<(), StepRefusal>
-        requires open { (caller_of K.start self.old).drawn ≡ None → ⊥ }
+        requires open { IsOpen (caller_of K.start self.old) }
         requires shown { IsShown (record { stage = D.Stage.faults; fetch = D.Fetch.faults })
             K.start self.old (caller_of K.start self.old) (why_of why) by }
         ensures step { Outcome K.start self.old self.new 0 (ReadStep (ReadFails (why_of why))) (λ _. HasEnded) result }
@@ -110,9 +112,13 @@ impl<D: Depot, K: Told, H: Shard, T: Target> VerifyDesk for Solo<D, K, H, T> {
         if self.left == 0 {
             return Err(StepRefusal::TurnsSpent);
         }
+        if self.faults.reserve(1).is_err() {
+            return Err(StepRefusal::Memory);
+        }
+        let place = TURNS - self.left;
         let answer = self.repo.unverified(alloc, why);
         self.left -= turns(&answer);
-        drop(by);
+        keep(&mut self.faults, place, by, &answer);
         answer
     }
 }

@@ -1,7 +1,7 @@
 //! A repository with a count of turns, and the objects that failed.
 ghost use Rattle.std.specs.Prelude.{◌≡◌, ◌+◌, ◌≤◌, ◌^◌, [], length};
 ghost use Rattle.esr_desk.specs.Once.{AreOnce, NoneTwice};
-ghost use Rattle.esr_reading.specs.AllShown.{AreAllShown};
+ghost use Rattle.esr_checking.specs.AllShown.{AreAllShown};
 ghost use Rattle.esr_solo.specs.Turns.{turns_of};
 
 use esr_depot::Depot;
@@ -36,13 +36,13 @@ impl<D: Depot, K: Told, H: Shard, T: Target> Model for Solo<D, K, H, T> {
     ghost use Rattle.std.specs.Prelude.{◌≡◌, ◌+◌, ◌^◌, length};
     ghost use Rattle.esr_desk.specs.Once.{AreOnce, NoneTwice};
     ghost use Rattle.esr_desk.specs.Numbered.{Numbered};
-    ghost use Rattle.esr_reading.specs.AllShown.{AreAllShown};
+    ghost use Rattle.esr_checking.specs.AllShown.{AreAllShown};
 
     ghost view = { λ s. s.repo };
 
     ghost invariant = { λ s. (length s.repo + s.left ≡ 2 ^ 40)
         × AreAllShown (record { stage = D.Stage.faults; fetch = D.Fetch.faults; shard = H.faults; target = T.faults; made_for = λ h. (H.origin h).address })
-        (record { fetch = D.Fetch.faults; target = T.faults; made_for = T.made_for }) K.start s.repo s.faults.items
+        (record { fetch = D.Fetch.faults; target = T.faults; made_for = T.made_for }) (record { stage = D.Stage.faults; fetch = D.Fetch.faults }) K.start s.repo s.faults.items
         × AreOnce K.start s.repo
         × NoneTwice s.repo
         × Numbered 1 K.start.world };
@@ -73,7 +73,7 @@ impl<D: Depot, K: Told, H: Shard, T: Target> Solo<D, K, H, T> {
     pub fn into_parts(self) -> (Repo<D, K>, Faults<D::Stage, D::Fetch, H, T>)
         ensures repo { result.0 ≡ self }
         ensures shown { AreAllShown (record { stage = D.Stage.faults; fetch = D.Fetch.faults; shard = H.faults; target = T.faults; made_for = λ h. (H.origin h).address })
-            (record { fetch = D.Fetch.faults; target = T.faults; made_for = T.made_for }) K.start result.0 result.1 }
+            (record { fetch = D.Fetch.faults; target = T.faults; made_for = T.made_for }) (record { stage = D.Stage.faults; fetch = D.Fetch.faults }) K.start result.0 result.1 }
         ensures once { AreOnce K.start result.0 }
         ensures single { NoneTwice result.0 }
     {

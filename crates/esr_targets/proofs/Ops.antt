@@ -2,7 +2,7 @@
 use Rattle.std.proofs.Common.{◌≡◌, ◌⊎◌, ℕ, ◌<◌, Bool, if◌then◌else◌, List, [], ◌∷◌, ◌++◌, Some, map, append_assoc, refl, sym, ap, ◌∙◌, inl, inr, arith}
 use Rattle.std.proofs.lemmas.Bool.Decides.{eqb_tells}
 use Rattle.esr_model.specs.Values.{Bytes, Has, IndexRef}
-use Rattle.esr_core.specs.Entry.{Restore, Step, AskStep, LookStep, Reply, AcceptedRestore, Entry}
+use Rattle.esr_core.specs.Entry.{Restore, Step, DrawTest, AskStep, LookStep, ReadStep, Reply, AcceptedRestore, Entry}
 use Rattle.esr_core.proofs.Reading.{none_some, some_same, Has-either}
 use Rattle.esr_script.specs.declared.item.Item.{Item}
 use Rattle.esr_script.specs.declared.item.Item.TheVariants as items
@@ -146,6 +146,7 @@ module _ (moment : ℕ) (line : ScriptLine) (lines : List ScriptLine) (op number
   by_item es rest (items.Snapshot name indices) is same found on = ask (AskStep (command_of_line name indices moment)) es rest (ap (steps_of_item moment) is) same found on
   by_item es rest (items.Restore name place) is same found on = ask (AskStep (Restore name place)) es rest (ap (steps_of_item moment) is) same found on
   by_item es rest items.List is same found on = ask LookStep es rest (ap (steps_of_item moment) is) same found on
+  by_item es rest items.Verify is same found on = ask (ReadStep DrawTest) es rest (ap (steps_of_item moment) is) same found on
   by_item es rest item is same found on = skip es (ap (steps_of_item moment) is) (on es same found)
 
 pub line_at : (moment : ℕ) (lines : List ScriptLine) (es : List Entry) (rest : List Step) (op number : ℕ) → steps_by es ++ rest ≡ steps_of moment lines → line_of (ops_from lines es) op ≡ Some number → LineAt moment lines es op number
@@ -165,6 +166,7 @@ module _ (moment : ℕ) (line : ScriptLine) (earlier lines : List ScriptLine) (f
   both_by es (items.Snapshot name indices) same = both_asked (AskStep (command_of_line name indices moment)) es same
   both_by es (items.Restore name place) same = both_asked (AskStep (Restore name place)) es same
   both_by es items.List same = both_asked LookStep es same
+  both_by es items.Verify same = both_asked (ReadStep DrawTest) es same
   both_by es item same = on es same
 
 none_asked : (es fs : List Entry) (lines : List ScriptLine) → steps_by es ≡ [] → ops_from lines (es ++ fs) ≡ ops_from lines fs
@@ -219,6 +221,7 @@ module _ (line : ScriptLine) (lines : List ScriptLine) (p : ℕ × ℕ) where
   op_by_item es (items.Snapshot name indices) h on = op_asked es h on
   op_by_item es (items.Restore name place) h on = op_asked es h on
   op_by_item es items.List h on = op_asked es h on
+  op_by_item es items.Verify h on = op_asked es h on
   op_by_item es item h on = op_skip es (on es h)
 
 pub op_at : (lines : List ScriptLine) (es : List Entry) (p : ℕ × ℕ) → Has (ops_from lines es) p → OpAt lines es p
@@ -260,6 +263,7 @@ module _ (line : ScriptLine) (lines : List ScriptLine) (first : (later : ScriptL
   one_by_item es (items.Snapshot name indices) a b on = one_asked es a b on
   one_by_item es (items.Restore name place) a b on = one_asked es a b on
   one_by_item es items.List a b on = one_asked es a b on
+  one_by_item es items.Verify a b on = one_asked es a b on
   one_by_item es item a b on = on es a b
 
 pub one_op : (lines : List ScriptLine) (es : List Entry) (o p n : ℕ) → AreNumbered lines → Has (ops_from lines es) (o, n) → Has (ops_from lines es) (p, n) → o ≡ p
@@ -278,4 +282,5 @@ restore_item moment (items.Restore n l) name place e = same (heads (AskStep (Res
     same : AskStep (Restore n l) ≡ AskStep (Restore name place) → items.Restore n l ≡ items.Restore name place
     same x = cc
 restore_item moment items.List name place e = absurd (other_command name place LookStep (λ a b x. cc) e)
+restore_item moment items.Verify name place e = absurd (other_command name place (ReadStep DrawTest) (λ a b x. cc) e)
 restore_item moment item name place e = absurd (nothing_first (AskStep (Restore name place)) [] e)

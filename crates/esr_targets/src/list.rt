@@ -3,12 +3,13 @@ ghost use Rattle.std.specs.Prelude.{◌≡◌, ◌≤◌, ◌++◌, ◌∷◌, �
 ghost use Rattle.std.specs.Option.{MatchOption, option_to_list};
 ghost use Rattle.esr_core.specs.Entry.{Entry as Told};
 ghost use Rattle.esr_model.specs.Places.{by_order, put_by, sorted_by};
-ghost use Rattle.esr_quiet.specs.Asked.{is_asked};
+ghost use Rattle.esr_desk.specs.Entries.{step_of};
+ghost use Rattle.esr_quiet.specs.Asked.{is_line_ask, is_asked};
 ghost use Rattle.esr_targets.specs.Lines.{asked_entries, op_of_reply, ops_by, ops_at, ops_of_lines};
 ghost use Rattle.esr_targets.specs.Listed.{target_first, line_of, listed_at, listed};
 
 use crate::target::{Restored, TargetList};
-use esr_desk::{Answer, Entry, Step};
+use esr_desk::{Answer, Entry, Read, Step};
 use esr_drive::{RestoredTarget, RestoredTargets};
 use esr_script::{Item, ScriptLine};
 use esr_seq::Seq;
@@ -31,11 +32,22 @@ impl Model for LineOp {
     ghost view = { λ o. (o.op, o.line) };
 }
 
-/// A line asked for it: a step of who 0 that takes no unit.
+/// A line asks for such a step.
+fn is_line_ask(step: &Step) -> bool
+    ensures { result ≡ is_line_ask (step_of step.now) }
+{
+    match step {
+        Step::Take => false,
+        Step::Read { read } => matches!(read, Read::DrawTest),
+        _ => true,
+    }
+}
+
+/// A line asked for it.
 fn is_asked(entry: &Entry) -> bool
     ensures { result ≡ is_asked entry.now }
 {
-    entry.who == 0 && !matches!(entry.step, Step::Take)
+    entry.who == 0 && is_line_ask(&entry.step)
 }
 
 /// The next entry that a line asked for, and the entries after it.
@@ -73,7 +85,7 @@ fn asks(line: &ScriptLine) -> bool
         Item::Wait => false,
         Item::List => true,
         Item::Check => false,
-        Item::Verify => false,
+        Item::Verify => true,
     }
 }
 

@@ -23,3 +23,5 @@ mod setting;
 mod streams;
 #[cfg(test)]
 mod unprinted;
+#[cfg(test)]
+mod verified;

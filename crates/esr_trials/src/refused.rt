@@ -44,8 +44,7 @@ clone s1 c1 logs
 delete s1
 cleanup
 failover
-check
-verify";
+check";
 
 /// Words that ask for nothing; the first line has none.
 const WORDS: &str = "

@@ -1,3 +1,4 @@
+pub mod Refusals
 pub mod Going
 pub mod Noting
 pub mod Pieces

@@ -59,6 +59,11 @@ begun_same name (Err (steps.Refused (refusals.IdsSpent next))) t other = refl
 begun_same name (Err (steps.Refused (refusals.NameTaken name2))) t other = refl
 begun_same name (Err (steps.Refused (refusals.NoSnapshot at))) t other = refl
 begun_same name (Err (steps.Refused (refusals.BeingDeleted op))) t other = refl
+begun_same name (Err (steps.Refused (refusals.NoIndex place))) t other = refl
+begun_same name (Err (steps.Refused (refusals.CloneRunning op))) t other = refl
+begun_same name (Err (steps.Refused (refusals.RestoreRunning op))) t other = refl
+begun_same name (Err (steps.Refused (refusals.BusyOp op))) t other = refl
+begun_same name (Err (steps.Refused (refusals.BusyTicket ticket))) t other = refl
 
 -- a history that went on, without the ticket
 pub went_same : (s : Start) (old new : List Moment) (who : ℕ) → GrewBy s who old new → ticket_of s new who ≡ ticket_of s old who → Went s old new who

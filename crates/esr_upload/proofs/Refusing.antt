@@ -26,7 +26,8 @@ use Rattle.esr_desk.specs.Entries.{why_of}
 use Rattle.esr_desk.specs.Start.{Start, ticket_of}
 use Rattle.esr_desk.specs.Sources.{AreSources}
 use Rattle.esr_desk.specs.Outcome.{Waited, Stepped}
-use Rattle.esr_desk.specs.Last.{IsLast, IsRefusal}
+use Rattle.esr_desk.specs.Last.{IsLast}
+use Rattle.esr_desk.specs.Halts.{Halts}
 use Rattle.esr_desk.specs.Damage.{IsBase, IsBad, WasMissing, BaseFault}
 use Rattle.esr_desk.specs.Shown.{Counts, Matters, HadFault, HadRefusal, IsOf, IsUntold, FaultyShard, DepotShown, SourceShown, ReadShown, StepShown, IsShown}
 use Rattle.esr_upload.specs.declared.cause.Cause.{Cause}
@@ -34,7 +35,7 @@ use Rattle.esr_upload.specs.declared.trouble.Trouble.{Trouble}
 use Rattle.esr_upload.specs.declared.trouble.Trouble.TheVariants as troubles
 use Rattle.esr_upload.specs.Cause.{cause_refused, damaged_by, cause_by}
 use Rattle.esr_upload.specs.Refused.{IsChangeOfUntold, IsUnitRefused}
-use Rattle.esr_upload.specs.Trouble.{Shown, BadBase, IsChangeUntold}
+use Rattle.esr_upload.specs.Trouble.{IsWorkRefusal, Shown, BadBase, IsChangeUntold}
 use Rattle.esr_upload.specs.Worked.{Worked, Went}
 
 pub passed : {T E : Type 0} (r : Result T E) (P : E → Type 0) (e : E) → IsErrAnd r (λ x. x ≡ e) → P e → IfErr r P
@@ -60,20 +61,36 @@ refusal_same (steps.Refused (refusals.IdsSpent next)) refusal is = cc
 refusal_same (steps.Refused (refusals.NameTaken name)) refusal is = cc
 refusal_same (steps.Refused (refusals.NoSnapshot at)) refusal is = cc
 refusal_same (steps.Refused (refusals.BeingDeleted op)) refusal is = cc
+refusal_same (steps.Refused (refusals.NoIndex place)) refusal is = cc
+refusal_same (steps.Refused (refusals.CloneRunning op)) refusal is = cc
+refusal_same (steps.Refused (refusals.RestoreRunning op)) refusal is = cc
+refusal_same (steps.Refused (refusals.BusyOp op)) refusal is = cc
+refusal_same (steps.Refused (refusals.BusyTicket ticket)) refusal is = cc
 
 damaged_memory : {S F H T : Type 0} (at : ShardId) (base : Option Id) (refusal : StepRefusal) → damaged_by {S = S} {F = F} {H = H} {T = T} at base ≡ Err refusal → steps.Memory ≡ refusal
 damaged_memory at None refusal is = cc
 damaged_memory at (Some b) refusal is = cc
 
--- a trouble that leaves the ticket out is a step's refusal
+-- a step that ends no ticket was refused since a record swap had failed
+work_halts : {S F H T : Type 0} (s : Start) (log : List Moment) (who : ℕ) (e refusal : StepRefusal) → IsWorkRefusal s log who e → cause_refused {S = S} {F = F} {H = H} {T = T} e ≡ Err refusal → Halts s log who e
+work_halts s log who steps.Memory refusal h is = tt
+work_halts s log who steps.TurnsSpent refusal h is = h.0.1
+work_halts s log who (steps.Refused (refusals.Deposed entry)) refusal h is = h.0.0
+work_halts s log who (steps.Refused refusals.DepotFault) refusal h is = absurd cc
+work_halts s log who (steps.Refused (refusals.NameTaken name)) refusal h is = absurd cc
+work_halts s log who (steps.Refused (refusals.IdsSpent next)) refusal h is = absurd cc
+work_halts s log who (steps.Refused e) refusal h is = absurd h.1
+
+-- a trouble that leaves the ticket out stops the unit
 pub stopped : {S F H T : Type 0} (stage_faults : S → ℕ) (fetch_faults : F → ℕ) (n : ℕ) (files : Option (List (Bytes × Bytes))) (s : Start) (log : List Moment) (who : ℕ) (at : ShardId) (base : Option Id) (shard : H) (trouble : Trouble S F) (refusal : StepRefusal)
-    → Shown stage_faults fetch_faults n files s log who trouble → cause_by {S = S} {F = F} {H = H} {T = T} at base shard trouble ≡ Err refusal → IsRefusal s log who refusal
-stopped {S} {F} {H} {T} stage_faults fetch_faults n files s log who at base shard (troubles.Step e) refusal shown is = subst (λ (r : StepRefusal). IsRefusal s log who r) (refusal_same {S = S} {F = F} {H = H} {T = T} e refusal is) shown
+    → Shown stage_faults fetch_faults n files s log who trouble → cause_by {S = S} {F = F} {H = H} {T = T} at base shard trouble ≡ Err refusal → Halts s log who refusal
+stopped {S} {F} {H} {T} stage_faults fetch_faults n files s log who at base shard (troubles.Step e) refusal shown is =
+    subst (λ (r : StepRefusal). Halts s log who r) (refusal_same {S = S} {F = F} {H = H} {T = T} e refusal is) (work_halts {S = S} {F = F} {H = H} {T = T} s log who e refusal shown is)
 stopped stage_faults fetch_faults n files s log who at base shard troubles.Source refusal shown is = absurd cc
 stopped stage_faults fetch_faults n files s log who at base shard (troubles.Stage stage) refusal shown is = absurd cc
 stopped stage_faults fetch_faults n files s log who at base shard (troubles.Fetch fetch) refusal shown is = absurd cc
 stopped stage_faults fetch_faults n files s log who at base shard (troubles.Changed first second) refusal shown is = absurd cc
-stopped {S} {F} {H} {T} stage_faults fetch_faults n files s log who at base shard troubles.Base refusal shown is = subst (λ (r : StepRefusal). IsRefusal s log who r) (damaged_memory {S = S} {F = F} {H = H} {T = T} at base refusal is) (tt, tt)
+stopped {S} {F} {H} {T} stage_faults fetch_faults n files s log who at base shard troubles.Base refusal shown is = subst (λ (r : StepRefusal). Halts s log who r) (damaged_memory {S = S} {F = F} {H = H} {T = T} at base refusal is) tt
 
 -- ---- the shard of a steady address
 
@@ -182,7 +199,7 @@ module _ {S F H T : Type 0} (c : Counts S F H T) (files : Option (List (Bytes ×
   abbrev pub Caused : Cause S F H T → Type 0
   Caused cause = IsShown c s log who (why_of cause.why) cause.by × IsChangeOfUntold files cause.why
 
-  refused_shows : (index number : ℕ) (refusal : StepRefusal) (cause : Cause S F H T) → (ticket_of s log who).work ≡ Shard index number → IsRefusal s log who refusal → cause_refused {S = S} {F = F} {H = H} {T = T} refusal ≡ Ok cause → Caused cause
+  refused_shows : (index number : ℕ) (refusal : StepRefusal) (cause : Cause S F H T) → (ticket_of s log who).work ≡ Shard index number → IsWorkRefusal s log who refusal → cause_refused {S = S} {F = F} {H = H} {T = T} refusal ≡ Ok cause → Caused cause
   refused_shows index number steps.Memory cause work was is = cc
   refused_shows index number steps.TurnsSpent cause work was is = cc
   refused_shows index number (steps.Refused refusals.DepotFault) cause work was is =
@@ -190,13 +207,13 @@ module _ {S F H T : Type 0} (c : Counts S F H T) (files : Option (List (Bytes ×
       let same : entry ≡ cause = cc in
       subst Caused same (
         record {
-          front = was.0.1.front;
-          moment = record { entry = record { who = who; step = was.0.0; reply = Refused DepotFault }; image = was.0.1.image };
+          front = was.0.0.1.front;
+          moment = record { entry = record { who = who; step = was.0.0.0; reply = Refused DepotFault }; image = was.0.0.1.image };
           back = [];
-          is = was.0.1.is;
+          is = was.0.0.1.is;
           of = refl;
           reply = refl;
-          matters = subst (λ (w : Work). Matters w was.0.0) (sym work) tt;
+          matters = subst (λ (w : Work). Matters w was.0.0.0) (sym work) tt;
         },
         tt,
       )
@@ -210,12 +227,17 @@ module _ {S F H T : Type 0} (c : Counts S F H T) (files : Option (List (Bytes ×
   refused_shows index number (steps.Refused (refusals.TermsSpent spent)) cause work was is = cc
   refused_shows index number (steps.Refused (refusals.IdsSpent next)) cause work was is =
       let spent : Cause S F H T = record { why = whys.IdsSpent next; by = shows.Entry } in
-      let same : spent ≡ cause = cc in subst Caused same (had_last log who was.0.0 (IdsSpent next.number) was.0.1, tt)
+      let same : spent ≡ cause = cc in subst Caused same (had_last log who was.0.0.0 (IdsSpent next.number) was.0.0.1, tt)
   refused_shows index number (steps.Refused (refusals.NameTaken name)) cause work was is =
       let taken : Cause S F H T = record { why = whys.NameTaken name; by = shows.Entry } in
-      let same : taken ≡ cause = cc in subst Caused same (had_last log who was.0.0 (NameTaken (name_of name)) was.0.1, tt)
+      let same : taken ≡ cause = cc in subst Caused same (had_last log who was.0.0.0 (NameTaken (name_of name)) was.0.0.1, tt)
   refused_shows index number (steps.Refused (refusals.NoSnapshot at)) cause work was is = cc
   refused_shows index number (steps.Refused (refusals.BeingDeleted op)) cause work was is = cc
+  refused_shows index number (steps.Refused (refusals.NoIndex place)) cause work was is = cc
+  refused_shows index number (steps.Refused (refusals.CloneRunning op)) cause work was is = cc
+  refused_shows index number (steps.Refused (refusals.RestoreRunning op)) cause work was is = cc
+  refused_shows index number (steps.Refused (refusals.BusyOp op)) cause work was is = cc
+  refused_shows index number (steps.Refused (refusals.BusyTicket ticket)) cause work was is = cc
 
   -- the fault of the base, under its name
   base_shows : (at : ShardId) (base : Option Id) (cause : Cause S F H T) → (ticket_of s log who).work ≡ Shard at.index.number at.number → (ticket_of s log who).base ≡ option_map number_of base → BadBase s log who

@@ -1,4 +1,5 @@
 pub mod Worked
+pub mod Refusable
 pub mod Trouble
 pub mod Base
 pub mod Surveyed

@@ -13,7 +13,8 @@ use Rattle.esr_desk.specs.declared.unit.UnitRefusal.{UnitRefusal}
 use Rattle.esr_desk.specs.declared.unit.UnitRefusal.TheVariants as units
 use Rattle.esr_desk.specs.Entries.{why_of}
 use Rattle.esr_desk.specs.Start.{Start, ticket_of}
-use Rattle.esr_desk.specs.Last.{IsLast, IsRefusal}
+use Rattle.esr_desk.specs.Last.{IsLast}
+use Rattle.esr_desk.specs.Halts.{Halts}
 use Rattle.esr_desk.specs.Shown.{Counts, IsShown}
 use Rattle.esr_upload.specs.Worked.{Worked}
 
@@ -57,8 +58,8 @@ pub record HasFailed {S F H T : Type 0} (c : Counts S F H T) (files : Option (Li
   pub shown : IsShown c s front who (why_of why) by
   pub untold : IsChangeOfUntold files why
 
--- it has failed and its ticket has ended, with the cause; or it was stopped with its ticket out
+-- it has failed and its ticket has ended, with the cause; or it was stopped with its ticket out, for no failure of its own
 abbrev pub IsUnitRefused : {S F H T : Type 0} → Counts S F H T → Option (List (Bytes × Bytes)) → Start → List Moment → List Moment → ℕ → UnitRefusal → Type 0
 IsUnitRefused c files s old new who (units.Failed why) =
     ((worked : Ticket) × Worked (ticket_of s old who) worked × (ticket_of s new who ≡ record worked { out = false })) × HasFailed c files s new who why
-IsUnitRefused c files s old new who (units.Stopped refusal) = Worked (ticket_of s old who) (ticket_of s new who) × IsRefusal s new who refusal
+IsUnitRefused c files s old new who (units.Stopped refusal) = Worked (ticket_of s old who) (ticket_of s new who) × Halts s new who refusal

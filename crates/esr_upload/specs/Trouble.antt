@@ -1,13 +1,16 @@
 -- What shows a trouble.
-use Rattle.std.specs.Prelude.{◌≡◌, ◌≢◌, ℕ, ◌<◌, List, Option, Some, None}
+use Rattle.std.specs.Prelude.{◌≡◌, ◌≢◌, ℕ, ◌<◌, List, Option, Some, None, IfSome}
 use Rattle.esr_model.specs.Names.{ShardIndex}
 use Rattle.esr_model.specs.Values.{Bytes}
 use Rattle.esr_core.specs.Entry.{Moment}
 use Rattle.esr_core.specs.World.{Ticket, Shard}
+use Rattle.esr_desk.specs.declared.refusal.StepRefusal.{StepRefusal}
+use Rattle.esr_desk.specs.Refusals.{told_refusal}
 use Rattle.esr_desk.specs.Start.{Start, ticket_of}
 use Rattle.esr_desk.specs.Last.{IsRefusal}
 use Rattle.esr_desk.specs.Damage.{BaseFault}
 use Rattle.esr_desk.specs.Shown.{IsUntold, Faulty}
+use Rattle.esr_upload.specs.Refusable.{MayRefuseWork}
 use Rattle.esr_upload.specs.declared.trouble.Trouble.{Trouble}
 use Rattle.esr_upload.specs.declared.trouble.Trouble.TheVariants as troubles
 
@@ -20,10 +23,14 @@ pub record BadBase (s : Start) (log : List Moment) (who : ℕ) : Type 0 where
   pub base_is : (ticket_of s log who).base ≡ Some base
   pub fault : BaseFault s log who (ShardIndex index number base)
 
+-- the ticket's last step was refused so, as it may be; or memory was wanting, or turns were spent
+abbrev pub IsWorkRefusal : Start → List Moment → ℕ → StepRefusal → Type 0
+IsWorkRefusal s log who e = IsRefusal s log who e × IfSome (told_refusal e) MayRefuseWork
+
 -- The last step was refused; or the object failed, with its count of faults above 0, and the container isn't quiet; or two prints of a file differ, which
 -- the sources don't tell; or the base is at fault.
 abbrev pub Shown : {St F : Type 0} → (St → ℕ) → (F → ℕ) → ℕ → Option (List (Bytes × Bytes)) → Start → List Moment → ℕ → Trouble St F → Type 0
-Shown stage_faults fetch_faults shard_faults files s log who (troubles.Step refusal) = IsRefusal s log who refusal
+Shown stage_faults fetch_faults shard_faults files s log who (troubles.Step refusal) = IsWorkRefusal s log who refusal
 Shown stage_faults fetch_faults shard_faults files s log who troubles.Source = 0 < shard_faults
 Shown stage_faults fetch_faults shard_faults files s log who (troubles.Stage stage) = Faulty s (stage_faults stage)
 Shown stage_faults fetch_faults shard_faults files s log who (troubles.Fetch fetch) = Faulty s (fetch_faults fetch)

@@ -12,6 +12,7 @@ ghost use Rattle.esr_upload.specs.Stored.{IsAt};
 ghost use Rattle.esr_upload.specs.Trouble.{Shown};
 ghost use Rattle.esr_upload.specs.Worked.{Went};
 
+use crate::law::refusals;
 use crate::trouble::Trouble;
 use esr_depot::CallError;
 use esr_desk::{Desk, StepRefusal};
@@ -42,6 +43,7 @@ fn fetch_bytes<Q: Desk>(
     ensures went { Went Q.start (Q.seen desk.old) (Q.seen desk.new) ticket }
     ensures holds { Q.holds desk.new ticket }
 {
+    refusals();
     let mut fetch = match desk.fetch(alloc, ticket, BlobName::ShardIndex(shard, base))? {
         Some(fetch) => fetch,
         None => return Err(Trouble::Base),

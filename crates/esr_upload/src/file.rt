@@ -10,6 +10,7 @@ ghost use Rattle.esr_upload.specs.Stored.{MayStore, HasPrint, Stored};
 ghost use Rattle.esr_upload.specs.Trouble.{Shown};
 ghost use Rattle.esr_upload.specs.Worked.{Went};
 
+use crate::law::refusals;
 use crate::trouble::Trouble;
 use esr_depot::CallError;
 use esr_desk::{Desk, Named, StepRefusal};
@@ -69,6 +70,7 @@ fn put_part<Q: Desk, S: Shard, G: Gate>(
     ensures went { Went Q.start (Q.seen desk.old) (Q.seen desk.new) ticket }
     ensures holds { Q.holds desk.new ticket }
 {
+    refusals();
     let mut named = desk.begin(alloc, ticket, name, size as usize)?;
     match copy_part(shard, &mut named.stage, hasher, size, gate, ticket, buf) {
         Ok(true) => {}

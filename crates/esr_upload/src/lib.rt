@@ -5,6 +5,7 @@ mod base;
 mod cause;
 mod file;
 mod files;
+mod law;
 mod publish;
 mod put;
 mod survey;

@@ -18,6 +18,7 @@ ghost use Rattle.esr_upload.specs.Stored.{IsAt, AreBelow};
 ghost use Rattle.esr_upload.specs.Trouble.{BadBase, Shown};
 ghost use Rattle.esr_upload.specs.Worked.{Went};
 
+use crate::law::refusals;
 use crate::put::put;
 use crate::trouble::Trouble;
 use esr_desk::Desk;
@@ -106,6 +107,7 @@ fn publish<Q: Desk>(
     ensures grew { GrewBy Q.start ticket (Q.seen desk.old) (Q.seen desk.new) }
     ensures holds { Q.holds desk.new ticket }
 {
+    refusals();
     put_snap(alloc, desk, ticket, outcome.shard, snap)?;
     put_index(
         alloc,

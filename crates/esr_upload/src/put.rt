@@ -10,6 +10,7 @@ ghost use Rattle.esr_desk.specs.Taken.{after_writes};
 ghost use Rattle.esr_upload.specs.Trouble.{Shown};
 ghost use Rattle.esr_upload.specs.Worked.{Went};
 
+use crate::law::refusals;
 use crate::trouble::Trouble;
 use esr_depot::Stage;
 use esr_desk::{Desk, Named};
@@ -35,6 +36,7 @@ pub fn put<Q: Desk>(
     ensures went { Went Q.start (Q.seen desk.old) (Q.seen desk.new) ticket }
     ensures holds { Q.holds desk.new ticket }
 {
+    refusals();
     let mut named = desk.begin(alloc, ticket, name, bytes.len())?;
     if named.stage.write(bytes).is_err() {
         return Err(Trouble::Stage { stage: named.stage });

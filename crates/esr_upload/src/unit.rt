@@ -19,6 +19,7 @@ ghost use Rattle.esr_upload.specs.Worked.{Went};
 use crate::base::read_base;
 use crate::cause::cause_of;
 use crate::files::{count_new, store_files, sum_of};
+use crate::law::refusals;
 use crate::publish::finish;
 use crate::survey::survey;
 use crate::trouble::Trouble;
@@ -159,6 +160,7 @@ fn work<Q: Desk, S: Shard, G: Gate>(
     ensures grew { GrewBy Q.start ticket (Q.seen desk.old) (Q.seen desk.new) }
     ensures holds { Q.holds desk.new ticket }
 {
+    refusals();
     let mut buf = [0; 65536];
     let index = base_of(alloc, desk, ticket, at, uuid, base)?;
     let plans = plan_files::<Q, S>(alloc, shard, &index, &mut buf)?;
@@ -203,6 +205,7 @@ pub fn run_unit<Q: Desk<Shard = S::Shard>, S: Sources, G: Gate>(
     ensures grew { GrewBy Q.start unit.now.ready.ticket (Q.seen desk.old) (Q.seen desk.new) }
     ensures holds { Q.holds desk.new unit.now.ready.ticket }
 {
+    refusals();
     let ticket = unit.ready.ticket;
     let base = unit.ready.copy.base;
     let Work::Shard {

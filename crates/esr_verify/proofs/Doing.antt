@@ -8,14 +8,14 @@ use Rattle.esr_model.specs.Names.{BlobName}
 use Rattle.esr_model.specs.Values.{Bytes, Has}
 use Rattle.esr_core.specs.World.{Caller, no_caller}
 use Rattle.esr_core.specs.Restores.{IsTestOf, WasRead}
-use Rattle.esr_core.specs.After.{caller_told}
+use Rattle.esr_core.specs.After.{caller_told, caller_wrote}
 use Rattle.esr_core.specs.Entry.{Moment, ReadStep, BeginTest, CommitTest, WasBegun, WasDone}
 use Rattle.esr_fetch.specs.Told.{Tells}
 use Rattle.esr_desk.specs.Conditions.{Holds}
 use Rattle.esr_desk.specs.Start.{Start, told_bytes}
 use Rattle.esr_desk.specs.Outcome.{Stepped}
 use Rattle.esr_checking.specs.Caller.{caller_of, drawn_by}
-use Rattle.esr_checking.specs.Conditions.{IsOwn, HoldsText, CanCommit, CanFetch}
+use Rattle.esr_checking.specs.Conditions.{CanDraw, IsOwn, HoldsText, CanCommit, CanFetch}
 use Rattle.esr_verify.specs.Idle.{IsIdle}
 use Rattle.esr_verify.specs.Went.{Drew}
 use Rattle.esr_verify.specs.Done.{HasDone, Wrote}
@@ -51,6 +51,9 @@ can_fetch s log id name drew committed unremoved once = record {
 
 -- ---- the id is drawn
 
+pub can_draw : (c : Caller) → IsIdle c → CanDraw c
+can_draw c idle = record { undrawn = ap (λ (d : Caller). d.drawn) idle; unspent = ap (λ (d : Caller). d.spent) idle }
+
 nothing_done : (s : Start) (id : ℕ) (looked : Bool) → HasDone s (record no_caller { looked = looked; drawn = Some id }) id [] []
 nothing_done s id looked = record {
   drawn = refl;
@@ -72,8 +75,12 @@ drawn_open old new id is = ap (λ (c : Caller). c.drawn) is
 
 -- ---- a step that leaves the id
 
-pub committed_drawn : (old new : Caller) (name : BlobName) → new ≡ record old { committed = name ∷ old.committed } → new.drawn ≡ old.drawn
-committed_drawn old new name is = ap (λ (c : Caller). c.drawn) is
+wrote_drawn : (c : Caller) (name : BlobName) (contents : Option Bytes) → (caller_wrote c name contents).drawn ≡ c.drawn
+wrote_drawn c name None = refl
+wrote_drawn c name (Some bytes) = refl
+
+pub committed_drawn : (old new : Caller) (name : BlobName) (contents : Option Bytes) → new ≡ caller_wrote old name contents → new.drawn ≡ old.drawn
+committed_drawn old new name contents is = ap (λ (c : Caller). c.drawn) is ∙ wrote_drawn old name contents
 
 pub removed_drawn : (old new : Caller) (names : List BlobName) → new ≡ record old { removed = names ++ old.removed } → new.drawn ≡ old.drawn
 removed_drawn old new names is = ap (λ (c : Caller). c.drawn) is
@@ -88,22 +95,24 @@ told_append s bytes = by_tells s.tells bytes
     by_tells true bytes = refl
     by_tells false bytes = refl
 
-pub holds_text : (s : Start) (old mid : List Moment) (id : ℕ) (empty full : Option Bytes) (bytes : Bytes) → Drew s old id → caller_of s mid ≡ caller_of s old → bytes ≡ id_text id → Holds s empty [] → full ≡ append_known empty bytes → HoldsText s (caller_of s mid) full
-holds_text s old mid id empty full bytes drew same text none is =
-    (id, ap (λ (c : Caller). c.drawn) same ∙ drew.is_open, subst (λ (b : Bytes). Holds s full b) text (is ∙ ap (λ (o : Option Bytes). append_known o bytes) none ∙ told_append s bytes))
+pub held_text : (s : Start) (id : ℕ) (empty full : Option Bytes) (bytes : Bytes) → bytes ≡ id_text id → Holds s empty [] → full ≡ append_known empty bytes → Holds s full (id_text id)
+held_text s id empty full bytes text none is = subst (λ (b : Bytes). Holds s full b) text (is ∙ ap (λ (o : Option Bytes). append_known o bytes) none ∙ told_append s bytes)
 
-pub wrote_one : (s : Start) (old mid new : List Moment) (name at : BlobName) → s.alone ≡ true → at ≡ name → Stepped s old mid 0 (ReadStep (BeginTest name)) WasBegun → caller_of s mid ≡ caller_of s old
-    → Stepped s mid new 0 (ReadStep (CommitTest at)) WasDone → caller_of s new ≡ record (caller_of s mid) { committed = at ∷ (caller_of s mid).committed } → Wrote s old new name
-wrote_one s old mid new name at alone is begun kept done own = record {
+pub holds_text : (s : Start) (old mid : List Moment) (id : ℕ) (full : Option Bytes) → Drew s old id → caller_of s mid ≡ caller_of s old → Holds s full (id_text id) → HoldsText s (caller_of s mid) full
+holds_text s old mid id full drew same held = (id, ap (λ (c : Caller). c.drawn) same ∙ drew.is_open, held)
+
+pub wrote_one : (s : Start) (old mid new : List Moment) (name at : BlobName) (contents : Option Bytes) (bytes : Bytes) → s.alone ≡ true → at ≡ name → Holds s contents bytes → Stepped s old mid 0 (ReadStep (BeginTest name)) WasBegun → caller_of s mid ≡ caller_of s old
+    → Stepped s mid new 0 (ReadStep (CommitTest at)) WasDone → caller_of s new ≡ caller_wrote (caller_of s mid) at contents → Wrote s old new name bytes
+wrote_one s old mid new name at contents bytes alone is holds begun kept done own = record {
   went =
       went_on old mid new (record { step = ReadStep (BeginTest name); reply = WasBegun } ∷ []) (record { step = ReadStep (CommitTest name); reply = WasDone } ∷ [])
       (stepped_went s old mid (ReadStep (BeginTest name)) WasBegun alone begun)
       (stepped_went s mid new (ReadStep (CommitTest name)) WasDone alone (subst (λ (n : BlobName). Stepped s mid new 0 (ReadStep (CommitTest n)) WasDone) is done));
-  own = own ∙ ap (λ (n : BlobName). record (caller_of s mid) { committed = n ∷ (caller_of s mid).committed }) is ∙ ap (λ (c : Caller). record c { committed = name ∷ c.committed }) kept;
+  own = own ∙ ap (λ (n : BlobName). caller_wrote (caller_of s mid) n contents) is ∙ ap (caller_wrote (caller_of s mid) name) holds ∙ ap (λ (c : Caller). caller_wrote c name (told_bytes s bytes)) kept;
 }
 
-pub wrote_done : (s : Start) (old new : Caller) (id : ℕ) (written : List BlobName) (name : BlobName) → HasDone s old id written [] → new ≡ record old { committed = name ∷ old.committed } → HasDone s new id (written ++ name ∷ []) []
-wrote_done s old new id written name h is = subst (λ (c : Caller). HasDone s c id (written ++ name ∷ []) []) (sym is) (record {
+wrote_more : (s : Start) (old : Caller) (id : ℕ) (written : List BlobName) (name : BlobName) → HasDone s old id written [] → HasDone s (record old { committed = name ∷ old.committed }) id (written ++ name ∷ []) []
+wrote_more s old id written name h = record {
   drawn = h.drawn;
   committed = λ n has. ⊎_elim (λ (before : Has written n). inr (h.committed n before)) (λ (here : Has (name ∷ []) n). ⊎_elim (λ (same : name ≡ n). inl same) (λ none. absurd none) here) (has_either written (name ∷ []) n has);
   only = λ n has. ⊎_elim (λ (same : name ≡ n). subst (Has (written ++ name ∷ [])) same (has_last written name)) (λ (before : Has old.committed n). has_left written (name ∷ []) n (h.only n before)) has;
@@ -111,7 +120,16 @@ wrote_done s old new id written name h is = subst (λ (c : Caller). HasDone s c 
   found = h.found;
   read = h.read;
   unremoved = h.unremoved;
-})
+}
+
+-- what it held is noted beside, where the container tells
+done_beside : (s : Start) (old : Caller) (id : ℕ) (written : List BlobName) (name : BlobName) (contents : Option Bytes) → HasDone s (record old { committed = name ∷ old.committed }) id written [] → HasDone s (caller_wrote old name contents) id written []
+done_beside s old id written name None h = h
+done_beside s old id written name (Some bytes) h = record { drawn = h.drawn; committed = h.committed; only = h.only; once = h.once; found = h.found; read = h.read; unremoved = h.unremoved }
+
+pub wrote_done : (s : Start) (old new : Caller) (id : ℕ) (written : List BlobName) (name : BlobName) (contents : Option Bytes) → HasDone s old id written [] → new ≡ caller_wrote old name contents → HasDone s new id (written ++ name ∷ []) []
+wrote_done s old new id written name contents h is =
+    subst (λ (c : Caller). HasDone s c id (written ++ name ∷ []) []) (sym is) (done_beside s old id (written ++ name ∷ []) name contents (wrote_more s old id written name h))
 
 -- ---- a test blob is read
 

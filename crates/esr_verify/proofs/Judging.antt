@@ -14,7 +14,6 @@ use Rattle.esr_hash.specs.Prints.{print_of}
 use Rattle.esr_formats.specs.Formats.{formats}
 use Rattle.esr_formats.specs.Names.{name_of}
 use Rattle.esr_desk.specs.declared.entry.Why.{Why}
-use Rattle.esr_desk.specs.declared.entry.Why.TheVariants as whys
 use Rattle.esr_desk.specs.declared.refusal.StepRefusal.{StepRefusal}
 use Rattle.esr_desk.specs.declared.refusal.StepRefusal.TheVariants.{Memory}
 use Rattle.esr_desk.specs.Start.{Start, told_bytes}
@@ -118,7 +117,7 @@ module _ (s : Start) (old new : List Moment) (id : ℕ) (name : BlobName) (bytes
   }
 
 pub wanting : (s : Start) (log : List Moment) (refusal : StepRefusal) → refusal ≡ Memory → IsStepRefusal s log refusal
-wanting s log refusal is = subst (λ (r : StepRefusal). IsStepRefusal s log r) (sym is) (tt, tt)
+wanting s log refusal is = subst (λ (r : StepRefusal). IsStepRefusal s log r) (sym is) tt
 
 judged_why : (s : Start) (old new : List Moment) (id : ℕ) (name : CodeName) (bytes : Bytes) → Drew s new id → Has (caller_of s old).committed (name_of name) → Fetched s old new (name_of name) bytes
     → (why : Why) → HasOtherPrint id name bytes why ⊎ IsNoText id name bytes why → IsFound s new why

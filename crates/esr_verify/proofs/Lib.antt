@@ -1,8 +1,10 @@
 pub mod Listing
 pub mod Naming
+pub mod Living
 pub mod Going
 pub mod Refusing
 pub mod Doing
 pub mod Judging
 pub mod Failing
 pub mod Ending
+pub mod Beginning

@@ -3,22 +3,23 @@ use Rattle.std.specs.Prelude.{Result, Ok, Err}
 use Rattle.esr_desk.specs.declared.entry.Why.TheVariants as whys
 use Rattle.esr_desk.specs.declared.refusal.StepRefusal.{StepRefusal}
 use Rattle.esr_desk.specs.declared.refusal.StepRefusal.TheVariants as steps
-use Rattle.esr_desk.specs.declared.refusal.EntryRefusal.TheVariants.{DepotFault, NameTaken}
+use Rattle.esr_desk.specs.declared.refusal.EntryRefusal.TheVariants.{DepotFault, NameTaken, IdsSpent}
 use Rattle.esr_desk.specs.declared.fault.FailedObject.TheVariants as objects
 use Rattle.esr_desk.specs.declared.fault.By.TheVariants as shows
 use Rattle.esr_verify.specs.declared.cause.Cause.{Cause}
 use Rattle.esr_verify.specs.declared.trouble.Trouble.{Trouble}
 use Rattle.esr_verify.specs.declared.trouble.Trouble.TheVariants as troubles
 
--- a step in which the container failed, or whose name was taken, ends the verification; any other refusal leaves it open
+-- a step in which the container failed, whose name was taken, or which found no id left ends the verification; any other refusal stops it
 abbrev pub cause_refused : {S F H T : Type 0} → StepRefusal → Result (Cause S F H T) StepRefusal
 cause_refused steps.Memory = Err steps.Memory
 cause_refused steps.TurnsSpent = Err steps.TurnsSpent
 cause_refused (steps.Refused DepotFault) = Ok (record { why = whys.Depot; by = shows.Entry })
 cause_refused (steps.Refused (NameTaken name)) = Ok (record { why = whys.NameTaken name; by = shows.Entry })
+cause_refused (steps.Refused (IdsSpent next)) = Ok (record { why = whys.IdsSpent next; by = shows.Entry })
 cause_refused (steps.Refused refusal) = Err (steps.Refused refusal)
 
--- why a trouble ends the verification, with the object that failed, or the refusal that leaves it open
+-- why a trouble ends the verification, with the object that failed, or the refusal that stops it
 abbrev pub cause_by : {S F H T : Type 0} → Trouble S F → Result (Cause S F H T) StepRefusal
 cause_by (troubles.Step refusal) = cause_refused refusal
 cause_by (troubles.Stage stage) = Ok (record { why = whys.Depot; by = shows.Object (objects.Stage stage) })

@@ -4,7 +4,7 @@ use Rattle.esr_model.specs.Names.{BlobName}
 use Rattle.esr_model.specs.Values.{Bytes, Has}
 use Rattle.esr_core.specs.World.{Caller}
 use Rattle.esr_core.specs.Restores.{WasRead}
-use Rattle.esr_core.specs.After.{caller_told}
+use Rattle.esr_core.specs.After.{caller_told, caller_wrote}
 use Rattle.esr_core.specs.Entry.{Moment}
 use Rattle.esr_names.specs.IdText.{id_text}
 use Rattle.esr_desk.specs.Start.{Start, told_bytes}
@@ -23,10 +23,10 @@ pub record HasDone (s : Start) (c : Caller) (id : ℕ) (written fetched : List B
   pub read : (name : BlobName) → Has fetched name → s.tells ≡ true → WasRead c.read name (id_text id)
   pub unremoved : c.removed ≡ []
 
--- one test blob more is begun and committed
-pub record Wrote (s : Start) (old new : List Moment) (name : BlobName) : Type 0 where
+-- one test blob more is begun and committed, with these bytes
+pub record Wrote (s : Start) (old new : List Moment) (name : BlobName) (bytes : Bytes) : Type 0 where
   pub went : Went old new (writing (name ∷ []))
-  pub own : caller_of s new ≡ record (caller_of s old) { committed = name ∷ (caller_of s old).committed }
+  pub own : caller_of s new ≡ caller_wrote (caller_of s old) name (told_bytes s bytes)
 
 -- one test blob more is fetched and held these bytes
 pub record Fetched (s : Start) (old new : List Moment) (name : BlobName) (bytes : Bytes) : Type 0 where

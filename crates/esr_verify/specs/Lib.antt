@@ -1,3 +1,5 @@
+pub mod Law
+pub mod Began
 pub mod Steps
 pub mod Verified
 pub mod Refused
@@ -8,3 +10,4 @@ pub mod Done
 pub mod Ended
 pub mod Trouble
 pub mod Cause
+pub mod Fails

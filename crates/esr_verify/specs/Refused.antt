@@ -2,14 +2,18 @@
 use Rattle.std.specs.Prelude.{◌≡◌, List, [], ◌∷◌, ◌++◌, Option}
 use Rattle.esr_model.specs.Image.{Image}
 use Rattle.esr_core.specs.World.{no_caller}
-use Rattle.esr_core.specs.Entry.{ReadStep, ReadFails, HasEnded, Moment}
+use Rattle.esr_core.specs.Entry.{ReadStep, DrawTest, ReadFails, HasEnded, Refused, DeposedAt, Moment}
 use Rattle.esr_desk.specs.declared.entry.Why.{Why}
 use Rattle.esr_desk.specs.declared.fault.By.{By}
 use Rattle.esr_desk.specs.declared.unit.UnitRefusal.{UnitRefusal}
 use Rattle.esr_desk.specs.declared.unit.UnitRefusal.TheVariants as units
+use Rattle.esr_desk.specs.declared.refusal.EntryRefusal.TheVariants as refusals
+use Rattle.esr_desk.specs.declared.refusal.StepRefusal.{StepRefusal}
+use Rattle.esr_desk.specs.declared.refusal.StepRefusal.TheVariants as steps
 use Rattle.esr_desk.specs.Entries.{why_of}
 use Rattle.esr_desk.specs.Start.{Start}
-use Rattle.esr_desk.specs.Last.{IsRefusal}
+use Rattle.esr_desk.specs.Outcome.{Spends}
+use Rattle.esr_desk.specs.Last.{IsLast}
 use Rattle.esr_checking.specs.Caller.{caller_of}
 use Rattle.esr_checking.specs.Shown.{Counts, IsShown}
 
@@ -21,7 +25,15 @@ pub record HasFailed {S F : Type 0} (c : Counts S F) (s : Start) (log : List Mom
   pub by : By S F ⊥ ⊥
   pub shown : IsShown c s front (caller_of s front) (why_of why) by
 
--- it has failed and ended, with the cause; or its last step was refused
-abbrev pub IsVerifyRefused : {S F : Type 0} → Counts S F → Start → List Moment → UnitRefusal → Type 0
-IsVerifyRefused c s new (units.Failed why) = (caller_of s new ≡ no_caller) × HasFailed c s new why
-IsVerifyRefused c s new (units.Stopped refusal) = IsRefusal s new 0 refusal
+-- Memory was wanting, or turns were spent; or its draw, the last step, was refused since a record swap had failed, and nothing was
+-- begun. For no other refusal it stops.
+abbrev pub StopsVerify : Start → List Moment → List Moment → StepRefusal → Type 0
+StopsVerify s old new steps.Memory = Unit {0}
+StopsVerify s old new steps.TurnsSpent = Spends s new steps.TurnsSpent
+StopsVerify s old new (steps.Refused (refusals.Deposed entry)) = IsLast new 0 (ReadStep DrawTest) (Refused (DeposedAt entry)) × (caller_of s new ≡ caller_of s old)
+StopsVerify s old new (steps.Refused refusal) = ⊥
+
+-- it has failed and ended, with the cause; or it stops, for nothing that is its own failure
+abbrev pub IsVerifyRefused : {S F : Type 0} → Counts S F → Start → List Moment → List Moment → UnitRefusal → Type 0
+IsVerifyRefused c s old new (units.Failed why) = (caller_of s new ≡ no_caller) × HasFailed c s new why
+IsVerifyRefused c s old new (units.Stopped refusal) = StopsVerify s old new refusal

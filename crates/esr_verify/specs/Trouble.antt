@@ -1,32 +1,32 @@
 -- What shows a trouble.
-use Rattle.std.specs.Prelude.{◌≡◌, ◌⊎◌, ◌≤◌, ◌^◌, ℕ, List, length, Option, Some, None}
+use Rattle.std.specs.Prelude.{◌≡◌, ◌⊎◌, ◌≤◌, ◌^◌, ℕ, List, length}
 use Rattle.esr_model.specs.Values.{Bytes}
-use Rattle.esr_core.specs.Entry.{Step, Refused, Refusal, Moment}
+use Rattle.esr_core.specs.Entry.{Step, Refused, NameTaken, Moment}
 use Rattle.esr_hash.specs.Prints.{print_of}
 use Rattle.esr_names.specs.IdText.{id_text}
 use Rattle.esr_names.specs.declared.blob.BlobName.{BlobName}
 use Rattle.esr_formats.specs.Names.{name_of}
 use Rattle.esr_desk.specs.declared.entry.Why.{Why}
 use Rattle.esr_desk.specs.declared.entry.Why.TheVariants as whys
+use Rattle.esr_desk.specs.declared.refusal.EntryRefusal.TheVariants as refusals
 use Rattle.esr_desk.specs.declared.refusal.StepRefusal.{StepRefusal}
-use Rattle.esr_desk.specs.Refusals.{told_refusal}
+use Rattle.esr_desk.specs.declared.refusal.StepRefusal.TheVariants as steps
 use Rattle.esr_desk.specs.Start.{Start}
 use Rattle.esr_desk.specs.Outcome.{Spends}
-use Rattle.esr_desk.specs.Last.{IsLast}
 use Rattle.esr_desk.specs.Shown.{Faulty}
 use Rattle.esr_checking.specs.Caller.{caller_of}
-use Rattle.esr_checking.specs.Shown.{HadReply, IsDamaged, IsMisprinted}
+use Rattle.esr_checking.specs.Shown.{HadReply, HadFault, IsDamaged, IsMisprinted}
 use Rattle.esr_verify.specs.declared.trouble.Trouble.{Trouble}
 use Rattle.esr_verify.specs.declared.trouble.Trouble.TheVariants as troubles
 
--- the last step, made after the id was drawn, was refused so, if the history tells it
-abbrev pub WasStepRefused : Start → List Moment → Option Refusal → Type 0
-WasStepRefused s log None = Unit {0}
-WasStepRefused s log (Some refusal) = (step : Step) × IsLast log 0 step (Refused refusal) × HadReply log (caller_of s log) step (Refused refusal)
-
--- the same, or memory was wanting, or turns were spent
+-- A step after the draw was refused, which shows why the verification fails: the container failed in it, or its name was taken. Or
+-- memory was wanting, or turns were spent. For nothing else such a step is refused.
 abbrev pub IsStepRefusal : Start → List Moment → StepRefusal → Type 0
-IsStepRefusal s log e = WasStepRefused s log (told_refusal e) × Spends s log e
+IsStepRefusal s log steps.Memory = Unit {0}
+IsStepRefusal s log steps.TurnsSpent = Spends s log steps.TurnsSpent
+IsStepRefusal s log (steps.Refused refusals.DepotFault) = HadFault log (caller_of s log)
+IsStepRefusal s log (steps.Refused (refusals.NameTaken name)) = (step : Step) × HadReply log (caller_of s log) step (Refused (NameTaken (name_of name)))
+IsStepRefusal s log (steps.Refused refusal) = ⊥
 
 -- a test blob is absent, or holds something else than the text of its id
 abbrev pub IsFound : Start → List Moment → Why → Type 0
@@ -34,7 +34,7 @@ IsFound s log (whys.Damaged name) = IsDamaged s log (caller_of s log) (name_of n
 IsFound s log (whys.Misprinted name stated found) = IsMisprinted s (caller_of s log) (name_of name) stated.len stated.sha256 found.len found.sha256
 IsFound s log why = ⊥
 
--- The last step was refused; or a stage or a fetch has failed, and the container isn't quiet; or what was read shows it.
+-- A step was refused; or a stage or a fetch has failed, and the container isn't quiet; or what was read shows it.
 abbrev pub Shown : {S F : Type 0} → (S → ℕ) → (F → ℕ) → Start → List Moment → Trouble S F → Type 0
 Shown stage_faults fetch_faults s log (troubles.Step refusal) = IsStepRefusal s log refusal
 Shown stage_faults fetch_faults s log (troubles.Stage stage) = Faulty s (stage_faults stage)

@@ -13,7 +13,7 @@ pub struct Cause<S, F, H, T> {
     pub by: By<S, F, H, T>,
 }
 
-/// Why a trouble ends the verification, or the refusal that leaves it open. An object that failed is handed over.
+/// Why a trouble ends the verification, or the refusal that stops it. An object that failed is handed over.
 pub fn cause_of<S: Drop, F: Drop, H: Drop, T: Drop>(
     trouble: Trouble<S, F>,
 ) -> Result<Cause<S, F, H, T>, StepRefusal>
@@ -23,6 +23,9 @@ pub fn cause_of<S: Drop, F: Drop, H: Drop, T: Drop>(
         Trouble::Step(StepRefusal::Refused(EntryRefusal::DepotFault)) => (Why::Depot, By::Entry),
         Trouble::Step(StepRefusal::Refused(EntryRefusal::NameTaken { name })) => {
             (Why::NameTaken { name }, By::Entry)
+        }
+        Trouble::Step(StepRefusal::Refused(EntryRefusal::IdsSpent { next })) => {
+            (Why::IdsSpent { next }, By::Entry)
         }
         Trouble::Step(refusal) => return Err(refusal),
         Trouble::Stage { stage } => {

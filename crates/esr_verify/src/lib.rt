@@ -2,6 +2,7 @@
 #![tactic(auto)]
 
 mod cause;
+mod law;
 mod names;
 mod read;
 mod trouble;

@@ -12,6 +12,7 @@ ghost use Rattle.esr_verify.specs.Went.{Went, Drew, Kept};
 ghost use Rattle.esr_verify.specs.Done.{HasDone, Fetched};
 ghost use Rattle.esr_verify.specs.Trouble.{Shown, Judged};
 
+use crate::law::laws;
 use crate::trouble::Trouble;
 use esr_checking::VerifyDesk;
 use esr_depot::CallError;
@@ -39,6 +40,7 @@ fn fetch_bytes<Q: VerifyDesk>(
     ensures trouble { IfErr result (Shown Q.Stage.faults Q.Fetch.faults Q.start (Q.seen desk.new)) }
     ensures kept { Kept Q.start (Q.seen desk.old) (Q.seen desk.new) id.number }
 {
+    laws();
     let mut blob = match desk.fetch_test(alloc, name)? {
         Some(blob) => blob,
         None => {

@@ -2,6 +2,7 @@
 ghost use Rattle.std.specs.Prelude.{◌≡◌, [], map, true, IfErr, OnOk};
 ghost use Rattle.esr_model.specs.Values.{Has};
 ghost use Rattle.esr_core.specs.Restores.{IsTestOf};
+ghost use Rattle.esr_names.specs.IdText.{id_text};
 ghost use Rattle.esr_names.specs.Layout.{IsName};
 ghost use Rattle.esr_formats.specs.Names.{name_of};
 ghost use Rattle.esr_checking.specs.Caller.{caller_of};
@@ -11,6 +12,7 @@ ghost use Rattle.esr_verify.specs.Went.{Went, Drew, Kept};
 ghost use Rattle.esr_verify.specs.Done.{HasDone, Wrote};
 ghost use Rattle.esr_verify.specs.Trouble.{Shown};
 
+use crate::law::laws;
 use crate::trouble::Trouble;
 use esr_checking::VerifyDesk;
 use esr_depot::Stage;
@@ -31,10 +33,11 @@ fn write_test<Q: VerifyDesk>(
     requires own { IsTestOf id.number (name_of name) }
     requires once { Has (caller_of Q.start (Q.seen desk.old)).committed (name_of name) → ⊥ }
     requires drew { Drew Q.start (Q.seen desk.old) id.number }
-    ensures wrote { OnOk result (Wrote Q.start (Q.seen desk.old) (Q.seen desk.new) (name_of name)) }
+    ensures wrote { OnOk result (Wrote Q.start (Q.seen desk.old) (Q.seen desk.new) (name_of name) (id_text id.number)) }
     ensures trouble { IfErr result (Shown Q.Stage.faults Q.Fetch.faults Q.start (Q.seen desk.new)) }
     ensures kept { Kept Q.start (Q.seen desk.old) (Q.seen desk.new) id.number }
 {
+    laws();
     let text = id_text(id);
     let mut named = desk.begin_test(alloc, name, text.len())?;
     if named.stage.write(&text).is_err() {

@@ -1,6 +1,7 @@
 use Rattle.esr_drive.proofs.Resting.{is_some}
 use Rattle.esr_drive.proofs.Targets.{no_targets}
 use Rattle.esr_drive.proofs.Filling.{filled_over, filled_target, failed_none, stopped_none}
+use Rattle.esr_drive.proofs.Halting.{restore_halted}
 use Rattle.esr_drive.proofs.unit.do_restore.Goals as goal
 
 pub returns-in-Ok-clause-over : goal.returns-in-Ok-clause-over
@@ -44,3 +45,9 @@ returns-clause-restored g c = λ alone.
     (record { made_for = g.Q.Target.Target.made_for; files = g.Q.Target.Target.files; is_sure = g.Q.Target.Target.is_sure; are_told = g.T.Targets.is_told c.args.targets.now; are_quiet = g.T.Targets.is_quiet c.args.targets.now }) s old new
     (stopped_none c.laws.ensures s c.requires.tracked c.requires.ops ready old new c.requires.legal (is_some ready.ticket c.requires.some) c.requires.fresh alone c.run_unit.ensures.grew
     (record { fetch = g.Q.Fetch.Counted.faults; target = g.Q.Target.Counted.faults; made_for = g.Q.Target.Target.made_for }) c.in-Err-Stopped.field-0 c.in-Err-Stopped.ensures.refused c.in-Err-Stopped.stop c.in-Err-Stopped.field-0-is)
+
+pub returns-clause-stopped : goal.returns-clause-stopped
+returns-clause-stopped g c =
+    let stopped = c.in-Err-Stopped in
+    restore_halted (record { fetch = g.Q.Fetch.Counted.faults; target = g.Q.Target.Counted.faults; made_for = g.Q.Target.Target.made_for }) g.Q.Desk.start (g.Q.Desk.seen c.args.desk.now) (g.Q.Desk.seen c.run_unit.new.desk) c.args.unit.ready.ticket
+    stopped.field-0 stopped.stop stopped.field-0-is stopped.ensures.refused

@@ -4,12 +4,14 @@ use Rattle.esr_progress.specs.Units.{given_of}
 use Rattle.esr_desk.specs.Outcome.{take_reply}
 use Rattle.esr_desk.specs.Refusals.{told_refusal}
 use Rattle.esr_quiet.specs.Asking.{asking_none, asking_on, asking_by, asking_stepped, asking_taking}
-use Rattle.esr_drive.proofs.Going.{took_none, took_some, take_stopped, unit_stopped}
+use Rattle.esr_drive.proofs.Going.{took_none, took_some}
+use Rattle.esr_drive.proofs.Halting.{take_stopped, unit_stopped}
 use Rattle.esr_drive.specs.Restored.{Telling}
 use Rattle.esr_drive.specs.Filled.{filled_of}
 use Rattle.esr_drive.proofs.Resting.{given_least, given_some, nothing_rest, unit_rest, nothing_readers, unit_readers}
 use Rattle.esr_drive.proofs.Targets.{targets_none, targets_on, targets_stay, targets_taken, targets_refused, targets_as, items_on}
 use Rattle.esr_drive.proofs.Rounds.{round_longer}
+use Rattle.esr_drive.proofs.Works.{works_none, works_on, works_by, works_took, works_refused}
 use Rattle.esr_drive.proofs.worker.work_all.Goals as goal
 
 pub loop-round-init : goal.loop-round-init
@@ -20,6 +22,7 @@ loop-round-init g c =
       rest = λ alone rest. rest;
       readers = λ alone rest. rest;
       restored = λ alone. targets_as telling g.Q.Desk.start (g.Q.Desk.seen c.args.desk.now) (g.Q.Desk.seen c.args.desk.now) [] c.args.restored.now.items c.requires.none (targets_none telling g.Q.Desk.start (g.Q.Desk.seen c.args.desk.now));
+      only = λ alone. works_none (g.Q.Desk.seen c.args.desk.now);
       rounds = omega arith;
     }
 
@@ -144,6 +147,7 @@ loop-round-preserved g c =
       readers = λ alone rest. unit_readers c.laws.ensures s c.requires.numbered alone mid took new unit.ready.ticket unit.ready.op (given_of unit.ready) gave c.do_next.ensures.grew (c.in-Ok.ensures.over alone) (inv.readers alone rest);
       restored = λ alone. targets_as telling s old new (c.loop-round.restored.items ++ filled_of c.in-Ok.target) c.keep.new.restored.items items (targets_on telling s old mid new c.loop-round.restored.items (filled_of c.in-Ok.target) (inv.restored alone)
           (targets_on telling s mid took new [] (filled_of c.in-Ok.target) (targets_taken telling s mid took (Gave unit.ready.ticket unit.ready.op (given_of unit.ready)) alone gave) (c.in-Ok.ensures.restored alone)));
+      only = λ alone. works_on old mid new (inv.only alone) (works_on mid took new (works_took s mid took (Gave unit.ready.ticket unit.ready.op (given_of unit.ready)) alone gave) (works_by s unit.ready.ticket took new alone some c.do_next.ensures.grew));
       rounds = omega (arith, longer, rounds);
     }
 
@@ -155,3 +159,33 @@ returns-clause-restored g c = c.loop-round.invariant.restored
 
 pub returns-clause-stopped : goal.returns-clause-stopped
 returns-clause-stopped g c = let rounds : c.loop-round._round ≤ length (g.Q.Desk.seen c.loop-round.desk) = c.loop-round.invariant.rounds in λ alone. omega (arith, rounds)
+
+pub returns-then-is_err-clause-only : goal.returns-then-is_err-clause-only
+returns-then-is_err-clause-only g c = c.loop-round.invariant.only
+
+pub returns-in-Ok-None-clause-only : goal.returns-in-Ok-None-clause-only
+returns-in-Ok-None-clause-only g c alone =
+    let s = g.Q.Desk.start in
+    let mid = g.Q.Desk.seen c.loop-round.desk in
+    let new = g.Q.Desk.seen c.take.new.self in
+    works_on (g.Q.Desk.seen c.args.desk.now) mid new (c.loop-round.invariant.only alone) (works_took s mid new NothingReady alone (took_none s mid new c.in-Ok-None.field-0 c.in-Ok-None.field-0-is c.in-Ok-None.ensures.step))
+
+pub returns-in-Err-clause-only : goal.returns-in-Err-clause-only
+returns-in-Err-clause-only g c alone =
+    let mid = g.Q.Desk.seen c.loop-round.desk in
+    let new = g.Q.Desk.seen c.take.new.self in
+    works_on (g.Q.Desk.seen c.args.desk.now) mid new (c.loop-round.invariant.only alone) (works_refused g.Q.Desk.start mid new (told_refusal c.in-Err.refusal) alone c.in-Err.ensures.step.0)
+
+pub returns-in-Err-do_next-clause-only : goal.returns-in-Err-do_next-clause-only
+returns-in-Err-do_next-clause-only g c alone =
+    let s = g.Q.Desk.start in
+    let mid = g.Q.Desk.seen c.loop-round.desk in
+    let took = g.Q.Desk.seen c.take.new.self in
+    let new = g.Q.Desk.seen c.do_next.new.desk in
+    let unit = c.in-Ok-Some.unit in
+    let gave = took_some s mid took c.in-Ok-Some.field-0 unit c.in-Ok-Some.field-0-is c.in-Ok-Some.ensures.step in
+    let some = given_some c.laws.ensures s mid took unit.ready.ticket unit.ready.op (given_of unit.ready) c.requires.numbered gave in
+    works_on (g.Q.Desk.seen c.args.desk.now) mid new (c.loop-round.invariant.only alone) (works_on mid took new (works_took s mid took (Gave unit.ready.ticket unit.ready.op (given_of unit.ready)) alone gave) (works_by s unit.ready.ticket took new alone some c.do_next.ensures.grew))
+
+pub returns-clause-only : goal.returns-clause-only
+returns-clause-only g c = c.loop-round.invariant.only

@@ -1,4 +1,4 @@
-use Rattle.std.proofs.Common.{◌≡◌, ◌+◌, ◌*◌, ◌<◌, ◌≤◌, ◌^◌, true, false, ◌&&◌, refl, sym, ◌∙◌, subst, arith}
+use Rattle.std.proofs.Common.{◌≡◌, ◌+◌, ◌*◌, ◌<◌, ◌≤◌, ◌^◌, ◌&&◌, refl, sym, ◌∙◌, subst, arith}
 use Rattle.esr_names.specs.declared.blob.BlobName.{BlobName as CodeName}
 use Rattle.esr_names.specs.Layout.{IsName}
 use Rattle.esr_formats.specs.Names.{name_of}

@@ -3,7 +3,7 @@ use Rattle.esr_core.specs.Entry.{ReadFails, HasEnded}
 use Rattle.esr_desk.specs.Entries.{why_of}
 use Rattle.esr_desk.specs.Grew.{grew_by_none}
 use Rattle.esr_desk.specs.Readers.{reader_of}
-use Rattle.esr_restore.proofs.Going.{worked_none, worked_same, outcome_grew, step_refusal}
+use Rattle.esr_restore.proofs.Going.{worked_none, worked_same, outcome_grew, end_refusal}
 use Rattle.esr_restore.proofs.Ending.{cause_shown, stopped, has_failed}
 use Rattle.esr_restore.proofs.unit.fail.Goals as goal
 
@@ -37,7 +37,7 @@ returns-in-Err-unrestored-clause-refused g c =
     let old = g.Q.Desk.seen c.args.desk.now in
     let new = g.Q.Desk.seen c.unrestored.new.self in (
       worked_same (reader_of s old who) (reader_of s new who) c.in-Err-unrestored.ensures.kept,
-      step_refusal s old new who (ReadFails (why_of c.in-Ok.cause.why)) c.in-Err-unrestored.refusal c.in-Err-unrestored.ensures.step,
+      end_refusal s old new who (ReadFails (why_of c.in-Ok.cause.why)) c.in-Err-unrestored.refusal (λ r. c.refusals.ensures.unrestored s old new who (why_of c.in-Ok.cause.why) r) c.in-Err-unrestored.ensures.step,
     )
 
 pub returns-in-Err-unrestored-clause-grew : goal.returns-in-Err-unrestored-clause-grew

@@ -7,7 +7,7 @@ use Rattle.esr_desk.specs.Grew.{grew_by_none, grew_by_on}
 use Rattle.esr_desk.specs.Readers.{reader_of}
 use Rattle.esr_restore.specs.Files.{sum_files}
 use Rattle.esr_restore.specs.Refused.{IsUnitRefused}
-use Rattle.esr_restore.proofs.Going.{outcome_grew, worked_none, worked_same, worked_on, step_refusal, went_at, passed}
+use Rattle.esr_restore.proofs.Going.{outcome_grew, worked_none, worked_same, worked_on, end_refusal, went_at, passed}
 use Rattle.esr_restore.proofs.Ending.{unit_refused_on}
 use Rattle.esr_restore.proofs.Finishing.{has_files, has_restored, took_fresh, took_at, took_of, none_yet, are_told}
 use Rattle.esr_restore.proofs.unit.run_unit.Goals as goal
@@ -16,7 +16,7 @@ pub returns-in-Err-clause-grew : goal.returns-in-Err-clause-grew
 returns-in-Err-clause-grew g c = grew_by_none g.Q.Desk.start c.args.unit.now.ready.ticket (g.Q.Desk.seen c.args.desk.now)
 
 pub returns-in-Err-clause-refused : goal.returns-in-Err-clause-refused
-returns-in-Err-clause-refused g c = (worked_none (reader_of g.Q.Desk.start (g.Q.Desk.seen c.args.desk.now) c.args.unit.now.ready.ticket), (tt, tt))
+returns-in-Err-clause-refused g c = (worked_none (reader_of g.Q.Desk.start (g.Q.Desk.seen c.args.desk.now) c.args.unit.now.ready.ticket), tt)
 
 pub restore-requires-clause-at : goal.restore-requires-clause-at
 restore-requires-clause-at g c κs within =
@@ -75,7 +75,8 @@ returns-in_err-finish-in-Ok-restore-clause-refused g c =
     let refusal = failed.field-0.0 in
     passed c.from_residual.result (IsUnitRefused (record { fetch = g.Q.Fetch.Counted.faults; target = g.Q.Target.Counted.faults; made_for = g.Q.Target.Target.made_for }) s old new who) (Stopped refusal) c.from_residual.ensures.1 (
       worked_on (reader_of s old who) (reader_of s mid who) (reader_of s new who) c.restore.ensures.went.worked (worked_same (reader_of s mid who) (reader_of s new who) failed.ensures.kept),
-      step_refusal s mid new who (RestoredShard (length c.in-Ok-restore.snap.files) (sum_files c.in-Ok-restore.snap.files)) refusal failed.ensures.step,
+      end_refusal s mid new who (RestoredShard (length c.in-Ok-restore.snap.files) (sum_files c.in-Ok-restore.snap.files)) refusal
+          (λ r. c.refusals.ensures.restored s mid new who (length c.in-Ok-restore.snap.files) (sum_files c.in-Ok-restore.snap.files) r) failed.ensures.step,
     )
 
 pub returns-in_ok-finish-in-Ok-restore-clause-ok : goal.returns-in_ok-finish-in-Ok-restore-clause-ok

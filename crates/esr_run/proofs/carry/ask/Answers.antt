@@ -1,8 +1,10 @@
-use Rattle.std.proofs.Common.{sym, subst, refl, Ok, Err, inl}
-use Rattle.esr_core.specs.Entry.{AskStep, Accepted}
+use Rattle.std.proofs.Common.{[], ◌∷◌, sym, subst, refl, Ok, Err, inl}
+use Rattle.esr_core.specs.Entry.{Asked, AskStep, Accepted}
 use Rattle.esr_progress.specs.Asked.{asked_of, IsAskable}
 use Rattle.esr_run.proofs.Asking.{askable}
-use Rattle.esr_run.proofs.Making.{rests_by, accepted_none}
+use Rattle.esr_run.proofs.Making.{rests_by, made_refused, spent_by, accepted_none}
+use Rattle.esr_run.specs.Made.{LineMade}
+use Rattle.esr_run.proofs.Verifying.{none_asked, line_verifies}
 use Rattle.esr_run.proofs.carry.ask.Goals as goal
 
 pub ask-requires : goal.ask-requires
@@ -15,3 +17,22 @@ returns-in-Ok-ask-clause-rests g c alone was =
 pub returns-clause-rests : goal.returns-clause-rests
 returns-clause-rests g c alone was =
     rests_by c.steps_stay.ensures g.Q.Desk.start c.requires.numbered c.requires.ops alone (g.Q.Desk.seen c.args.desk.now) (g.Q.Desk.seen c.ask.new.self) (AskStep (asked_of c.in-Ok.command)) (λ op. Accepted op) (Err c.in-Err.refusal) (inl (asked_of c.in-Ok.command, refl)) accepted_none c.in-Err.ensures was
+
+pub returns-in-Ok-ask-clause-verified : goal.returns-in-Ok-ask-clause-verified
+returns-in-Ok-ask-clause-verified g c workers alone may =
+    line_verifies g.Q.Desk.start workers (g.Q.Desk.seen c.args.desk.now) (g.Q.Desk.seen c.ask.new.self) (AskStep (asked_of c.in-Ok.command)) (λ op. Accepted op) (Ok c.in-Ok-ask.field-0) (inl (asked_of c.in-Ok.command, refl)) alone c.in-Ok-ask.ensures may
+
+pub returns-clause-verified : goal.returns-clause-verified
+returns-clause-verified g c workers alone may =
+    line_verifies g.Q.Desk.start workers (g.Q.Desk.seen c.args.desk.now) (g.Q.Desk.seen c.ask.new.self) (AskStep (asked_of c.in-Ok.command)) (λ op. Accepted op) (Err c.in-Err.refusal) (inl (asked_of c.in-Ok.command, refl)) alone c.in-Err.ensures may
+
+pub returns-in_default-clause-made : goal.returns-in_default-clause-made
+returns-in_default-clause-made g c = none_asked g.Q.Desk.start _ (g.Q.Desk.seen c.args.desk.now) (g.Q.Desk.seen c.args.desk.now) refl
+
+pub returns-clause-made : goal.returns-clause-made
+returns-clause-made g c =
+    subst (λ (command : Asked). LineMade {X = Unit} g.Q.Desk.start (AskStep command ∷ []) (g.Q.Desk.seen c.args.desk.now) (g.Q.Desk.seen c.ask.new.self) (Err c.in-Err.refusal)) c.in-Ok.ensures
+    (made_refused g.Q.Desk.start (g.Q.Desk.seen c.args.desk.now) (g.Q.Desk.seen c.ask.new.self) (AskStep (asked_of c.in-Ok.command)) c.in-Err.refusal refl c.in-Err.ensures.0)
+
+pub returns-clause-spent : goal.returns-clause-spent
+returns-clause-spent g c alone = spent_by g.Q.Desk.start (g.Q.Desk.seen c.args.desk.now) (g.Q.Desk.seen c.ask.new.self) (AskStep (asked_of c.in-Ok.command)) (λ op. Accepted op) (Err c.in-Err.refusal) alone c.in-Err.ensures

@@ -1,11 +1,12 @@
-use Rattle.std.proofs.Common.{inl, inr}
+use Rattle.std.proofs.Common.{Err, inl, inr}
 use Rattle.esr_complete.specs.Lines.{steps_of_item}
 use Rattle.esr_run.proofs.Filling.{fills_same, fills_on, fills_spent, fills_refused}
-use Rattle.esr_run.proofs.Making.{front_none, front_made, front_all, front_step, good_next, none_left, made_stopped, turns_stopped, refused_line, ended_refused, as_refused, rests_refused, as_spent, rests_spent}
+use Rattle.esr_run.proofs.Making.{front_none, front_made, front_all, front_step, good_next, none_left, asks_first, made_stopped, spent_turns, refused_line, ended_refused, as_refused, rests_refused}
+use Rattle.esr_run.proofs.Verifying.{refused_may, verified_whole}
 use Rattle.esr_run.proofs.carry.carry_lines.Goals as goal
 
 pub loop-left-init : goal.loop-left-init
-loop-left-init g c = record { front = front_none g.Q.Desk.start c.args.moment c.args.lines.now (g.Q.Desk.seen c.args.desk.now); good = c.requires.carried; filled = λ alone. fills_same _ g.Q.Desk.start (g.Q.Desk.seen c.args.desk.now) c.args.filled.now.items }
+loop-left-init g c = record { front = front_none g.Q.Desk.start c.args.moment c.args.lines.now (g.Q.Desk.seen c.args.desk.now); good = c.requires.carried; filled = λ alone. fills_same _ g.Q.Desk.start (g.Q.Desk.seen c.args.desk.now) c.args.filled.now.items; may = c.requires.may }
 
 pub loop-left-preserved-in-Ok : goal.loop-left-preserved-in-Ok
 loop-left-preserved-in-Ok g c =
@@ -19,6 +20,7 @@ loop-left-preserved-in-Ok g c =
           (λ alone none. inl (c.in-Ok.ensures.rests alone none, λ wait. c.in-Ok.ensures.ended wait alone));
       good = good_next c.loop-left.left.now inv.good;
       filled = λ alone. fills_on _ s old mid new c.args.filled.now.items c.loop-left.filled.items c.carry_line.new.filled.items (inv.filled alone) (c.in-Ok.ensures.filled alone);
+      may = c.in-Ok.ensures.verified;
     }
 
 pub loop-left-preserved : goal.loop-left-preserved
@@ -38,27 +40,21 @@ loop-left-preserved g c =
       good = good_next c.loop-left.left.now inv.good;
       filled = λ alone. fills_on _ s old mid new c.args.filled.now.items c.loop-left.filled.items c.carry_line.new.filled.items (inv.filled alone)
           (fills_refused _ s mid new c.loop-left.filled.items c.carry_line.new.filled.items c.in-Err-Refused.field-0 c.in-Err-Refused.field-0-0 c.in-Err-Refused.field-0-is (c.in-Err-Refused.ensures.filled alone));
+      may = refused_may s c.args.workers new c.in-Err-Refused.field-0 c.in-Err-Refused.field-0-0 c.in-Err-Refused.field-0-is c.in-Err-Refused.ensures.verified;
     }
 
 pub returns-in-Err-Memory-clause-made : goal.returns-in-Err-Memory-clause-made
 returns-in-Err-Memory-clause-made g c =
     made_stopped g.Q.Desk.start c.args.moment c.loop-left.left.now c.args.lines.now (steps_of_item c.args.moment c.line-item.result.item) (g.Q.Desk.seen c.args.desk.now) (g.Q.Desk.seen c.loop-left.desk) (g.Q.Desk.seen c.carry_line.new.desk)
-    c.in-Err-Memory.field-0 c.loop-left.invariant.front c.in-Err-Memory.ensures.made (inl c.in-Err-Memory.field-0-is)
+    c.in-Err-Memory.field-0 (asks_first c.args.moment c.line-item.result c.loop-left.left.now c.in-len1-up.len_at_least c.line-item.is) c.loop-left.invariant.front c.in-Err-Memory.ensures.made (inl c.in-Err-Memory.field-0-is)
 
 pub returns-in-Err-TurnsSpent-clause-made : goal.returns-in-Err-TurnsSpent-clause-made
 returns-in-Err-TurnsSpent-clause-made g c =
     made_stopped g.Q.Desk.start c.args.moment c.loop-left.left.now c.args.lines.now (steps_of_item c.args.moment c.line-item.result.item) (g.Q.Desk.seen c.args.desk.now) (g.Q.Desk.seen c.loop-left.desk) (g.Q.Desk.seen c.carry_line.new.desk)
-    c.in-Err-TurnsSpent.field-0 c.loop-left.invariant.front c.in-Err-TurnsSpent.ensures.made (inr c.in-Err-TurnsSpent.field-0-is)
+    c.in-Err-TurnsSpent.field-0 (asks_first c.args.moment c.line-item.result c.loop-left.left.now c.in-len1-up.len_at_least c.line-item.is) c.loop-left.invariant.front c.in-Err-TurnsSpent.ensures.made (inr c.in-Err-TurnsSpent.field-0-is)
 
 pub returns-in-Err-TurnsSpent-clause-rests : goal.returns-in-Err-TurnsSpent-clause-rests
-returns-in-Err-TurnsSpent-clause-rests g c alone none =
-    let s = g.Q.Desk.start in
-    let mid = g.Q.Desk.seen c.loop-left.desk in
-    let new = g.Q.Desk.seen c.carry_line.new.desk in
-    let wanted = steps_of_item c.args.moment c.line-item.result.item in
-    turns_stopped s c.args.moment wanted c.loop-left.left.now c.args.lines.now (g.Q.Desk.seen c.args.desk.now) mid new c.loop-left.invariant.front
-    (as_spent s wanted mid new c.in-Err-TurnsSpent.field-0 c.in-Err-TurnsSpent.field-0-is c.in-Err-TurnsSpent.ensures.made)
-    (λ yes out. rests_spent s new c.in-Err-TurnsSpent.field-0 c.in-Err-TurnsSpent.field-0-is (c.in-Err-TurnsSpent.ensures.rests yes out)) alone none
+returns-in-Err-TurnsSpent-clause-rests g c alone none = inr (inr (spent_turns (g.Q.Desk.seen c.carry_line.new.desk) c.in-Err-TurnsSpent.field-0 c.in-Err-TurnsSpent.field-0-is (c.in-Err-TurnsSpent.ensures.spent alone)))
 
 pub returns-clause-made : goal.returns-clause-made
 returns-clause-made g c = front_made g.Q.Desk.start c.args.moment c.loop-left.left.now c.args.lines.now (g.Q.Desk.seen c.args.desk.now) (g.Q.Desk.seen c.loop-left.desk) c.loop-left.invariant.front
@@ -66,10 +62,19 @@ returns-clause-made g c = front_made g.Q.Desk.start c.args.moment c.loop-left.le
 pub returns-clause-rests : goal.returns-clause-rests
 returns-clause-rests g c alone none =
     front_all g.Q.Desk.start c.args.moment c.loop-left.left.now c.args.lines.now (g.Q.Desk.seen c.args.desk.now) (g.Q.Desk.seen c.loop-left.desk) (none_left c.loop-left.left.now c.in_default.len_below)
-    c.loop-left.invariant.front alone none
+    c.loop-left.invariant.front c.loop-left.invariant.may.idle alone none
 
 pub returns-in-Err-TurnsSpent-clause-filled : goal.returns-in-Err-TurnsSpent-clause-filled
 returns-in-Err-TurnsSpent-clause-filled g c alone =
     let s = g.Q.Desk.start in
     fills_on _ s (g.Q.Desk.seen c.args.desk.now) (g.Q.Desk.seen c.loop-left.desk) (g.Q.Desk.seen c.carry_line.new.desk) c.args.filled.now.items c.loop-left.filled.items c.carry_line.new.filled.items (c.loop-left.invariant.filled alone)
     (fills_spent _ s (g.Q.Desk.seen c.loop-left.desk) (g.Q.Desk.seen c.carry_line.new.desk) c.loop-left.filled.items c.carry_line.new.filled.items c.in-Err-TurnsSpent.field-0 c.in-Err-TurnsSpent.field-0-is (c.in-Err-TurnsSpent.ensures.filled alone))
+
+pub returns-in-Err-Memory-clause-whole : goal.returns-in-Err-Memory-clause-whole
+returns-in-Err-Memory-clause-whole g c = verified_whole g.Q.Desk.start c.args.workers (g.Q.Desk.seen c.carry_line.new.desk) (Err c.in-Err-Memory.field-0) c.in-Err-Memory.ensures.verified
+
+pub returns-in-Err-TurnsSpent-clause-whole : goal.returns-in-Err-TurnsSpent-clause-whole
+returns-in-Err-TurnsSpent-clause-whole g c = verified_whole g.Q.Desk.start c.args.workers (g.Q.Desk.seen c.carry_line.new.desk) (Err c.in-Err-TurnsSpent.field-0) c.in-Err-TurnsSpent.ensures.verified
+
+pub returns-clause-whole : goal.returns-clause-whole
+returns-clause-whole g c = c.loop-left.invariant.may.whole

@@ -1,6 +1,7 @@
 use Rattle.std.proofs.Common.{◌≡◌, None, true, length}
 use Rattle.esr_run.specs.Script.{first_bad}
 use Rattle.esr_run.specs.Filled.{Fills}
+use Rattle.esr_run.specs.Verified.{MayVerify}
 use Rattle.esr_run.proofs.Making.{Front}
 use Rattle.esr_run.proofs.carry.carry_lines.Given as goal
 
@@ -11,6 +12,7 @@ invariant-loop-left g l =
       good : first_bad l.left ≡ None;
       filled : g.Q.Desk.start.alone ≡ true → Fills (record { made_for = g.T.Target.Target.made_for; files = g.T.Target.Target.files; is_sure = g.T.Target.Target.is_sure; are_told = g.T.Targets.is_told l.targets; are_quiet = g.T.Targets.is_quiet l.targets })
           g.Q.Desk.start (g.Q.Desk.seen l.fn.desk) (g.Q.Desk.seen l.desk) l.fn.filled.items l.filled.items;
+      may : MayVerify g.Q.Desk.start l.workers (g.Q.Desk.seen l.desk);
     }
 
 abbrev pub decreases-loop-left : goal.decreases-loop-left

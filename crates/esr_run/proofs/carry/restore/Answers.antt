@@ -2,7 +2,8 @@ use Rattle.std.proofs.Common.{map, refl, Ok, Err, inl}
 use Rattle.esr_core.specs.Entry.{Restore, AskStep, AcceptedRestore}
 use Rattle.esr_formats.specs.Refs.{ref_of_code}
 use Rattle.esr_desk.specs.declared.unit.AcceptedRestore.{AcceptedRestore as Answer}
-use Rattle.esr_run.proofs.Making.{rests_by, restore_none}
+use Rattle.esr_run.proofs.Making.{rests_by, made_refused, spent_by, restore_none}
+use Rattle.esr_run.proofs.Verifying.{line_verifies}
 use Rattle.esr_run.proofs.carry.restore.Goals as goal
 
 pub returns-in-Err-clause-rests : goal.returns-in-Err-clause-rests
@@ -14,3 +15,17 @@ pub returns-clause-rests : goal.returns-clause-rests
 returns-clause-rests g c alone was =
     rests_by c.steps_stay.ensures g.Q.Desk.start c.requires.numbered c.requires.ops alone (g.Q.Desk.seen c.args.desk.now) (g.Q.Desk.seen c.restore.new.self) (AskStep (Restore c.args.name.now c.args.place.now)) (λ (a : Answer). AcceptedRestore a.op a.uuid.number (map ref_of_code a.indices)) (Ok c.in_default.field-0)
     (inl (Restore c.args.name.now c.args.place.now, refl)) (λ a. restore_none a.op a.uuid.number (map ref_of_code a.indices)) c.in_default.ensures was
+
+pub returns-in-Err-clause-verified : goal.returns-in-Err-clause-verified
+returns-in-Err-clause-verified g c workers alone may =
+    line_verifies g.Q.Desk.start workers (g.Q.Desk.seen c.args.desk.now) (g.Q.Desk.seen c.restore.new.self) (AskStep (Restore c.args.name.now c.args.place.now)) (λ (a : Answer). AcceptedRestore a.op a.uuid.number (map ref_of_code a.indices)) (Err c.in-Err.refusal) (inl (Restore c.args.name.now c.args.place.now, refl)) alone c.in-Err.ensures may
+
+pub returns-clause-verified : goal.returns-clause-verified
+returns-clause-verified g c workers alone may =
+    line_verifies g.Q.Desk.start workers (g.Q.Desk.seen c.args.desk.now) (g.Q.Desk.seen c.restore.new.self) (AskStep (Restore c.args.name.now c.args.place.now)) (λ (a : Answer). AcceptedRestore a.op a.uuid.number (map ref_of_code a.indices)) (Ok c.in_default.field-0) (inl (Restore c.args.name.now c.args.place.now, refl)) alone c.in_default.ensures may
+
+pub returns-in-Err-clause-made : goal.returns-in-Err-clause-made
+returns-in-Err-clause-made g c = made_refused g.Q.Desk.start (g.Q.Desk.seen c.args.desk.now) (g.Q.Desk.seen c.restore.new.self) (AskStep (Restore c.args.name.now c.args.place.now)) c.in-Err.refusal refl c.in-Err.ensures.0
+
+pub returns-in-Err-clause-spent : goal.returns-in-Err-clause-spent
+returns-in-Err-clause-spent g c alone = spent_by g.Q.Desk.start (g.Q.Desk.seen c.args.desk.now) (g.Q.Desk.seen c.restore.new.self) (AskStep (Restore c.args.name.now c.args.place.now)) (λ (a : Answer). AcceptedRestore a.op a.uuid.number (map ref_of_code a.indices)) (Err c.in-Err.refusal) alone c.in-Err.ensures

@@ -1,4 +1,4 @@
-use Rattle.std.proofs.Common.{◌≡◌, Bool, true, List, Option, Some, None, is_some, refl}
+use Rattle.std.proofs.Common.{◌≡◌, true, List, Option, Some, None, is_some, refl}
 use Rattle.std.specs.Prelude.{◌||◌}
 use Rattle.esr_source.specs.declared.files.MemFile.{MemFile}
 use Rattle.esr_source.specs.MemSources.{told_files, files_at}

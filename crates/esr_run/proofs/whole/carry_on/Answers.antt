@@ -1,18 +1,29 @@
-use Rattle.std.proofs.Common.{◌⊎◌, List, [], OnOk, subst}
+use Rattle.std.proofs.Common.{◌⊎◌, List, [], OnOk, sym, subst}
 use Rattle.esr_script.specs.declared.item.ScriptLine.{ScriptLine}
 use Rattle.esr_drive.specs.Restored.{AreTargetsOf}
-use Rattle.esr_run.specs.Made.{HasStopped, AreDone}
+use Rattle.esr_run.specs.Made.{HasFallen, AreDone}
 use Rattle.esr_run.proofs.Making.{done_on}
+use Rattle.esr_run.proofs.Falling.{done_fallen}
+use Rattle.esr_run.specs.Verified.{AreWhole}
+use Rattle.esr_run.proofs.Verifying.{begun_may}
 use Rattle.esr_run.proofs.Restoring.{filled_on, unless_filled, unless_done}
 use Rattle.esr_run.proofs.whole.carry_on.Goals as goal
 
 pub returns-clause-done : goal.returns-clause-done
 returns-clause-done g c =
-    unless_done (AreDone g.K.Told.start c.args.moment c.args.asked.now.script [] c.into_parts-repo.result.0 ⊎ HasStopped c.into_parts-repo.result.0) c.carry-carried.result c.carry-carried.new.filled.items c.unless_wanting.result c.unless_wanting.ensures
-    (subst (λ (lines : List ScriptLine). OnOk c.carry-carried.result (AreDone g.K.Told.start c.args.moment lines [] c.into_parts-repo.result.0 ⊎ HasStopped c.into_parts-repo.result.0)) c.as_slice-lines.ensures
-    (done_on g.K.Told.start c.args.moment c.as_slice-lines.result.now c.new-desk.result c.carry-carried.new.desk c.into_parts-repo.result.0 c.carry-carried.result c.carry-carried.ensures.done c.into_parts-repo.ensures.repo c.new-desk.ensures c.requires.alone c.requires.numbered c.requires.readers))
+    unless_done (AreDone g.K.Told.start c.args.moment c.args.asked.now.script [] c.into_parts-repo.result.0 ⊎ HasFallen g.K.Told.start c.args.moment c.args.asked.now.script [] c.into_parts-repo.result.0) c.carry-carried.result c.carry-carried.new.filled.items c.unless_wanting.result c.unless_wanting.ensures
+    (subst (λ (lines : List ScriptLine). OnOk c.carry-carried.result (AreDone g.K.Told.start c.args.moment lines [] c.into_parts-repo.result.0 ⊎ HasFallen g.K.Told.start c.args.moment lines [] c.into_parts-repo.result.0)) c.as_slice-lines.ensures
+    (done_fallen c.refusals.ensures g.K.Told.start c.args.moment c.as_slice-lines.result.now c.new-desk.result c.carry-carried.new.desk c.into_parts-repo.result.0 c.carry-carried.result
+    (done_on g.K.Told.start c.args.moment c.as_slice-lines.result.now c.new-desk.result c.carry-carried.new.desk c.into_parts-repo.result.0 c.carry-carried.result c.carry-carried.ensures.done c.into_parts-repo.ensures.repo c.new-desk.ensures c.requires.alone c.requires.numbered c.requires.readers)
+    c.carry-carried.ensures.made c.into_parts-repo.ensures.repo c.new-desk.ensures c.requires.alone c.requires.numbered c.requires.alive))
 
 pub returns-clause-filled : goal.returns-clause-filled
 returns-clause-filled g c =
     unless_filled (AreTargetsOf (record { made_for = g.T.Target.Target.made_for; files = g.T.Target.Target.files; is_sure = g.T.Target.Target.is_sure; are_told = g.T.Targets.is_told c.args.targets.now; are_quiet = g.T.Targets.is_quiet c.args.targets.now }) g.K.Told.start [] c.into_parts-repo.result.0) c.carry-carried.result c.carry-carried.new.filled.items c.unless_wanting.result c.unless_wanting.ensures
     (filled_on (record { made_for = g.T.Target.Target.made_for; files = g.T.Target.Target.files; is_sure = g.T.Target.Target.is_sure; are_told = g.T.Targets.is_told c.args.targets.now; are_quiet = g.T.Targets.is_quiet c.args.targets.now }) g.K.Told.start c.new-desk.result c.carry-carried.new.desk c.into_parts-repo.result.0 c.new-filled.result.items c.carry-carried.new.filled.items c.carry-carried.result c.carry-carried.ensures.filled c.into_parts-repo.ensures.repo c.new-desk.ensures c.new-filled.ensures.items c.requires.alone)
+
+pub carry-carried-requires-clause-may : goal.carry-carried-requires-clause-may
+carry-carried-requires-clause-may g c κs within = begun_may g.K.Told.start c.args.asked.now.workers c.new-desk.result c.new-desk.ensures c.requires.nobody
+
+pub returns-clause-whole : goal.returns-clause-whole
+returns-clause-whole g c = subst (AreWhole g.K.Told.start c.args.asked.now.workers) (sym c.into_parts-repo.ensures.repo) c.carry-carried.ensures.whole

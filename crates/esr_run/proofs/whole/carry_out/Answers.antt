@@ -25,9 +25,9 @@ returns-clause-run g c = inl (untouched (record { files = g.S.Sources.files c.ar
 pub returns-in-Ok-room_for_one-clause-told : goal.returns-in-Ok-room_for_one-clause-told
 returns-in-Ok-room_for_one-clause-told g c =
     let given : Given = record { words = c.args.words.now; script = g.I.Lines.left c.args.script.now; faults = g.I.Counted.faults c.args.script.now; moment = c.args.moment } in
-    verdict_opened c.open_and_carry.result.0.verdict.status c.open_and_carry.result.0.verdict.text (record { stage = g.D.Stage.Counted.faults; fetch = g.D.Fetch.Counted.faults; shard = g.S.Shard.Counted.faults; target = g.T.Target.Counted.faults; made_for = λ h. (g.S.Shard.Shard.origin h).address; target_for = g.T.Target.Target.made_for; held = g.T.Target.Target.files; is_sure = g.T.Target.Target.is_sure }) given (record { files = g.S.Sources.files c.args.sources.now; is_there = g.S.Sources.is_there c.args.sources.now; is_quiet = g.S.Sources.is_quiet c.args.sources.now; targets_quiet = g.T.Targets.is_quiet c.args.targets.now; targets_told = g.T.Targets.is_told c.args.targets.now }) (g.I.Counted.faults c.asked_for.new.script) c.in-Ok.asked.part_size
+    verdict_opened c.open_and_carry.result.0.verdict.status c.open_and_carry.result.0.verdict.text (record { stage = g.D.Stage.Counted.faults; fetch = g.D.Fetch.Counted.faults; shard = g.S.Shard.Counted.faults; target = g.T.Target.Counted.faults; made_for = λ h. (g.S.Shard.Shard.origin h).address; target_for = g.T.Target.Target.made_for; held = g.T.Target.Target.files; is_sure = g.T.Target.Target.is_sure }) given (record { files = g.S.Sources.files c.args.sources.now; is_there = g.S.Sources.is_there c.args.sources.now; is_quiet = g.S.Sources.is_quiet c.args.sources.now; targets_quiet = g.T.Targets.is_quiet c.args.targets.now; targets_told = g.T.Targets.is_told c.args.targets.now }) (g.I.Counted.faults c.asked_for.new.script) c.in-Ok.asked.part_size c.in-Ok.asked.workers
     (g.D.Depot.look c.args.depot) (g.D.Depot.look c.open_and_carry.result.0.depot) (g.D.Counted.faults c.args.depot) (g.D.Counted.faults c.open_and_carry.result.0.depot) c.in-Ok.asked.script
-    c.open_and_carry.result.0.history c.open_and_carry.result.1 c.in-Ok.ensures.size (c.in-Ok.ensures.script c.args.moment) c.open_and_carry.ensures.told
+    c.open_and_carry.result.0.history c.open_and_carry.result.1 c.in-Ok.ensures.size c.in-Ok.ensures.workers (c.in-Ok.ensures.script c.args.moment) c.open_and_carry.ensures.told
 
 pub returns-in-Err-clause-complete : goal.returns-in-Err-clause-complete
 returns-in-Err-clause-complete g c old new =
@@ -38,8 +38,8 @@ returns-in-Err-clause-complete g c old new =
 pub returns-in-Ok-room_for_one-clause-complete : goal.returns-in-Ok-room_for_one-clause-complete
 returns-in-Ok-room_for_one-clause-complete g c old new =
     let given : Given = record { words = c.args.words.now; script = g.I.Lines.left c.args.script.now; faults = g.I.Counted.faults c.args.script.now; moment = c.args.moment } in
-    complete_opened _ given (record { files = g.S.Sources.files c.args.sources.now; is_there = g.S.Sources.is_there c.args.sources.now; is_quiet = g.S.Sources.is_quiet c.args.sources.now; targets_quiet = g.T.Targets.is_quiet c.args.targets.now; targets_told = g.T.Targets.is_told c.args.targets.now }) (g.I.Counted.faults c.asked_for.new.script) c.in-Ok.asked.part_size c.in-Ok.asked.script (g.D.Depot.look c.args.depot) (g.D.Depot.look c.open_and_carry.result.0.depot) old new
-    c.open_and_carry.result.0.history c.open_and_carry.result.1 c.open_and_carry.result.0.verdict.status c.in-Ok.ensures.size (c.in-Ok.ensures.script c.args.moment) c.open_and_carry.ensures.complete
+    complete_opened _ given (record { files = g.S.Sources.files c.args.sources.now; is_there = g.S.Sources.is_there c.args.sources.now; is_quiet = g.S.Sources.is_quiet c.args.sources.now; targets_quiet = g.T.Targets.is_quiet c.args.targets.now; targets_told = g.T.Targets.is_told c.args.targets.now }) (g.I.Counted.faults c.asked_for.new.script) c.in-Ok.asked.part_size c.in-Ok.asked.workers c.in-Ok.asked.script (g.D.Depot.look c.args.depot) (g.D.Depot.look c.open_and_carry.result.0.depot) old new
+    c.open_and_carry.result.0.history c.open_and_carry.result.1 c.open_and_carry.result.0.verdict.status c.in-Ok.ensures.size c.in-Ok.ensures.workers (c.in-Ok.ensures.script c.args.moment) c.open_and_carry.ensures.complete
 
 pub returns-clause-complete : goal.returns-clause-complete
 returns-clause-complete g c old new =
@@ -53,8 +53,8 @@ open_and_carry-requires-clause-good g c κs within = (c.in-Ok.ensures.script c.a
 pub returns-in-Ok-room_for_one-clause-run : goal.returns-in-Ok-room_for_one-clause-run
 returns-in-Ok-room_for_one-clause-run g c =
     let given : Given = record { words = c.args.words.now; script = g.I.Lines.left c.args.script.now; faults = g.I.Counted.faults c.args.script.now; moment = c.args.moment } in
-    run_opened _ given (record { files = g.S.Sources.files c.args.sources.now; is_there = g.S.Sources.is_there c.args.sources.now; is_quiet = g.S.Sources.is_quiet c.args.sources.now; targets_quiet = g.T.Targets.is_quiet c.args.targets.now; targets_told = g.T.Targets.is_told c.args.targets.now }) c.in-Ok.asked.part_size c.in-Ok.asked.script (g.D.Depot.look c.args.depot) (g.D.Depot.look c.open_and_carry.result.0.depot) (g.D.Counted.faults c.args.depot) (g.D.Counted.faults c.open_and_carry.result.0.depot)
-    c.open_and_carry.result.0.history c.open_and_carry.result.1 (c.in-Ok.ensures.script c.args.moment) c.in-Ok.ensures.size c.open_and_carry.ensures.run
+    run_opened _ given (record { files = g.S.Sources.files c.args.sources.now; is_there = g.S.Sources.is_there c.args.sources.now; is_quiet = g.S.Sources.is_quiet c.args.sources.now; targets_quiet = g.T.Targets.is_quiet c.args.targets.now; targets_told = g.T.Targets.is_told c.args.targets.now }) c.in-Ok.asked.part_size c.in-Ok.asked.workers c.in-Ok.asked.script (g.D.Depot.look c.args.depot) (g.D.Depot.look c.open_and_carry.result.0.depot) (g.D.Counted.faults c.args.depot) (g.D.Counted.faults c.open_and_carry.result.0.depot)
+    c.open_and_carry.result.0.history c.open_and_carry.result.1 (c.in-Ok.ensures.script c.args.moment) c.in-Ok.ensures.size c.in-Ok.ensures.workers c.open_and_carry.ensures.run
 
 pub returns-in-Err-clause-restored : goal.returns-in-Err-clause-restored
 returns-in-Err-clause-restored g c =
@@ -70,8 +70,8 @@ returns-clause-restored g c =
 pub returns-in-Ok-room_for_one-clause-restored : goal.returns-in-Ok-room_for_one-clause-restored
 returns-in-Ok-room_for_one-clause-restored g c =
     let given : Given = record { words = c.args.words.now; script = g.I.Lines.left c.args.script.now; faults = g.I.Counted.faults c.args.script.now; moment = c.args.moment } in
-    restored_opened _ given (record { files = g.S.Sources.files c.args.sources.now; is_there = g.S.Sources.is_there c.args.sources.now; is_quiet = g.S.Sources.is_quiet c.args.sources.now; targets_quiet = g.T.Targets.is_quiet c.args.targets.now; targets_told = g.T.Targets.is_told c.args.targets.now }) c.in-Ok.asked.part_size c.in-Ok.asked.script (g.D.Depot.look c.args.depot) (g.D.Depot.look c.open_and_carry.result.0.depot) c.open_and_carry.result.0.history c.open_and_carry.result.1 c.open_and_carry.result.0.targets c.open_and_carry.result.0.verdict.status
-    c.in-Ok.ensures.size (c.in-Ok.ensures.script c.args.moment) c.open_and_carry.ensures.restored
+    restored_opened _ given (record { files = g.S.Sources.files c.args.sources.now; is_there = g.S.Sources.is_there c.args.sources.now; is_quiet = g.S.Sources.is_quiet c.args.sources.now; targets_quiet = g.T.Targets.is_quiet c.args.targets.now; targets_told = g.T.Targets.is_told c.args.targets.now }) c.in-Ok.asked.part_size c.in-Ok.asked.workers c.in-Ok.asked.script (g.D.Depot.look c.args.depot) (g.D.Depot.look c.open_and_carry.result.0.depot) c.open_and_carry.result.0.history c.open_and_carry.result.1 c.open_and_carry.result.0.targets c.open_and_carry.result.0.verdict.status
+    c.in-Ok.ensures.size c.in-Ok.ensures.workers (c.in-Ok.ensures.script c.args.moment) c.open_and_carry.ensures.restored
 
 pub open_and_carry-requires-clause-lines : goal.open_and_carry-requires-clause-lines
 open_and_carry-requires-clause-lines g c κs within = numbered_lines (wanted_of (job_of c.args.words.now)) (g.I.Lines.left c.args.script.now) c.in-Ok.asked.script (c.in-Ok.ensures.script c.args.moment)

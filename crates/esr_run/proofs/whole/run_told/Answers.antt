@@ -1,7 +1,8 @@
 use Rattle.std.proofs.Common.{◌≡◌, ◌⊎◌, List, [], sym, subst}
 use Rattle.esr_core.specs.Entry.{Moment}
 use Rattle.esr_desk.specs.Once.{AreOnce, NoneTwice}
-use Rattle.esr_run.specs.Made.{HasStopped, AreDone}
+use Rattle.esr_run.specs.Verified.{AreWhole}
+use Rattle.esr_run.specs.Made.{HasFallen, AreDone}
 use Rattle.esr_run.proofs.Making.{done_or}
 use Rattle.esr_repo.specs.Log.{image_at, log_of}
 use Rattle.esr_run.proofs.Ending.{logged}
@@ -20,8 +21,8 @@ returns-clause-single g c = subst NoneTwice (sym c.into_parts-depot.ensures.log)
 
 pub returns-clause-done : goal.returns-clause-done
 returns-clause-done g c =
-    subst (λ (l : List Moment). (c.verdict_after-verdict.result.0.status ≡ 8) ⊎ (AreDone g.K.Told.start c.args.moment c.args.asked.now.script [] l ⊎ HasStopped l)) (sym c.into_parts-depot.ensures.log)
-    (done_or (AreDone g.K.Told.start c.args.moment c.args.asked.now.script [] c.carry_on-worked.result.repo ⊎ HasStopped c.carry_on-worked.result.repo) c.verdict_after-verdict.result.0.status c.carry_on-worked.result.filled c.carry_on-worked.ensures.done
+    subst (λ (l : List Moment). (c.verdict_after-verdict.result.0.status ≡ 8) ⊎ (AreDone g.K.Told.start c.args.moment c.args.asked.now.script [] l ⊎ HasFallen g.K.Told.start c.args.moment c.args.asked.now.script [] l)) (sym c.into_parts-depot.ensures.log)
+    (done_or (AreDone g.K.Told.start c.args.moment c.args.asked.now.script [] c.carry_on-worked.result.repo ⊎ HasFallen g.K.Told.start c.args.moment c.args.asked.now.script [] c.carry_on-worked.result.repo) c.verdict_after-verdict.result.0.status c.carry_on-worked.result.filled c.carry_on-worked.ensures.done
     (λ lost. c.verdict_after-verdict.ensures.wanting (c.targets_by_lines-listed.ensures.wanting lost)))
 
 pub returns-clause-restored : goal.returns-clause-restored
@@ -35,3 +36,6 @@ pub returns-clause-legal : goal.returns-clause-legal
 returns-clause-legal g c =
     let is = c.into_parts-depot.ensures.repo.2 in
     record { clock_is = is.clock_is; legal = is.steady.legal; image = is.steady.image }
+
+pub returns-clause-verified : goal.returns-clause-verified
+returns-clause-verified g c = subst (AreWhole g.K.Told.start c.args.asked.now.workers) (sym c.into_parts-depot.ensures.log) c.carry_on-worked.ensures.whole

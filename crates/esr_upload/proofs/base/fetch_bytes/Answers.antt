@@ -23,8 +23,9 @@ returns-in_err-fetch-clause-trouble g c =
     let new = g.Q.Desk.seen c.fetch.new.self in
     let who = c.args.ticket in
     let refusal = c.in_err-fetch.field-0.0 in
+    let step = FetchStep (ShardIndex c.args.shard.index.number c.args.shard.number c.args.base.number) in
     passed c.from_residual.result (Shown g.Q.Stage.Counted.faults g.Q.Fetch.Counted.faults 0 (Some []) s new who) (Step refusal) c.from_residual.ensures.1
-    (refusal_last s old new who (FetchStep (ShardIndex c.args.shard.index.number c.args.shard.number c.args.base.number)) refusal c.in_err-fetch.ensures.step)
+    (refusal_last s old new who step refusal (λ r. c.refusals.ensures.work s old new who step r tt) c.in_err-fetch.ensures.step)
 
 pub returns-in_err-fetch-clause-went : goal.returns-in_err-fetch-clause-went
 returns-in_err-fetch-clause-went g c =

@@ -28,9 +28,11 @@ pub returns-in_err-named-clause-trouble : goal.returns-in_err-named-clause-troub
 returns-in_err-named-clause-trouble g c =
     let s = g.Q.Desk.start in
     let refusal = c.in_err-named.field-0.0 in
+    let old = g.Q.Desk.seen c.args.desk.now in
     let log = g.Q.Desk.seen c.begin.new.self in
     err_passed c.from_residual.result (Shown g.Q.Stage.Counted.faults g.Q.Fetch.Counted.faults (g.S.Counted.faults c.args.shard.now) (g.S.Shard.origin c.args.shard.now).files s log c.args.ticket) (Step refusal)
-    c.from_residual.ensures.1 (refusal_last s (g.Q.Desk.seen c.args.desk.now) log c.args.ticket (BeginStep (name_of c.args.name)) refusal c.in_err-named.ensures.step)
+    c.from_residual.ensures.1
+    (refusal_last s old log c.args.ticket (BeginStep (name_of c.args.name)) refusal (λ r. c.refusals.ensures.work s old log c.args.ticket (BeginStep (name_of c.args.name)) r tt) c.in_err-named.ensures.step)
 
 pub returns-in_err-named-clause-went : goal.returns-in_err-named-clause-went
 returns-in_err-named-clause-went g c =
@@ -83,10 +85,12 @@ pub returns-in_err-commit-clause-trouble : goal.returns-in_err-commit-clause-tro
 returns-in_err-commit-clause-trouble g c =
     let s = g.Q.Desk.start in
     let refusal = c.in_err-commit.field-0.0 in
+    let mid = g.Q.Desk.seen c.begin.new.self in
+    let step = CommitStep (name_of c.in_ok-named.named.name) in
     let log = g.Q.Desk.seen c.commit.new.self in
     err_passed c.from_residual-in_err-commit.result (Shown g.Q.Stage.Counted.faults g.Q.Fetch.Counted.faults (g.S.Counted.faults c.copy_part.new.shard) (g.S.Shard.origin c.args.shard.now).files s log c.args.ticket) (Step refusal)
     c.from_residual-in_err-commit.ensures.1
-    (refusal_last s (g.Q.Desk.seen c.begin.new.self) log c.args.ticket (CommitStep (name_of c.in_ok-named.named.name)) refusal c.in_err-commit.ensures.step)
+    (refusal_last s mid log c.args.ticket step refusal (λ r. c.refusals.ensures.work s mid log c.args.ticket step r tt) c.in_err-commit.ensures.step)
 
 pub returns-in_err-commit-clause-went : goal.returns-in_err-commit-clause-went
 returns-in_err-commit-clause-went g c =

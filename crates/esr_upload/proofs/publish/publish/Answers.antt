@@ -5,9 +5,24 @@ use Rattle.esr_desk.specs.Start.{ticket_of}
 use Rattle.esr_desk.specs.Grew.{grew_by_on, outcome_grew_by}
 use Rattle.esr_upload.specs.Published.{snap_blob}
 use Rattle.esr_upload.proofs.Noting.{index_unnoted}
-use Rattle.esr_upload.proofs.Going.{went_on}
+use Rattle.std.proofs.Common.{[], Some}
+use Rattle.esr_upload.specs.declared.trouble.Trouble.TheVariants.{Step}
+use Rattle.esr_upload.specs.Trouble.{Shown}
+use Rattle.esr_upload.proofs.Refusing.{passed}
+use Rattle.esr_upload.proofs.Going.{went_on, refusal_last}
 use Rattle.esr_upload.proofs.Ending.{if_err, went_same, has_done}
 use Rattle.esr_upload.proofs.publish.publish.Goals as goal
+
+pub returns-in_err-done-clause-trouble : goal.returns-in_err-done-clause-trouble
+returns-in_err-done-clause-trouble g c =
+    let s = g.Q.Desk.start in
+    let who = c.args.ticket in
+    let mid = g.Q.Desk.seen c.put_index.new.desk in
+    let new = g.Q.Desk.seen c.done.new.self in
+    let step = DoneStep (result_of c.args.outcome.now) in
+    let refusal = c.in_err-done.field-0.0 in
+    passed c.from_residual-in_err-done.result (Shown g.Q.Stage.Counted.faults g.Q.Fetch.Counted.faults 0 (Some []) s new who) (Step refusal) c.from_residual-in_err-done.ensures.1
+    (refusal_last s mid new who step refusal (λ r. c.refusals.ensures.work s mid new who step r tt) c.in_err-done.ensures.step)
 
 pub returns-in_err-done-clause-went : goal.returns-in_err-done-clause-went
 returns-in_err-done-clause-went g c =

@@ -26,7 +26,7 @@ returns-in_err-named-clause-trouble g c =
     let new = g.Q.Desk.seen c.begin.new.self in
     let who = c.args.ticket in
     step_err c.from_residual.result (Shown g.Q.Stage.Counted.faults g.Q.Fetch.Counted.faults 0 (Some []) s new who) c.in_err-named.field-0.0 c.from_residual.ensures.1
-    (refusal_last s old new who (BeginStep (name_of c.args.name)) c.in_err-named.field-0.0 c.in_err-named.ensures.step)
+    (refusal_last s old new who (BeginStep (name_of c.args.name)) c.in_err-named.field-0.0 (λ r. c.refusals.ensures.work s old new who (BeginStep (name_of c.args.name)) r tt) c.in_err-named.ensures.step)
 
 pub returns-in_err-named-clause-went : goal.returns-in_err-named-clause-went
 returns-in_err-named-clause-went g c =
@@ -59,7 +59,7 @@ returns-in_err-commit-clause-trouble g c =
     let who = c.args.ticket in
     let refusal = c.in_err-commit.field-0.0 in
     step_err c.from_residual-in_err-commit.result (Shown g.Q.Stage.Counted.faults g.Q.Fetch.Counted.faults 0 (Some []) s new who) refusal c.from_residual-in_err-commit.ensures.1
-    (refusal_last s mid new who (CommitStep (name_of c.in_ok-named.named.name)) refusal c.in_err-commit.ensures.step)
+    (refusal_last s mid new who (CommitStep (name_of c.in_ok-named.named.name)) refusal (λ r. c.refusals.ensures.work s mid new who (CommitStep (name_of c.in_ok-named.named.name)) r tt) c.in_err-commit.ensures.step)
 
 pub returns-in_err-commit-clause-went : goal.returns-in_err-commit-clause-went
 returns-in_err-commit-clause-went g c =

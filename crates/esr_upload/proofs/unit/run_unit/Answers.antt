@@ -12,13 +12,13 @@ use Rattle.esr_desk.specs.Grew.{grew_by_none, grew_by_on, outcome_grew_by}
 use Rattle.esr_upload.specs.Refused.{told_of, IsUnitRefused}
 use Rattle.esr_upload.specs.Worked.{Worked}
 use Rattle.esr_upload.specs.Trouble.{Shown}
-use Rattle.esr_upload.proofs.Going.{worked_none, refusal_last}
+use Rattle.esr_upload.proofs.Going.{worked_none, failed_refusal}
 use Rattle.esr_upload.proofs.Drawing.{took_shard, took_of, took_unit}
 use Rattle.esr_upload.proofs.Refusing.{passed, cause_shown, failed_end, steady_shard, stopped}
 use Rattle.esr_upload.proofs.unit.run_unit.Goals as goal
 
 pub returns-in-Err-clause-refused : goal.returns-in-Err-clause-refused
-returns-in-Err-clause-refused g c = (worked_none (ticket_of g.Q.Desk.start (g.Q.Desk.seen c.args.desk.now) c.args.unit.now.ready.ticket), (tt, tt))
+returns-in-Err-clause-refused g c = (worked_none (ticket_of g.Q.Desk.start (g.Q.Desk.seen c.args.desk.now) c.args.unit.now.ready.ticket), tt)
 
 pub failed-requires-clause-shown : goal.failed-requires-clause-shown
 failed-requires-clause-shown g c =
@@ -95,7 +95,7 @@ returns-in_err-failed-in-Ok-cause_of-clause-refused g c =
     (IsUnitRefused (record { stage = g.Q.Stage.Counted.faults; fetch = g.Q.Fetch.Counted.faults; shard = g.S.Shard.Counted.faults; target = g.Q.Target.Counted.faults; made_for = λ h. (g.S.Shard.Shard.origin h).address })
     (told_of (g.S.Sources.files c.args.sources.now) ready.work) s old new who) (Stopped refusal) c.from_residual.ensures.1 (
       subst (λ (t : Ticket). Worked (ticket_of s old who) t) (sym reported.ensures.kept) c.in-Err-work.ensures.went.worked,
-      refusal_last s mid new who (FailedStep (why_of c.in-Ok-cause_of.cause.why)) refusal reported.ensures.step,
+      failed_refusal s mid new who (FailedStep (why_of c.in-Ok-cause_of.cause.why)) refusal (λ r. c.refusals.ensures.failed s mid new who (why_of c.in-Ok-cause_of.cause.why) r) reported.ensures.step,
     )
 
 pub returns-in-Err-cause_of-clause-refused : goal.returns-in-Err-cause_of-clause-refused

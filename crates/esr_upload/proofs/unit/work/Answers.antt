@@ -53,7 +53,7 @@ returns-in_err-first-clause-trouble g c =
     let refusal = c.in_err-first.field-0.0 in
     passed c.from_residual-in_err-first.result
     (Shown g.Q.Stage.Counted.faults g.Q.Fetch.Counted.faults (g.S.Counted.faults c.plan_files.new.shard) (g.S.Shard.origin c.args.shard.now).files s new who) (Step refusal) c.from_residual-in_err-first.ensures.1
-    (refusal_last s mid new who (DrawStep (c.count_new.result + 1)) refusal c.in_err-first.ensures.step)
+    (refusal_last s mid new who (DrawStep (c.count_new.result + 1)) refusal (λ r. c.refusals.ensures.work s mid new who (DrawStep (c.count_new.result + 1)) r tt) c.in_err-first.ensures.step)
 
 pub returns-clause-grew : goal.returns-clause-grew
 returns-clause-grew g c =

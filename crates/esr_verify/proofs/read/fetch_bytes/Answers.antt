@@ -1,11 +1,10 @@
 use Rattle.std.proofs.Common.{◌≡◌, true}
 use Rattle.std.specs.Prelude.{IsTrue}
 use Rattle.esr_model.specs.Values.{Bytes}
-use Rattle.esr_core.specs.Entry.{ReadStep, ReadBlob}
+use Rattle.esr_core.specs.Entry.{ReadBlob}
 use Rattle.esr_depot.specs.Calls.{has_failed}
 use Rattle.esr_formats.specs.Names.{name_of}
 use Rattle.esr_desk.specs.Conditions.{Holds}
-use Rattle.esr_desk.specs.Grew.{outcome_grew_by}
 use Rattle.esr_desk.specs.Outcome.{fetch_reply}
 use Rattle.esr_checking.specs.Caller.{caller_of}
 use Rattle.esr_verify.specs.Trouble.{Shown}
@@ -27,14 +26,14 @@ returns-in_err-blob-clause-trouble g c =
     let new = g.Q.Desk.seen c.fetch_test.new.self in
     let refusal = c.in_err-blob.field-0.0 in
     passed c.from_residual.result (Shown g.Q.Stage.Counted.faults g.Q.Fetch.Counted.faults s new) (Step refusal) c.from_residual.ensures.1
-    (step_refused s old new c.args.id.number (ReadStep (ReadBlob (name_of c.args.name))) refusal c.requires.alone c.requires.drew c.in_err-blob.ensures.step (drawn_same (caller_of s old) (caller_of s new) c.in_err-blob.ensures.kept))
+    (step_refused c.laws.ensures.refuses s old new c.args.id.number (ReadBlob (name_of c.args.name)) refusal (λ r how. how) c.requires.alone c.requires.drew c.in_err-blob.ensures.step (drawn_same (caller_of s old) (caller_of s new) c.in_err-blob.ensures.kept))
 
 pub returns-in_err-blob-clause-kept : goal.returns-in_err-blob-clause-kept
 returns-in_err-blob-clause-kept g c =
     let s = g.Q.Desk.start in
     let old = g.Q.Desk.seen c.args.desk.now in
     let new = g.Q.Desk.seen c.fetch_test.new.self in
-    kept_by s old new c.args.id.number (outcome_grew_by s old new 0 (ReadStep (ReadBlob (name_of c.args.name))) fetch_reply c.fetch_test.result c.fetch_test.ensures.step) c.requires.drew
+    kept_by c.laws.ensures.deposes s old new c.args.id.number (ReadBlob (name_of c.args.name)) fetch_reply c.fetch_test.result c.requires.alone tt (λ e. cc) c.fetch_test.ensures.step c.requires.drew
     (drawn_same (caller_of s old) (caller_of s new) c.in_err-blob.ensures.kept)
 
 pub returns-in-None-clause-trouble : goal.returns-in-None-clause-trouble
@@ -48,7 +47,7 @@ returns-in-None-clause-kept g c =
     let old = g.Q.Desk.seen c.args.desk.now in
     let new = g.Q.Desk.seen c.fetch_test.new.self in
     let name = name_of c.args.name in
-    kept_by s old new c.args.id.number (outcome_grew_by s old new 0 (ReadStep (ReadBlob name)) fetch_reply c.fetch_test.result c.fetch_test.ensures.step) c.requires.drew
+    kept_by c.laws.ensures.deposes s old new c.args.id.number (ReadBlob name) fetch_reply c.fetch_test.result c.requires.alone tt (λ e. cc) c.fetch_test.ensures.step c.requires.drew
     (fetched_drawn g.Q.Fetch.Fetch.left name c.in_ok-blob.field-0 (caller_of s old) (caller_of s new) c.in_ok-blob.ensures.own)
 
 pub returns-in-Ok-clause-fetched : goal.returns-in-Ok-clause-fetched
@@ -66,7 +65,7 @@ returns-in-Ok-clause-kept g c =
     let old = g.Q.Desk.seen c.args.desk.now in
     let new = g.Q.Desk.seen c.fetch_test.new.self in
     let name = name_of c.args.name in
-    kept_by s old new c.args.id.number (outcome_grew_by s old new 0 (ReadStep (ReadBlob name)) fetch_reply c.fetch_test.result c.fetch_test.ensures.step) c.requires.drew
+    kept_by c.laws.ensures.deposes s old new c.args.id.number (ReadBlob name) fetch_reply c.fetch_test.result c.requires.alone tt (λ e. cc) c.fetch_test.ensures.step c.requires.drew
     (fetched_drawn g.Q.Fetch.Fetch.left name c.in_ok-blob.field-0 (caller_of s old) (caller_of s new) c.in_ok-blob.ensures.own)
 
 pub returns-in-Err-Memory-clause-kept : goal.returns-in-Err-Memory-clause-kept
@@ -75,7 +74,7 @@ returns-in-Err-Memory-clause-kept g c =
     let old = g.Q.Desk.seen c.args.desk.now in
     let new = g.Q.Desk.seen c.fetch_test.new.self in
     let name = name_of c.args.name in
-    kept_by s old new c.args.id.number (outcome_grew_by s old new 0 (ReadStep (ReadBlob name)) fetch_reply c.fetch_test.result c.fetch_test.ensures.step) c.requires.drew
+    kept_by c.laws.ensures.deposes s old new c.args.id.number (ReadBlob name) fetch_reply c.fetch_test.result c.requires.alone tt (λ e. cc) c.fetch_test.ensures.step c.requires.drew
     (fetched_drawn g.Q.Fetch.Fetch.left name c.in_ok-blob.field-0 (caller_of s old) (caller_of s new) c.in_ok-blob.ensures.own)
 
 pub returns-in-Err-Failed-clause-kept : goal.returns-in-Err-Failed-clause-kept
@@ -84,7 +83,7 @@ returns-in-Err-Failed-clause-kept g c =
     let old = g.Q.Desk.seen c.args.desk.now in
     let new = g.Q.Desk.seen c.fetch_test.new.self in
     let name = name_of c.args.name in
-    kept_by s old new c.args.id.number (outcome_grew_by s old new 0 (ReadStep (ReadBlob name)) fetch_reply c.fetch_test.result c.fetch_test.ensures.step) c.requires.drew
+    kept_by c.laws.ensures.deposes s old new c.args.id.number (ReadBlob name) fetch_reply c.fetch_test.result c.requires.alone tt (λ e. cc) c.fetch_test.ensures.step c.requires.drew
     (fetched_drawn g.Q.Fetch.Fetch.left name c.in_ok-blob.field-0 (caller_of s old) (caller_of s new) c.in_ok-blob.ensures.own)
 
 pub returns-in-Err-Failed-clause-trouble : goal.returns-in-Err-Failed-clause-trouble

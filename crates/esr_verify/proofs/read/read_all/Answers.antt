@@ -41,7 +41,7 @@ read_test-requires-clause-once g c κs within =
 
 pub returns-in_err-read_test-clause-kept : goal.returns-in_err-read_test-clause-kept
 returns-in_err-read_test-clause-kept g c =
-    kept_on g.Q.Desk.start (g.Q.Desk.seen c.args.desk.now) (g.Q.Desk.seen c.loop-name.desk) (g.Q.Desk.seen c.read_test.new.desk) c.args.id.number c.loop-name.invariant.kept.grew c.read_test.ensures.kept
+    kept_on g.Q.Desk.start (g.Q.Desk.seen c.args.desk.now) (g.Q.Desk.seen c.loop-name.desk) (g.Q.Desk.seen c.read_test.new.desk) c.args.id.number c.loop-name.invariant.kept.grew c.loop-name.invariant.kept.unverified c.read_test.ensures.kept
 
 pub loop-name-preserved : goal.loop-name-preserved
 loop-name-preserved g c =
@@ -62,7 +62,7 @@ loop-name-preserved g c =
     record {
       went = went_as old new _ _ (sym (ap (λ (l : List BlobName). reading l) more ∙ reading_both before _)) (went_on old mid new (reading before) _ inv.went read.went);
       done = subst (λ (l : List BlobName). HasDone s (caller_of s new) id (map name_of names) l) (sym more) (read_done s id (map name_of names) before _ (caller_of s mid) inv.done (caller_of s new) read.own);
-      kept = kept_on s old mid new id inv.kept.grew c.read_test.ensures.kept;
+      kept = kept_on s old mid new id inv.kept.grew inv.kept.unverified c.read_test.ensures.kept;
     }
 
 pub returns-clause-went : goal.returns-clause-went

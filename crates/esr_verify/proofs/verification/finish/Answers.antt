@@ -1,12 +1,11 @@
 use Rattle.std.proofs.Common.{map}
-use Rattle.esr_core.specs.Entry.{ReadStep, RemoveTests, VerifiedAll, WasRemoved, HasEnded}
+use Rattle.esr_core.specs.Entry.{RemoveTests, VerifiedAll, WasRemoved, HasEnded}
 use Rattle.esr_formats.specs.Names.{name_of}
-use Rattle.esr_desk.specs.Grew.{grew_by_on, outcome_grew_by}
 use Rattle.esr_checking.specs.Caller.{caller_of}
 use Rattle.esr_verify.specs.Trouble.{IsStepRefusal}
-use Rattle.esr_verify.specs.Went.{Drew}
-use Rattle.esr_verify.proofs.Going.{drew_on, drawn_same}
-use Rattle.esr_verify.proofs.Refusing.{passed, step_refused, if_refused, if_drew, any_err}
+use Rattle.esr_verify.specs.Went.{Kept}
+use Rattle.esr_verify.proofs.Going.{further_on, outcome_further, outcome_unverified, drew_on, kept_by, drawn_same}
+use Rattle.esr_verify.proofs.Refusing.{passed, step_refused, if_refused, if_kept, any_err}
 use Rattle.esr_verify.proofs.Doing.{removed_drawn}
 use Rattle.esr_verify.proofs.Ending.{can_remove, can_end, if_ended}
 use Rattle.esr_verify.proofs.verification.finish.Goals as goal
@@ -20,8 +19,8 @@ verified-requires-clause-may g c =
     let old = g.Q.Desk.seen c.args.desk.now in
     let mid = g.Q.Desk.seen c.remove_tests.new.self in
     let names = map name_of c.args.names.now in
-    let grew = outcome_grew_by s old mid 0 (ReadStep (RemoveTests names)) (λ x. WasRemoved) c.remove_tests.result c.remove_tests.ensures.step in
-    can_end s mid (caller_of s old) c.args.id.number names (drew_on s old mid c.args.id.number grew c.requires.drew (removed_drawn (caller_of s old) (caller_of s mid) (map name_of c.args.names.now) c.in_ok-remove_tests.ensures.own)) c.requires.done c.in_ok-remove_tests.ensures.own
+    let grew = outcome_further s old mid (RemoveTests names) (λ x. WasRemoved) c.remove_tests.result c.requires.alone tt c.remove_tests.ensures.step in
+    can_end s mid (caller_of s old) c.args.id.number names (drew_on c.laws.ensures.deposes s old mid c.args.id.number grew c.requires.drew (removed_drawn (caller_of s old) (caller_of s mid) (map name_of c.args.names.now) c.in_ok-remove_tests.ensures.own)) c.requires.done c.in_ok-remove_tests.ensures.own
 
 pub returns-in_err-remove_tests-clause-refused : goal.returns-in_err-remove_tests-clause-refused
 returns-in_err-remove_tests-clause-refused g c =
@@ -30,20 +29,21 @@ returns-in_err-remove_tests-clause-refused g c =
     let new = g.Q.Desk.seen c.remove_tests.new.self in
     let failed = c.in_err-remove_tests in
     passed c.from_residual.result (IsStepRefusal s new) failed.field-0.0 c.from_residual.ensures.1
-    (step_refused s old new c.args.id.number (ReadStep (RemoveTests (map name_of c.args.names.now))) failed.field-0.0 c.requires.alone c.requires.drew failed.ensures.step (drawn_same (caller_of s old) (caller_of s new) failed.ensures.kept))
+    (step_refused c.laws.ensures.refuses s old new c.args.id.number (RemoveTests (map name_of c.args.names.now)) failed.field-0.0 (λ refusal how. how) c.requires.alone c.requires.drew failed.ensures.step (drawn_same (caller_of s old) (caller_of s new) failed.ensures.kept))
 
-pub returns-in_err-remove_tests-clause-drew : goal.returns-in_err-remove_tests-clause-drew
-returns-in_err-remove_tests-clause-drew g c =
+pub returns-in_err-remove_tests-clause-kept : goal.returns-in_err-remove_tests-clause-kept
+returns-in_err-remove_tests-clause-kept g c =
     let s = g.Q.Desk.start in
     let old = g.Q.Desk.seen c.args.desk.now in
     let new = g.Q.Desk.seen c.remove_tests.new.self in
     let id = c.args.id.number in
-    let grew = outcome_grew_by s old new 0 (ReadStep (RemoveTests (map name_of c.args.names.now))) (λ x. WasRemoved) c.remove_tests.result c.remove_tests.ensures.step in
-    any_err c.from_residual.result (Drew s new id) (drew_on s old new id grew c.requires.drew (drawn_same (caller_of s old) (caller_of s new) c.in_err-remove_tests.ensures.kept))
+    any_err c.from_residual.result (Kept s old new id)
+    (kept_by c.laws.ensures.deposes s old new id (RemoveTests (map name_of c.args.names.now)) (λ x. WasRemoved) c.remove_tests.result c.requires.alone tt (λ e. cc) c.remove_tests.ensures.step c.requires.drew
+    (drawn_same (caller_of s old) (caller_of s new) c.in_err-remove_tests.ensures.kept))
 
 pub returns-in_err-remove_tests-clause-grew : goal.returns-in_err-remove_tests-clause-grew
 returns-in_err-remove_tests-clause-grew g c =
-    outcome_grew_by g.Q.Desk.start (g.Q.Desk.seen c.args.desk.now) (g.Q.Desk.seen c.remove_tests.new.self) 0 (ReadStep (RemoveTests (map name_of c.args.names.now))) (λ x. WasRemoved) c.remove_tests.result c.remove_tests.ensures.step
+    outcome_further g.Q.Desk.start (g.Q.Desk.seen c.args.desk.now) (g.Q.Desk.seen c.remove_tests.new.self) (RemoveTests (map name_of c.args.names.now)) (λ x. WasRemoved) c.remove_tests.result c.requires.alone tt c.remove_tests.ensures.step
 
 pub returns-clause-ended : goal.returns-clause-ended
 returns-clause-ended g c =
@@ -56,19 +56,21 @@ returns-clause-refused g c =
     let old = g.Q.Desk.seen c.args.desk.now in
     let mid = g.Q.Desk.seen c.remove_tests.new.self in
     let id = c.args.id.number in
-    let grew = outcome_grew_by s old mid 0 (ReadStep (RemoveTests (map name_of c.args.names.now))) (λ x. WasRemoved) c.remove_tests.result c.remove_tests.ensures.step in
-    if_refused s mid (g.Q.Desk.seen c.verified.new.self) id (ReadStep VerifiedAll) (λ x. HasEnded) c.verified.result c.requires.alone (drew_on s old mid id grew c.requires.drew (removed_drawn (caller_of s old) (caller_of s mid) (map name_of c.args.names.now) c.in_ok-remove_tests.ensures.own))
+    let grew = outcome_further s old mid (RemoveTests (map name_of c.args.names.now)) (λ x. WasRemoved) c.remove_tests.result c.requires.alone tt c.remove_tests.ensures.step in
+    if_refused c.laws.ensures.refuses s mid (g.Q.Desk.seen c.verified.new.self) id VerifiedAll (λ x. HasEnded) c.verified.result (λ refusal how. how) c.requires.alone (drew_on c.laws.ensures.deposes s old mid id grew c.requires.drew (removed_drawn (caller_of s old) (caller_of s mid) (map name_of c.args.names.now) c.in_ok-remove_tests.ensures.own))
     c.verified.ensures.step c.verified.ensures.kept
 
-pub returns-clause-drew : goal.returns-clause-drew
-returns-clause-drew g c =
+pub returns-clause-kept : goal.returns-clause-kept
+returns-clause-kept g c =
     let s = g.Q.Desk.start in
     let old = g.Q.Desk.seen c.args.desk.now in
     let mid = g.Q.Desk.seen c.remove_tests.new.self in
     let id = c.args.id.number in
-    let grew = outcome_grew_by s old mid 0 (ReadStep (RemoveTests (map name_of c.args.names.now))) (λ x. WasRemoved) c.remove_tests.result c.remove_tests.ensures.step in
-    if_drew s mid (g.Q.Desk.seen c.verified.new.self) id (ReadStep VerifiedAll) (λ x. HasEnded) c.verified.result (drew_on s old mid id grew c.requires.drew (removed_drawn (caller_of s old) (caller_of s mid) (map name_of c.args.names.now) c.in_ok-remove_tests.ensures.own)) c.verified.ensures.step
-    c.verified.ensures.kept
+    let names = map name_of c.args.names.now in
+    let grew = outcome_further s old mid (RemoveTests names) (λ x. WasRemoved) c.remove_tests.result c.requires.alone tt c.remove_tests.ensures.step in
+    let none = outcome_unverified s old mid (RemoveTests names) (λ x. WasRemoved) c.remove_tests.result c.requires.alone (λ e. cc) c.remove_tests.ensures.step in
+    if_kept c.laws.ensures.deposes s old mid (g.Q.Desk.seen c.verified.new.self) id VerifiedAll (λ x. HasEnded) c.verified.result c.requires.alone tt grew none (drew_on c.laws.ensures.deposes s old mid id grew c.requires.drew (removed_drawn (caller_of s old) (caller_of s mid) names c.in_ok-remove_tests.ensures.own))
+    c.verified.ensures.step c.verified.ensures.kept
 
 pub returns-clause-grew : goal.returns-clause-grew
 returns-clause-grew g c =
@@ -76,5 +78,5 @@ returns-clause-grew g c =
     let old = g.Q.Desk.seen c.args.desk.now in
     let mid = g.Q.Desk.seen c.remove_tests.new.self in
     let new = g.Q.Desk.seen c.verified.new.self in
-    grew_by_on s 0 old mid new (outcome_grew_by s old mid 0 (ReadStep (RemoveTests (map name_of c.args.names.now))) (λ x. WasRemoved) c.remove_tests.result c.remove_tests.ensures.step)
-    (outcome_grew_by s mid new 0 (ReadStep VerifiedAll) (λ x. HasEnded) c.verified.result c.verified.ensures.step)
+    further_on s old mid new (outcome_further s old mid (RemoveTests (map name_of c.args.names.now)) (λ x. WasRemoved) c.remove_tests.result c.requires.alone tt c.remove_tests.ensures.step)
+    (outcome_further s mid new VerifiedAll (λ x. HasEnded) c.verified.result c.requires.alone tt c.verified.ensures.step)

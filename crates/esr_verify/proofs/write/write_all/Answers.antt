@@ -1,7 +1,9 @@
 use Rattle.std.proofs.Common.{[], ◌∙◌, List, map, take, sym, ap, subst}
 use Rattle.esr_names.specs.declared.blob.BlobName.TheVariants.{Root}
 use Rattle.esr_model.specs.Names.{BlobName}
+use Rattle.esr_names.specs.IdText.{id_text}
 use Rattle.esr_formats.specs.Names.{name_of}
+use Rattle.esr_desk.specs.Start.{told_bytes}
 use Rattle.esr_checking.specs.Caller.{caller_of}
 use Rattle.esr_verify.specs.Steps.{writing}
 use Rattle.esr_verify.specs.Went.{Went}
@@ -41,7 +43,7 @@ write_test-requires-clause-once g c κs within =
 
 pub returns-in_err-write_test-clause-kept : goal.returns-in_err-write_test-clause-kept
 returns-in_err-write_test-clause-kept g c =
-    kept_on g.Q.Desk.start (g.Q.Desk.seen c.args.desk.now) (g.Q.Desk.seen c.loop-name.desk) (g.Q.Desk.seen c.write_test.new.desk) c.args.id.number c.loop-name.invariant.kept.grew c.write_test.ensures.kept
+    kept_on g.Q.Desk.start (g.Q.Desk.seen c.args.desk.now) (g.Q.Desk.seen c.loop-name.desk) (g.Q.Desk.seen c.write_test.new.desk) c.args.id.number c.loop-name.invariant.kept.grew c.loop-name.invariant.kept.unverified c.write_test.ensures.kept
 
 pub loop-name-preserved : goal.loop-name-preserved
 loop-name-preserved g c =
@@ -61,8 +63,8 @@ loop-name-preserved g c =
     let wrote = done.wrote in
     record {
       went = went_as old new _ _ (sym (ap (λ (l : List BlobName). writing l) more ∙ writing_both before _)) (went_on old mid new (writing before) _ inv.went wrote.went);
-      done = subst (λ (l : List BlobName). HasDone s (caller_of s new) id l []) (sym more) (wrote_done s (caller_of s mid) (caller_of s new) id before _ inv.done wrote.own);
-      kept = kept_on s old mid new id inv.kept.grew c.write_test.ensures.kept;
+      done = subst (λ (l : List BlobName). HasDone s (caller_of s new) id l []) (sym more) (wrote_done s (caller_of s mid) (caller_of s new) id before _ (told_bytes s (id_text id)) inv.done wrote.own);
+      kept = kept_on s old mid new id inv.kept.grew inv.kept.unverified c.write_test.ensures.kept;
     }
 
 pub returns-clause-went : goal.returns-clause-went

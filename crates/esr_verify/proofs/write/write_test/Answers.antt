@@ -1,14 +1,14 @@
 use Rattle.std.proofs.Common.{sym, ap, ◌∙◌}
 use Rattle.std.specs.Result.{is_err}
-use Rattle.esr_core.specs.Entry.{ReadStep, BeginTest, CommitTest, WasBegun, WasDone}
+use Rattle.esr_core.specs.Entry.{BeginTest, CommitTest, WasBegun, WasDone}
+use Rattle.esr_names.specs.IdText.{id_text}
 use Rattle.esr_formats.specs.Names.{name_of}
-use Rattle.esr_desk.specs.Grew.{outcome_grew_by}
 use Rattle.esr_checking.specs.Caller.{caller_of}
 use Rattle.esr_verify.specs.Trouble.{Shown}
 use Rattle.esr_verify.specs.declared.trouble.Trouble.TheVariants.{Step}
-use Rattle.esr_verify.proofs.Going.{kept_by, kept_on, drew_on, drawn_same}
+use Rattle.esr_verify.proofs.Going.{outcome_further, outcome_unverified, kept_by, kept_on, drew_on, drawn_same}
 use Rattle.esr_verify.proofs.Refusing.{passed, step_refused, is_faulty, never_err, on_ok}
-use Rattle.esr_verify.proofs.Doing.{is_own, can_commit, committed_drawn, holds_text, wrote_one}
+use Rattle.esr_verify.proofs.Doing.{is_own, can_commit, committed_drawn, held_text, holds_text, wrote_one}
 use Rattle.esr_verify.proofs.write.write_test.Goals as goal
 
 pub begin_test-requires-clause-may : goal.begin_test-requires-clause-may
@@ -21,14 +21,14 @@ returns-in_err-named-clause-trouble g c =
     let new = g.Q.Desk.seen c.begin_test.new.self in
     let refusal = c.in_err-named.field-0.0 in
     passed c.from_residual.result (Shown g.Q.Stage.Counted.faults g.Q.Fetch.Counted.faults s new) (Step refusal) c.from_residual.ensures.1
-    (step_refused s old new c.args.id.number (ReadStep (BeginTest (name_of c.args.name))) refusal c.requires.alone c.requires.drew c.in_err-named.ensures.step (drawn_same (caller_of s old) (caller_of s new) c.begin_test.ensures.own))
+    (step_refused c.laws.ensures.refuses s old new c.args.id.number (BeginTest (name_of c.args.name)) refusal (λ r how. how) c.requires.alone c.requires.drew c.in_err-named.ensures.step (drawn_same (caller_of s old) (caller_of s new) c.begin_test.ensures.own))
 
 pub returns-in_err-named-clause-kept : goal.returns-in_err-named-clause-kept
 returns-in_err-named-clause-kept g c =
     let s = g.Q.Desk.start in
     let old = g.Q.Desk.seen c.args.desk.now in
     let new = g.Q.Desk.seen c.begin_test.new.self in
-    kept_by s old new c.args.id.number (outcome_grew_by s old new 0 (ReadStep (BeginTest (name_of c.args.name))) (λ x. WasBegun) c.begin_test.result c.begin_test.ensures.step) c.requires.drew
+    kept_by c.laws.ensures.deposes s old new c.args.id.number (BeginTest (name_of c.args.name)) (λ x. WasBegun) c.begin_test.result c.requires.alone tt (λ e. cc) c.begin_test.ensures.step c.requires.drew
     (drawn_same (caller_of s old) (caller_of s new) c.begin_test.ensures.own)
 
 pub returns-then-is_err-clause-trouble : goal.returns-then-is_err-clause-trouble
@@ -41,14 +41,15 @@ returns-then-is_err-clause-kept g c =
     let s = g.Q.Desk.start in
     let old = g.Q.Desk.seen c.args.desk.now in
     let new = g.Q.Desk.seen c.begin_test.new.self in
-    kept_by s old new c.args.id.number (outcome_grew_by s old new 0 (ReadStep (BeginTest (name_of c.args.name))) (λ x. WasBegun) c.begin_test.result c.begin_test.ensures.step) c.requires.drew
+    kept_by c.laws.ensures.deposes s old new c.args.id.number (BeginTest (name_of c.args.name)) (λ x. WasBegun) c.begin_test.result c.requires.alone tt (λ e. cc) c.begin_test.ensures.step c.requires.drew
     (drawn_same (caller_of s old) (caller_of s new) c.begin_test.ensures.own)
 
 pub commit_test-requires-clause-holds : goal.commit_test-requires-clause-holds
 commit_test-requires-clause-holds g c =
     let s = g.Q.Desk.start in
-    holds_text s (g.Q.Desk.seen c.args.desk.now) (g.Q.Desk.seen c.begin_test.new.self) c.args.id.number (g.Q.Stage.Stage.contents c.in_ok-named.named.stage) (g.Q.Stage.Stage.contents c.write.new.self) c.id_text-text.result c.requires.drew c.begin_test.ensures.own
-    c.id_text-text.ensures.text c.in_ok-named.ensures.contents (on_ok c.write.result _ (sym c.is_err.ensures.value ∙ c.if-is_err.false) c.write.ensures.written)
+    holds_text s (g.Q.Desk.seen c.args.desk.now) (g.Q.Desk.seen c.begin_test.new.self) c.args.id.number (g.Q.Stage.Stage.contents c.write.new.self) c.requires.drew c.begin_test.ensures.own
+    (held_text s c.args.id.number (g.Q.Stage.Stage.contents c.in_ok-named.named.stage) (g.Q.Stage.Stage.contents c.write.new.self) c.id_text-text.result c.id_text-text.ensures.text c.in_ok-named.ensures.contents
+    (on_ok c.write.result _ (sym c.is_err.ensures.value ∙ c.if-is_err.false) c.write.ensures.written))
 
 pub commit_test-requires-clause-may : goal.commit_test-requires-clause-may
 commit_test-requires-clause-may g c =
@@ -64,9 +65,9 @@ returns-in_err-commit_test-clause-trouble g c =
     let new = g.Q.Desk.seen c.commit_test.new.self in
     let id = c.args.id.number in
     let refusal = c.in_err-commit_test.field-0.0 in
-    let drew = drew_on s old mid id (outcome_grew_by s old mid 0 (ReadStep (BeginTest (name_of c.args.name))) (λ x. WasBegun) c.begin_test.result c.begin_test.ensures.step) c.requires.drew (drawn_same (caller_of s old) (caller_of s mid) c.begin_test.ensures.own) in
+    let drew = drew_on c.laws.ensures.deposes s old mid id (outcome_further s old mid (BeginTest (name_of c.args.name)) (λ x. WasBegun) c.begin_test.result c.requires.alone tt c.begin_test.ensures.step) c.requires.drew (drawn_same (caller_of s old) (caller_of s mid) c.begin_test.ensures.own) in
     passed c.from_residual-in_err-commit_test.result (Shown g.Q.Stage.Counted.faults g.Q.Fetch.Counted.faults s new) (Step refusal) c.from_residual-in_err-commit_test.ensures.1
-    (step_refused s mid new id (ReadStep (CommitTest (name_of c.in_ok-named.named.name))) refusal c.requires.alone drew c.in_err-commit_test.ensures.step (drawn_same (caller_of s mid) (caller_of s new) c.in_err-commit_test.ensures.kept))
+    (step_refused c.laws.ensures.refuses s mid new id (CommitTest (name_of c.in_ok-named.named.name)) refusal (λ r how. how) c.requires.alone drew c.in_err-commit_test.ensures.step (drawn_same (caller_of s mid) (caller_of s new) c.in_err-commit_test.ensures.kept))
 
 pub returns-in_err-commit_test-clause-kept : goal.returns-in_err-commit_test-clause-kept
 returns-in_err-commit_test-clause-kept g c =
@@ -75,15 +76,18 @@ returns-in_err-commit_test-clause-kept g c =
     let mid = g.Q.Desk.seen c.begin_test.new.self in
     let new = g.Q.Desk.seen c.commit_test.new.self in
     let id = c.args.id.number in
-    let grew = outcome_grew_by s old mid 0 (ReadStep (BeginTest (name_of c.args.name))) (λ x. WasBegun) c.begin_test.result c.begin_test.ensures.step in
-    kept_on s old mid new id grew
-    (kept_by s mid new id (outcome_grew_by s mid new 0 (ReadStep (CommitTest (name_of c.in_ok-named.named.name))) (λ x. WasDone) c.commit_test.result c.commit_test.ensures.step)
-    (drew_on s old mid id grew c.requires.drew (drawn_same (caller_of s old) (caller_of s mid) c.begin_test.ensures.own)) (drawn_same (caller_of s mid) (caller_of s new) c.in_err-commit_test.ensures.kept))
+    let grew = outcome_further s old mid (BeginTest (name_of c.args.name)) (λ x. WasBegun) c.begin_test.result c.requires.alone tt c.begin_test.ensures.step in
+    kept_on s old mid new id grew (outcome_unverified s old mid (BeginTest (name_of c.args.name)) (λ x. WasBegun) c.begin_test.result c.requires.alone (λ e. cc) c.begin_test.ensures.step)
+    (kept_by c.laws.ensures.deposes s mid new id (CommitTest (name_of c.in_ok-named.named.name)) (λ x. WasDone) c.commit_test.result c.requires.alone tt (λ e. cc) c.commit_test.ensures.step
+    (drew_on c.laws.ensures.deposes s old mid id grew c.requires.drew (drawn_same (caller_of s old) (caller_of s mid) c.begin_test.ensures.own)) (drawn_same (caller_of s mid) (caller_of s new) c.in_err-commit_test.ensures.kept))
 
 pub returns-clause-wrote : goal.returns-clause-wrote
 returns-clause-wrote g c =
     let s = g.Q.Desk.start in
-    wrote_one s (g.Q.Desk.seen c.args.desk.now) (g.Q.Desk.seen c.begin_test.new.self) (g.Q.Desk.seen c.commit_test.new.self) (name_of c.args.name) (name_of c.in_ok-named.named.name) c.requires.alone (ap name_of c.in_ok-named.ensures.name)
+    wrote_one s (g.Q.Desk.seen c.args.desk.now) (g.Q.Desk.seen c.begin_test.new.self) (g.Q.Desk.seen c.commit_test.new.self) (name_of c.args.name) (name_of c.in_ok-named.named.name) (g.Q.Stage.Stage.contents c.write.new.self) (id_text c.args.id.number) c.requires.alone
+    (ap name_of c.in_ok-named.ensures.name)
+    (held_text s c.args.id.number (g.Q.Stage.Stage.contents c.in_ok-named.named.stage) (g.Q.Stage.Stage.contents c.write.new.self) c.id_text-text.result c.id_text-text.ensures.text c.in_ok-named.ensures.contents
+    (on_ok c.write.result _ (sym c.is_err.ensures.value ∙ c.if-is_err.false) c.write.ensures.written))
     c.in_ok-named.ensures.step c.begin_test.ensures.own c.in_ok-commit_test.ensures.step c.in_ok-commit_test.ensures.own
 
 pub returns-clause-kept : goal.returns-clause-kept
@@ -93,7 +97,7 @@ returns-clause-kept g c =
     let mid = g.Q.Desk.seen c.begin_test.new.self in
     let new = g.Q.Desk.seen c.commit_test.new.self in
     let id = c.args.id.number in
-    let grew = outcome_grew_by s old mid 0 (ReadStep (BeginTest (name_of c.args.name))) (λ x. WasBegun) c.begin_test.result c.begin_test.ensures.step in
-    kept_on s old mid new id grew
-    (kept_by s mid new id (outcome_grew_by s mid new 0 (ReadStep (CommitTest (name_of c.in_ok-named.named.name))) (λ x. WasDone) c.commit_test.result c.commit_test.ensures.step)
-    (drew_on s old mid id grew c.requires.drew (drawn_same (caller_of s old) (caller_of s mid) c.begin_test.ensures.own)) (committed_drawn (caller_of s mid) (caller_of s new) (name_of c.in_ok-named.named.name) c.in_ok-commit_test.ensures.own))
+    let grew = outcome_further s old mid (BeginTest (name_of c.args.name)) (λ x. WasBegun) c.begin_test.result c.requires.alone tt c.begin_test.ensures.step in
+    kept_on s old mid new id grew (outcome_unverified s old mid (BeginTest (name_of c.args.name)) (λ x. WasBegun) c.begin_test.result c.requires.alone (λ e. cc) c.begin_test.ensures.step)
+    (kept_by c.laws.ensures.deposes s mid new id (CommitTest (name_of c.in_ok-named.named.name)) (λ x. WasDone) c.commit_test.result c.requires.alone tt (λ e. cc) c.commit_test.ensures.step
+    (drew_on c.laws.ensures.deposes s old mid id grew c.requires.drew (drawn_same (caller_of s old) (caller_of s mid) c.begin_test.ensures.own)) (committed_drawn (caller_of s mid) (caller_of s new) (name_of c.in_ok-named.named.name) (g.Q.Stage.Stage.contents c.write.new.self) c.in_ok-commit_test.ensures.own))

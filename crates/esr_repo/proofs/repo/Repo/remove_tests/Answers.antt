@@ -25,4 +25,4 @@ returns-clause-own g c =
 
 pub returns-clause-kept : goal.returns-clause-kept
 returns-clause-kept g c =
-    kept_caller g.K.Told.start c.args.self.now c.args.self.now c.call_remove.new.self 0 (RemoveTests (map name_of c.args.names.now)) (λ _. WasRemoved) c.call_remove.result refl (returns-clause-step g c)
+    kept_caller g.K.Told.start c.args.self.now c.args.self.now c.call_remove.new.self 0 (RemoveTests (map name_of c.args.names.now)) (λ _. WasRemoved) c.call_remove.result (λ is. cc) refl (returns-clause-step g c)

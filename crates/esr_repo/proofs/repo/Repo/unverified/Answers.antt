@@ -13,4 +13,4 @@ returns-clause-own g c =
     on_done g.K.Told.start c.check.new.self c.note.new.self 0 (ReadStep (ReadFails (why_of c.args.why))) HasEnded c.note.result c.note.ensures.step (unverified_caller g.K.Told.start c.check.new.self c.note.new.self (why_of c.args.why))
 
 pub returns-clause-kept : goal.returns-clause-kept
-returns-clause-kept g c = kept_caller g.K.Told.start c.args.self.now c.check.new.self c.note.new.self 0 (ReadFails (why_of c.args.why)) (λ _. HasEnded) c.note.result c.in_ok-check.ensures.step.0 c.note.ensures.step
+returns-clause-kept g c = kept_caller g.K.Told.start c.args.self.now c.check.new.self c.note.new.self 0 (ReadFails (why_of c.args.why)) (λ _. HasEnded) c.note.result (λ is. cc) c.in_ok-check.ensures.step.0 c.note.ensures.step

@@ -11,4 +11,4 @@ pub returns-clause-own : goal.returns-clause-own
 returns-clause-own g c = on_done g.K.Told.start c.check.new.self c.note.new.self 0 (ReadStep VerifiedAll) HasEnded c.note.result c.note.ensures.step (verified_caller g.K.Told.start c.check.new.self c.note.new.self)
 
 pub returns-clause-kept : goal.returns-clause-kept
-returns-clause-kept g c = kept_caller g.K.Told.start c.args.self.now c.check.new.self c.note.new.self 0 VerifiedAll (λ _. HasEnded) c.note.result c.in_ok-check.ensures.step.0 c.note.ensures.step
+returns-clause-kept g c = kept_caller g.K.Told.start c.args.self.now c.check.new.self c.note.new.self 0 VerifiedAll (λ _. HasEnded) c.note.result (λ is. cc) c.in_ok-check.ensures.step.0 c.note.ensures.step

@@ -1,0 +1,59 @@
+-- How steps may be refused while no record swap has failed.
+use Rattle.std.specs.Prelude.{◌≡◌, ◌⊎◌, ℕ, true, List}
+use Rattle.esr_model.specs.Names.{BlobName}
+use Rattle.esr_model.specs.Values.{Bytes, Has}
+use Rattle.esr_core.specs.World.{World}
+use Rattle.esr_core.specs.Entry.{AskedIndex, Asked, Snapshot, Restore, ReadBlob, DrawTest, BeginTest, CommitTest, RemoveTests, Step, AskStep, DrawStep, BeginStep, CommitStep, LatestStep, FetchStep, ListStep, RaiseStep, SettleStep, DroppedStep, ElectStep, ReadStep, Refusal, CleanupRunning, NameInUse, TooMany, DeposedAt, StaleTerm, GenerationsSpent, TermsSpent, IdsSpent, NameTaken, DepotFault, NoSnapshot, BeingDeleted, Refused, Moment}
+use Rattle.esr_core.specs.After.{swaps_record}
+
+-- A step may be refused so: a command by a rule, or since its ids are spent; a step that draws ids or begins a generation or a term,
+-- since these are spent; a record swap of a ticket, as its term is over; a commit, as its name is taken; and a call of the container,
+-- as it failed. A step that is none of these isn't refused.
+pub data MayRefuse : Step → Refusal → Type 0 where
+  InCleanup : (command : Asked) (op : ℕ) → MayRefuse (AskStep command) (CleanupRunning op)
+  InUse : (name : Bytes) (indices : List AskedIndex) (moment uuid : ℕ) → MayRefuse (AskStep (Snapshot name indices moment)) (NameInUse uuid)
+  InFull : (name : Bytes) (indices : List AskedIndex) (moment limit : ℕ) → MayRefuse (AskStep (Snapshot name indices moment)) (TooMany limit)
+  NoIdForAsk : (name : Bytes) (indices : List AskedIndex) (moment next : ℕ) → MayRefuse (AskStep (Snapshot name indices moment)) (IdsSpent next)
+  AskFault : (name : Bytes) (indices : List AskedIndex) (moment : ℕ) → MayRefuse (AskStep (Snapshot name indices moment)) DepotFault
+  NotListed : (name place : Bytes) (at : ℕ) → MayRefuse (AskStep (Restore name place)) (NoSnapshot at)
+  NamedByDelete : (name place : Bytes) (op : ℕ) → MayRefuse (AskStep (Restore name place)) (BeingDeleted op)
+  FullOfRestores : (name place : Bytes) (limit : ℕ) → MayRefuse (AskStep (Restore name place)) (TooMany limit)
+  NoIds : (count next : ℕ) → MayRefuse (DrawStep count) (IdsSpent next)
+  BeginFault : (name : BlobName) → MayRefuse (BeginStep name) DepotFault
+  CommitFault : (name : BlobName) → MayRefuse (CommitStep name) DepotFault
+  CommitTaken : (name : BlobName) → MayRefuse (CommitStep name) (NameTaken name)
+  LatestFault : MayRefuse LatestStep DepotFault
+  FetchFault : (name : BlobName) → MayRefuse (FetchStep name) DepotFault
+  ListFault : MayRefuse ListStep DepotFault
+  RaiseFault : MayRefuse RaiseStep DepotFault
+  RaiseStale : (own now : ℕ) → MayRefuse RaiseStep (StaleTerm own now)
+  RaiseSpent : (pending : ℕ) → MayRefuse RaiseStep (GenerationsSpent pending)
+  SettleFault : MayRefuse SettleStep DepotFault
+  SettleStale : (own now : ℕ) → MayRefuse SettleStep (StaleTerm own now)
+  DropFault : MayRefuse DroppedStep DepotFault
+  DropStale : (own now : ℕ) → MayRefuse DroppedStep (StaleTerm own now)
+  ElectFault : MayRefuse ElectStep DepotFault
+  NoTerms : (term : ℕ) → MayRefuse ElectStep (TermsSpent term)
+  ReadFault : (name : BlobName) → MayRefuse (ReadStep (ReadBlob name)) DepotFault
+  NoTestId : (next : ℕ) → MayRefuse (ReadStep DrawTest) (IdsSpent next)
+  BeginTestFault : (name : BlobName) → MayRefuse (ReadStep (BeginTest name)) DepotFault
+  CommitTestFault : (name : BlobName) → MayRefuse (ReadStep (CommitTest name)) DepotFault
+  TestTaken : (name : BlobName) → MayRefuse (ReadStep (CommitTest name)) (NameTaken name)
+  RemoveFault : (names : List BlobName) → MayRefuse (ReadStep (RemoveTests names)) DepotFault
+
+-- the world is deposed, and the refusal says so
+pub record SaysDeposed (w : World) (refusal : Refusal) : Type 0 where
+  pub deposed : w.deposed ≡ true
+  pub place : ℕ
+  pub is : refusal ≡ DeposedAt place
+
+-- the step was refused as it may be, or since a record swap has failed
+abbrev pub RefusedSo : World → Step → Refusal → Type 0
+RefusedSo w step refusal = SaysDeposed w refusal ⊎ MayRefuse step refusal
+
+-- a record swap of the history failed
+pub record SwapFailed (log : List Moment) : Type 0 where
+  pub moment : Moment
+  pub there : Has log moment
+  pub swap : swaps_record moment.entry.step ≡ true
+  pub failed : moment.entry.reply ≡ Refused DepotFault
