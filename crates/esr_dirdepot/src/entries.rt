@@ -44,6 +44,19 @@ pub fn make_way<R: Files<File = File>>(files: &R, path: &str, start: usize) -> i
     Ok(())
 }
 
+/// Removes the folders on the way to an entry that are empty now, from the one that holds it up to the one that ends at
+/// `start` bytes of its path. One that can't be removed stays, with those above it.
+pub fn clear_way<R: Files<File = File>>(files: &R, path: &str, start: usize) {
+    for end in (start..path.len()).rev() {
+        if let Some((folder, rest)) = path.split_at_checked(end)
+            && rest.starts_with('/')
+            && fs::remove_dir(files, folder).is_err()
+        {
+            return;
+        }
+    }
+}
+
 /// Tells whether a plain file has that path. What is there and is no plain file is an error.
 pub fn has_file<R: Files<File = File>>(files: &R, path: &str) -> io::Result<bool> {
     match fs::symlink_metadata(files, path) {

@@ -1,6 +1,6 @@
 //! The calls of a container, on its folder.
 use crate::entries::{
-    has_file, make_folder, make_way, open_file, parent_of, remove_file, sync_folder,
+    clear_way, has_file, make_folder, make_way, open_file, parent_of, remove_file, sync_folder,
 };
 use crate::hold::{Hold, open_lock, take_lock};
 use crate::name::is_inside;
@@ -223,7 +223,18 @@ impl<'a, R: Files<File = File> + Eprint> Folder<'a, R> {
             self.paths.aim(name.as_str())?;
             remove_file(self.files, self.paths.aimed.as_str())?;
         }
-        self.sync_folders_of(names)
+        self.sync_folders_of(names)?;
+        self.clear_folders_of(names)
+    }
+
+    /// Removes the folders of these blobs that are empty now. A power cut may bring one back, as an empty folder.
+    fn clear_folders_of(&mut self, names: &[Text]) -> io::Result<()> {
+        let start = self.paths.blobs.len().saturating_add(1);
+        for name in names {
+            self.paths.aim(name.as_str())?;
+            clear_way(self.files, self.paths.aimed.as_str(), start);
+        }
+        Ok(())
     }
 
     /// Syncs the folders of these blobs, once for neighbours in one folder.
