@@ -1,14 +1,13 @@
 -- What each entry of a history where nothing fails answers to a line.
-use Rattle.std.proofs.Common.{◌≡◌, ◌≢◌, ℕ, ◌==◌, true, false, List, Option, Some, None, refl, sym, ap, ◌∙◌, subst, inl, inr}
-use Rattle.std.proofs.lemmas.Bool.{eqb-true}
+use Rattle.std.proofs.Common.{◌≡◌, ℕ, false, List, Option, Some, None, refl, sym, subst, inl, inr}
 use Rattle.esr_model.specs.Values.{Bytes, Has}
 use Rattle.esr_core.specs.Entry as entry
-use Rattle.esr_core.specs.Entry.{AskedIndex, Asked, Snapshot, Restore, Read, Step, AskStep, LookStep, ReadStep, Refusal, NameInUse, TooMany, NoSnapshot, BeingDeleted, Accepted, AcceptedRestore, Looked, HasEnded, Entry, Moment}
+use Rattle.esr_core.specs.Entry.{AskedIndex, Asked, Snapshot, Restore, Step, AskStep, LookStep, Refusal, NameInUse, TooMany, NoSnapshot, BeingDeleted, Accepted, AcceptedRestore, Looked, Entry, Moment}
 use Rattle.esr_core.specs.After.{or_else}
 use Rattle.esr_script.specs.declared.item.AskedIndex.{AskedIndex as LineIndex}
 use Rattle.esr_script.specs.declared.item.Item.{Item}
 use Rattle.esr_script.specs.declared.item.Item.TheVariants as items
-use Rattle.esr_report.specs.Replies.{Reply, fails_swap, has_fallen, deposed_by, end_of_op, restore_reply, ask_reply, look_reply, is_line_read}
+use Rattle.esr_report.specs.Replies.{Reply, fails_swap, has_fallen, deposed_by, end_of_op, restore_reply, ask_reply, look_reply}
 use Rattle.esr_desk.specs.Start.{Start, world_of}
 use Rattle.esr_quiet.specs.Refusals.{IsByRule, AreByRule}
 use Rattle.esr_quiet.specs.Smooth.{IsSmooth, NoneFailed, NoneUnrestored}
@@ -21,7 +20,6 @@ use Rattle.esr_complete.proofs.RestoreTickets.{IsRestoredReply, restored_reply}
 use Rattle.esr_complete.proofs.FollowingRestores.{AskedRestore, opens}
 use Rattle.esr_complete.proofs.Histories.{Laws, all_calm, all_closed, follows_all}
 use Rattle.esr_complete.proofs.RestoreHistories.{all_restored}
-use Rattle.esr_complete.proofs.Ended.{NoneEnded}
 
 -- there is an answer, and it is one of the line
 abbrev pub IsAnswerOf : Item → Option Reply → Type 0
@@ -33,8 +31,6 @@ pub record Fact (all : List Entry) (e : Entry) : Type 0 where
   pub asked : (of : Bytes) (refs : List AskedIndex) (moment : ℕ) → e.step ≡ AskStep (Snapshot of refs moment) → (name : Bytes) (indices : List LineIndex) → IsAnswerOf (items.Snapshot name indices) (ask_reply all e.reply)
   pub restored : (of place : Bytes) → e.step ≡ AskStep (Restore of place) → (name at : Bytes) → IsAnswerOf (items.Restore name at) (ask_reply all e.reply)
   pub looked : e.step ≡ LookStep → IsAnswerOf items.List (look_reply e.reply)
-  -- a step of who 0 that reads belongs to no line
-  pub aside : (read : Read) → (e.who == 0) ≡ true → e.step ≡ ReadStep read → is_line_read read e.reply ≡ false
 
 unfallen_rule : (command : Asked) (refusal : Refusal) → IsByRule command refusal → fails_swap (AskStep command) (entry.Refused refusal) ≡ false
 unfallen_rule (Snapshot name indices moment) (NameInUse uuid) rule = refl
@@ -75,39 +71,26 @@ looked_by : (reply : entry.Reply) → IsSaid LookStep reply → IsAnswerOf items
 looked_by (Looked snapshots safe) said = tt
 looked_by reply said = absurd said
 
-aside_by : (read : Read) (reply : entry.Reply) → reply ≢ HasEnded → IsCalm reply (ReadStep read) → is_line_read read reply ≡ false
-aside_by read HasEnded none calm = absurd (none refl)
-aside_by read (entry.Refused refusal) none calm = absurd calm
-aside_by read reply none calm = refl
-
-fact_by : (all : List Entry) (e : Entry) → IsCalm e.reply e.step → IsSaid e.step e.reply → ((o : ℕ) → accepts e.reply ≡ Some o → IsMade (end_of_op all o all)) → IsAnswered all e.reply
-    → ((read : Read) → e.who ≡ 0 → e.step ≡ ReadStep read → e.reply ≢ HasEnded) → Fact all e
-fact_by all e calm said made answered unended =
+fact_by : (all : List Entry) (e : Entry) → IsCalm e.reply e.step → IsSaid e.step e.reply → ((o : ℕ) → accepts e.reply ≡ Some o → IsMade (end_of_op all o all)) → IsAnswered all e.reply → Fact all e
+fact_by all e calm said made answered =
     record {
       unfallen = unfallen_by e.step e.reply calm;
       asked = λ of refs moment is name indices. asked_by all of refs moment e.reply name indices (subst (IsCalm e.reply) is calm) (subst (λ (step : Step). IsSaid step e.reply) is said) made;
       restored = λ of place is name at. restored_by all of place e.reply name at (subst (IsCalm e.reply) is calm) (subst (λ (step : Step). IsSaid step e.reply) is said) answered;
       looked = λ is. looked_by e.reply (subst (λ (step : Step). IsSaid step e.reply) is said);
-      aside = λ read who is. aside_by read e.reply (unended read (eqb-true e.who 0 who) is) (subst (IsCalm e.reply) is calm);
     }
 
 -- an op that was accepted ends with its snapshot
 made_by : (all : List Entry) (o : ℕ) → ((e : Entry) → Has all e → IsCalm e.reply e.step) → IsSettledIn all o → IsMade (end_of_op all o all)
 made_by all o calm h = end_made all o all calm h.e h.has (settle_made all o h.uuid h.e h.op_is h.uuid_is h.step h.reply)
 
-pub facts : Laws → (s : Start) (log : List Moment) → IsSmooth s log → NoneFailed log → NoneUnrestored log → AreByRule log → NoneEnded log → IsIdle s log → (e : Entry) → Has (entries_of log) e → Fact (entries_of log) e
-facts laws s log smooth none unrestored by_rule none_ended idle e has =
+pub facts : Laws → (s : Start) (log : List Moment) → IsSmooth s log → NoneFailed log → NoneUnrestored log → AreByRule log → IsIdle s log → (e : Entry) → Has (entries_of log) e → Fact (entries_of log) e
+facts laws s log smooth none unrestored by_rule idle e has =
     fact_by (entries_of log) e (calm e has) (h.said e has) (λ o accepted. elim (h.ended e o has accepted) [ inl stands ↦ absurd (all_closed laws s log smooth idle o stands) | inr settled ↦ made_by (entries_of log) o calm settled ])
     (λ a opened. restored_reply (entries_of log) a.op a.uuid a.indices (all_restored laws s log smooth none unrestored by_rule idle e a has opened))
-    (unended e has)
   where
     h : FollowsIn (world_of s log) (entries_of log)
     h = follows_all s log smooth none by_rule
 
     calm : (x : Entry) → Has (entries_of log) x → IsCalm x.reply x.step
     calm x m = let (moment, there, is) = Has-mapped (λ (y : Moment). y.entry) log x m in subst (λ (y : Entry). IsCalm y.reply y.step) is (all_calm log none by_rule moment there)
-
-    unended : (x : Entry) → Has (entries_of log) x → (read : Read) → x.who ≡ 0 → x.step ≡ ReadStep read → x.reply ≢ HasEnded
-    unended x m read who step ended =
-        let (moment, there, is) = Has-mapped (λ (y : Moment). y.entry) log x m in
-        none_ended moment read there (ap (λ (y : Entry). y.who) is ∙ who) (ap (λ (y : Entry). y.step) is ∙ step) (ap (λ (y : Entry). y.reply) is ∙ ended)

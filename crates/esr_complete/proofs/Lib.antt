@@ -6,7 +6,7 @@ pub mod Steps
 pub mod RestoreSteps
 pub mod Histories
 pub mod RestoreHistories
-pub mod Ended
+pub mod InTurn
 pub mod Facts
 pub mod Walk
 pub mod Endings

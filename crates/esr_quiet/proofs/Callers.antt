@@ -8,14 +8,15 @@ use Rattle.esr_model.specs.Image.{Image}
 use Rattle.esr_core.specs.World.{World, Op, ShardWork, ReadState, RestoreShard, Restoring, Reader, Caller, Ticket, Swap, swap}
 use Rattle.esr_core.specs.Restores.{restore_shard}
 use Rattle.esr_core.specs.Steps.{with_ticket}
-use Rattle.esr_core.specs.Entry.{Asked, Snapshot, Restore, Given, GivenShard, GivenFinalize, GivenDrop, GivenRestore, Read, ReadBlob, RestoredShard, DrawTest, CommitTest, ReadFails, Step, AskStep, TakeStep, DrawStep, BeginStep, CommitStep, LatestStep, FetchStep, RaiseStep, SettleStep, DoneStep, FailedStep, FinishStep, DroppedStep, ElectStep, LookStep, ReadStep, DeposedAt, DepotFault, Reply, Gave, DrawnFrom, WasDone, WasThere, WasFetched, HasEnded, Refused, AcceptedRestore, Moment}
+use Rattle.esr_core.specs.Entry.{Asked, Snapshot, Restore, Given, GivenShard, GivenFinalize, GivenDrop, GivenRestore, Read, ReadBlob, RestoredShard, DrawTest, CommitTest, ReadFails, Step, AskStep, TakeStep, DrawStep, BeginStep, CommitStep, LatestStep, FetchStep, RaiseStep, SettleStep, DoneStep, FailedStep, FinishStep, DroppedStep, ElectStep, LookStep, ReadStep, DepotFault, Reply, Gave, DrawnFrom, WasDone, WasThere, WasFetched, HasEnded, Refused, AcceptedRestore, Moment}
 use Rattle.esr_core.specs.After.{shard_of, taken_shard, taken_restore_shard, taken_restore, taken_by, with_given, change, told_blob, settled_by, settled_of, done_by, done_of, is_stale, failed_by, failed_of, dropped_of, read_told, shard_over, read_over, read_step, read_by, done_step, swaps_record, fallen, is_latest, tried, test_left, faulted, answered, caller_after, after}
 use Rattle.esr_core.specs.Allowed as allowed
 use Rattle.esr_core.specs.Allowed.{ReadAllows, VerifyAllows, Allows, Allowed}
-use Rattle.esr_core.specs.History.{world_from, IsLegal}
+use Rattle.esr_core.specs.History.{world_from}
 use Rattle.esr_core.proofs.Histories.{deposed_stays}
-use Rattle.esr_desk.specs.Start.{Start, Legal, formats_of, ticket_of}
-use Rattle.esr_quiet.proofs.Prefixes.{legal_rest}
+use Rattle.esr_desk.specs.Start.{Start, Legal, formats_of, world_of, ticket_of}
+use Rattle.esr_checking.specs.Caller.{caller_of}
+use Rattle.esr_quiet.proofs.Prefixes.{world_both, legal_rest}
 use Rattle.esr_quiet.proofs.Others.{nothing_stays}
 
 -- ---- what a step makes of the world leaves it
@@ -154,7 +155,7 @@ module _ (f : Formats) (w : World) where
   fault_same k ElectStep image = swapped_same k ElectStep image true
   fault_same k step image = refl
 
-  answered_same : (k : ℕ) (step : Step) (reply : Reply) (image : Option Image) → (answered f w k step reply image).caller ≡ w.caller
+  pub answered_same : (k : ℕ) (step : Step) (reply : Reply) (image : Option Image) → (answered f w k step reply image).caller ≡ w.caller
   answered_same k step (Refused DepotFault) image = fault_same k step image
   answered_same k step (Refused refusal) image = refl
   answered_same k step reply image = step_same k step reply image
@@ -202,6 +203,16 @@ caller_stays f size w m a work = elim a.answered [
   | inl alive ↦ caller_by_work f size w (answered f w m.entry.who m.entry.step m.entry.reply m.image).caller m.entry.who m.entry.step m.entry.reply m.image alive.1 work ∙ answered_same f w m.entry.who m.entry.step m.entry.reply m.image
   | inr dead ↦ ap (λ (x : World). x.caller) (deposed_stays f w m dead)
 ]
+
+-- ---- what it is after a step
+
+pub caller_one : (s : Start) (front : List Moment) (m : Moment) → caller_of s (front ++ m ∷ []) ≡ caller_after (formats_of s) (caller_of s front) m.entry.who m.entry.step m.entry.reply m.image
+caller_one s front m =
+    ap (λ (w : World). w.caller) (world_both (formats_of s) front (m ∷ []) s.world)
+    ∙ ap (λ (c : Caller). caller_after (formats_of s) c m.entry.who m.entry.step m.entry.reply m.image) (answered_same (formats_of s) (world_of s front) m.entry.who m.entry.step m.entry.reply m.image)
+
+pub caller_left : (s : Start) (front : List Moment) (m : Moment) → Allowed (formats_of s) s.part_size (world_of s front) m → IsWork m → caller_of s (front ++ m ∷ []) ≡ caller_of s front
+caller_left s front m a work = ap (λ (w : World). w.caller) (world_both (formats_of s) front (m ∷ []) s.world) ∙ caller_stays (formats_of s) s.part_size (world_of s front) m a work
 
 -- ---- a further step of a check or a verification gives no unit
 

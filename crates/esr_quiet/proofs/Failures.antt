@@ -8,7 +8,7 @@ use Rattle.esr_model.specs.Values.{Bytes, Has, ShardFiles, Formats, Kind}
 use Rattle.esr_model.specs.Image.{Image}
 use Rattle.esr_core.specs.World.{World, Shard, Ticket}
 use Rattle.esr_core.specs.Steps.{IsOut}
-use Rattle.esr_core.specs.Entry.{Asked, Snapshot, Restore, Why, OfDepot, OfSource, OfChange, OfDamage, OfTaken, OfIdsSpent, OfGenerationsSpent, OfTarget, OfPrint, OfDisagreement, Step, FetchStep, FailedStep, Refusal, NameTaken, IdsSpent, GenerationsSpent, Reply, WasAbsent, HasEnded, Refused, Moment}
+use Rattle.esr_core.specs.Entry.{Why, OfDepot, OfSource, OfChange, OfDamage, OfTaken, OfIdsSpent, OfGenerationsSpent, OfTarget, OfPrint, OfDisagreement, Step, FetchStep, FailedStep, Refusal, NameTaken, IdsSpent, GenerationsSpent, Reply, WasAbsent, HasEnded, Refused, Moment}
 use Rattle.esr_core.specs.Allowed as allowed
 use Rattle.esr_core.specs.Allowed.{Told, Fetches, Fails, Allows, Allowed}
 use Rattle.esr_formats.specs.Formats.{formats}
@@ -21,14 +21,13 @@ use Rattle.esr_desk.specs.declared.fault.By.TheVariants as by
 use Rattle.esr_desk.specs.Start.{Start, formats_of, world_of, or_no_ticket, ticket_of}
 use Rattle.esr_desk.specs.Damage.{IsBase, BaseFault, WasMissing, IsBad}
 use Rattle.esr_desk.specs.Shown.{Counts, DepotShown, SourceShown, ReadShown, StepShown, IsShown, IsUntold, HadFault, HadRefusal}
-use Rattle.esr_quiet.specs.Refusals.{IsByRule}
 use Rattle.esr_quiet.specs.Caused.{AreCaused}
 use Rattle.esr_quiet.specs.Smooth.{IsSpent, IsSmooth, NoneFailed}
 use Rattle.esr_quiet.specs.Prefixes.{Prefixes}
 use Rattle.esr_quiet.proofs.Prefixes.{told_at, place_of, has_front, has_at}
 use Rattle.esr_quiet.proofs.Passing.{quiet_at, legal_at}
 use Rattle.esr_quiet.proofs.Bases.{is_there, does_read, not_ahead}
-use Rattle.esr_quiet.proofs.Rules.{by_rule}
+use Rattle.esr_quiet.proofs.Rules.{by_rule, no_rule}
 
 -- ---- what a step tells
 
@@ -69,6 +68,16 @@ index_is s = refl
 
 -- ---- each cause
 
+pub read_shown : {S F H T : Type 0} (b : By S F H T) (shown : Type 0) → ReadShown b shown → shown
+read_shown (by.Object object) shown h = absurd h
+read_shown by.Entry shown h = absurd h
+read_shown by.Nothing shown h = h
+
+pub step_shown : {S F H T : Type 0} (b : By S F H T) (shown : Type 0) → StepShown b shown → shown
+step_shown (by.Object object) shown h = absurd h
+step_shown by.Entry shown h = h
+step_shown by.Nothing shown h = absurd h
+
 module _ (s : Start) (log : List Moment) (smooth : IsSmooth s log) (prefixes : Prefixes s log) where
   -- no object of the container fails
   no_fault : (front : List Moment) (who : ℕ) → ((m : Moment) → Has front m → Has log m) → HadFault s front who → ⊥
@@ -92,11 +101,6 @@ module _ (s : Start) (log : List Moment) (smooth : IsSmooth s log) (prefixes : P
   source c t steady (by.Object (objects.Target target)) h = h
   source c t steady by.Entry h = h
   source c t steady by.Nothing h = h
-
-  read_shown : {S F H T : Type 0} (b : By S F H T) (shown : Type 0) → ReadShown b shown → shown
-  read_shown (by.Object object) shown h = absurd h
-  read_shown by.Entry shown h = absurd h
-  read_shown by.Nothing shown h = h
 
   -- the sources tell all files
   untold : (t : Ticket) → IsUntold s t → ⊥
@@ -127,18 +131,8 @@ module _ (s : Start) (log : List Moment) (smooth : IsSmooth s log) (prefixes : P
   damage : (front back : List Moment) → log ≡ front ++ back → (who : ℕ) → IsOut (world_of s front) who (ticket_of s front who) → (name : BlobName) → IsBase (ticket_of s front who) name → BaseFault s front who name → ⊥
   damage front back is who out name base h = elim h [ inl m ↦ missing front back is who name m | inr b ↦ bad front back is who (ticket_of s front who) out name base b.0 (b.1 smooth.tells) b.2 ]
 
-  step_shown : {S F H T : Type 0} (b : By S F H T) (shown : Type 0) → StepShown b shown → shown
-  step_shown (by.Object object) shown h = absurd h
-  step_shown by.Entry shown h = h
-  step_shown by.Nothing shown h = absurd h
-
   had : (front back : List Moment) → log ≡ front ++ back → (who : ℕ) (refusal : Refusal) (h : HadRefusal front who refusal) → Has log h.moment
   had front back is who refusal h = subst (λ (l : List Moment). Has l h.moment) (sym is) (has_front front back h.moment (subst (λ (l : List Moment). Has l h.moment) (sym h.is) (has_at h.front h.back h.moment)))
-
-  no_rule : (command : Asked) (name : BlobName) → IsByRule command (NameTaken name) → ⊥
-  no_rule (Snapshot of indices time) name h = h
-  no_rule (Restore of place) name h = h
-  no_rule command name h = h
 
   -- no name is taken
   untaken : (front back : List Moment) → log ≡ front ++ back → (who : ℕ) (name : BlobName) → HadRefusal front who (NameTaken name) → ⊥

@@ -12,6 +12,8 @@ pub mod Rules
 pub mod Fronts
 pub mod Restores
 pub mod Unasked
+pub mod Texted
+pub mod Verifications
 pub mod Core
 pub mod FreeFrame
 pub mod FreeNames

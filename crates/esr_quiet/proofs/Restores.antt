@@ -81,11 +81,17 @@ by_reader f w name image who some none (ByReader k q reading may) = record { q =
 by_reader f w name image who some none (ByCheck may) = absurd (omega (arith, some))
 by_reader f w name image who some none (ByVerify may) = absurd (omega (arith, some))
 
+-- a fetch that found nothing
+pub missed_at : (f : Formats) (size : ℕ) (w : World) (m : Moment) (name : BlobName) → w.deposed ≡ false → Allowed f size w m → m.entry.step ≡ ReadStep (ReadBlob name) → m.entry.reply ≡ WasAbsent → (image : Image) → m.image ≡ Some image
+    → Fetcher f w name (Some image) m.entry.who × (fin.get w.blobs (f.names.text name) ≡ None)
+missed_at f size w m name present a step reply image is =
+    subst (λ im. Tells f w m.entry.who (ReadStep (ReadBlob name)) WasAbsent im) is
+    (subst (λ st. Tells f w m.entry.who st WasAbsent m.image) step (subst (λ r. Tells f w m.entry.who m.entry.step r m.image) reply (told_by f size w m present a)))
+
 misses_at : (f : Formats) (size : ℕ) (w : World) (m : Moment) (name : BlobName) → w.deposed ≡ false → Allowed f size w m → m.entry.step ≡ ReadStep (ReadBlob name) → m.entry.reply ≡ WasAbsent → (image : Image) → m.image ≡ Some image → 1 ≤ m.entry.who
     → Misses f w m.entry.who name (Some image)
 misses_at f size w m name present a step reply image is some =
-    let h = subst (λ im. Tells f w m.entry.who (ReadStep (ReadBlob name)) WasAbsent im) is
-    (subst (λ st. Tells f w m.entry.who st WasAbsent m.image) step (subst (λ r. Tells f w m.entry.who m.entry.step r m.image) reply (told_by f size w m present a))) in
+    let h = missed_at f size w m name present a step reply image is in
     by_reader f w name (Some image) m.entry.who some h.1 h.0
 
 -- ---- what a ticket may read stands

@@ -6,7 +6,7 @@ use Rattle.esr_model.specs.Values.{Bytes, Has, IndexRef, RootData, SnapInfo, For
 use Rattle.esr_model.specs.Image.{Image, Present}
 use Rattle.esr_core.specs.World.{World, Work, Shard, Finalize, Deleting, Drop, Ticket, Swap, swap_of, metadata}
 use Rattle.esr_core.specs.Steps.{IsOut}
-use Rattle.esr_core.specs.Entry.{Asked, Snapshot, Restore, Read, CommitTest, Step, AskStep, CommitStep, ReadStep, Reply, Refused, DepotFault, Moment}
+use Rattle.esr_core.specs.Entry.{Asked, Snapshot, Restore, Read, CommitTest, Step, AskStep, CommitStep, ReadStep, NameTaken, Reply, Refused, DepotFault, Moment}
 use Rattle.esr_core.specs.Allowed as allowed
 use Rattle.esr_core.specs.Allowed.{Told, Commits, IsMetadata, IsOwnTest, RestoreAllows, OpeningRestore, NotListed, NamedByDelete, FullOfRestores, ReadAllows, ReadFound, ReadMissing, ReadFault, RestoringShard, ReaderFailing, CheckingAll, CheckFailing, VerifyAllows, DrawingTest, TestSpent, BeginningTest, BeginTestFails, CommittingTest, TestTaken, CommitTestFails, RemovingTests, RemoveTestsFails, VerifyingAll, VerifyFailing, Allows, Allowed}
 use Rattle.esr_desk.specs.Start.{Start, formats_of, world_of, or_no_ticket}
@@ -141,10 +141,16 @@ by_rule s log smooth prefixes m refusal has reply =
     let told = told_at log m smooth.told has in
     let new : IsNew w m.entry.who m.entry.step = λ name t step there aside noted.
     smooth.once p.front p.back m name p.is step aside (subst (λ (x : Ticket). Has x.noted name) (sym (ap or_no_ticket there)) noted) in
-    let new_test : IsNewTest w m.entry.step = λ name step committed. smooth.tested p.front p.back m name p.is step committed in
+    let new_test : IsNewTest w m.entry.step = λ name step committed. (smooth.tested p.front p.back m name p.is step).once committed in
     elim (legal_at s log smooth p.front p.back m p.is).answered [
       | inl alive ↦
           subst (IsRuled m.entry.step) reply
           (ruled s f s.part_size w q (prefixes.free p.front (m ∷ p.back) p.is) m.entry.who m.entry.step m.entry.reply m.image told.0 told.1 (smooth.calm m has) (smooth.unspent m has) new new_test alive.1)
       | inr dead ↦ absurd (true≢false (sym dead.deposed ∙ q.present))
     ]
+
+-- so no name is taken
+pub no_rule : (command : Asked) (name : BlobName) → IsByRule command (NameTaken name) → ⊥
+no_rule (Snapshot of indices time) name h = h
+no_rule (Restore of place) name h = h
+no_rule command name h = h

@@ -1,16 +1,16 @@
 -- A history over quiet objects that tell, in which no number was spent.
-use Rattle.std.specs.Prelude.{◌≡◌, ◌≢◌, ◌≤◌, true, List, ◌∷◌, ◌++◌}
+use Rattle.std.specs.Prelude.{◌≡◌, ◌≢◌, ◌≤◌, ℕ, true, List}
 use Rattle.std.specs.FinMap as fin
-use Rattle.esr_model.specs.Names.{BlobName}
 use Rattle.esr_model.specs.Values.{Bytes, Has}
 use Rattle.esr_model.specs.Shelf.{Shelved}
 use Rattle.esr_model.specs.Image.{Image}
 use Rattle.esr_model.specs.Kept.{Kept}
 use Rattle.esr_core.specs.World.{Opened}
-use Rattle.esr_core.specs.Entry.{Restore, AskStep, FailedStep, Why, ElectStep, Read, ReadStep, DrawTest, CommitTest, ReadFails, Reply, HasEnded, Refused, DepotFault, IdsSpent, GenerationsSpent, TermsSpent, Moment}
+use Rattle.esr_core.specs.Entry.{Restore, AskStep, FailedStep, Why, ElectStep, ReadStep, CheckedAll, DrawTest, ReadFails, Reply, HasEnded, Refused, DepotFault, IdsSpent, GenerationsSpent, TermsSpent, Moment}
 use Rattle.esr_core.specs.History.{AllKnown, AreTold, AreHonest}
-use Rattle.esr_desk.specs.Start.{Start, formats_of, world_of, Legal}
+use Rattle.esr_desk.specs.Start.{Start, formats_of, Legal}
 use Rattle.esr_desk.specs.Once.{AreOnce}
+use Rattle.esr_checking.specs.Tested.{AreTested}
 use Rattle.esr_quiet.specs.Asked.{AreSteady}
 
 -- no step was refused since the container failed
@@ -31,10 +31,6 @@ AreUnspent log = (m : Moment) → Has log m → IsSpent m.entry.reply → ⊥
 abbrev pub AreUnelected : List Moment → Type 0
 AreUnelected log = (m : Moment) → Has log m → m.entry.step ≢ ElectStep
 
--- no verification commits a test blob twice
-abbrev pub AreTestedOnce : Start → List Moment → Type 0
-AreTestedOnce s log = (front back : List Moment) (m : Moment) (name : BlobName) → log ≡ front ++ m ∷ back → m.entry.step ≡ ReadStep (CommitTest name) → Has (world_of s front).caller.committed name → ⊥
-
 -- The container told its image, which was kept, at the start and at each moment, and no call of it failed; the sources tell
 -- all files, and no shard that was asked for fails.
 pub record IsSmooth (s : Start) (log : List Moment) : Type 0 where
@@ -50,7 +46,7 @@ pub record IsSmooth (s : Start) (log : List Moment) : Type 0 where
   pub told : AreTold log
   pub honest : AreHonest (formats_of s) s.world log
   pub once : AreOnce s log
-  pub tested : AreTestedOnce s log
+  pub tested : AreTested s log
   pub steady : AreSteady s log
   pub calm : AreCalm log
   pub unspent : AreUnspent log
@@ -64,6 +60,14 @@ NoneFailed log = (m : Moment) (why : Why) → Has log m → m.entry.step ≡ Fai
 abbrev pub NoneUnrestored : List Moment → Type 0
 NoneUnrestored log = (m : Moment) (why : Why) → Has log m → 1 ≤ m.entry.who → m.entry.step ≡ ReadStep (ReadFails why) → m.entry.reply ≢ HasEnded
 
+-- no verification failed, nor a check
+abbrev pub NoneUnverified : List Moment → Type 0
+NoneUnverified log = (m : Moment) (why : Why) → Has log m → m.entry.who ≡ 0 → m.entry.step ≡ ReadStep (ReadFails why) → m.entry.reply ≢ HasEnded
+
+-- no check has ended well
+abbrev pub NoneChecked : List Moment → Type 0
+NoneChecked log = (m : Moment) (snapshots blobs : ℕ) → Has log m → m.entry.who ≡ 0 → m.entry.step ≢ ReadStep (CheckedAll snapshots blobs)
+
 -- no restore was asked
 abbrev pub NoneAsked : List Moment → Type 0
 NoneAsked log = (m : Moment) (name place : Bytes) → Has log m → m.entry.step ≢ AskStep (Restore name place)
@@ -71,7 +75,3 @@ NoneAsked log = (m : Moment) (name place : Bytes) → Has log m → m.entry.step
 -- who 0 was to draw an id, with which a verification begins
 abbrev pub HasDrawn : List Moment → Type 0
 HasDrawn log = (m : Moment) × Has log m × (m.entry.who ≡ 0) × (m.entry.step ≡ ReadStep DrawTest)
-
--- Each check or verification that ended came after a draw. So none ended where nobody drew.
-abbrev pub AreDrawn : List Moment → Type 0
-AreDrawn log = (front back : List Moment) (m : Moment) (read : Read) → log ≡ front ++ m ∷ back → m.entry.who ≡ 0 → m.entry.step ≡ ReadStep read → m.entry.reply ≡ HasEnded → HasDrawn front

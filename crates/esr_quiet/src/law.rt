@@ -10,8 +10,9 @@ ghost use Rattle.esr_desk.specs.Start.{Start, Legal, ticket_of};
 ghost use Rattle.esr_desk.specs.Shown.{Counts};
 ghost use Rattle.esr_desk.specs.Grew.{AllOf};
 ghost use Rattle.esr_reading.specs.Shown as reading;
-ghost use Rattle.esr_quiet.specs.Caused.{AreCaused, AreReadCaused};
-ghost use Rattle.esr_quiet.specs.Smooth.{IsSmooth, NoneFailed, NoneUnrestored, NoneAsked};
+ghost use Rattle.esr_checking.specs.Shown as checking;
+ghost use Rattle.esr_quiet.specs.Caused.{AreCaused, AreReadCaused, AreVerifyCaused};
+ghost use Rattle.esr_quiet.specs.Smooth.{IsSmooth, NoneFailed, NoneUnrestored, NoneUnverified, NoneAsked};
 ghost use Rattle.esr_quiet.specs.Refusals.{AreByRule};
 ghost use Rattle.esr_quiet.specs.Prefixes.{Prefixes};
 
@@ -36,6 +37,13 @@ pub fn no_restore_fails<S, F, H, T>()
 /// Nor where none was asked, whatever the targets.
 pub fn no_unasked_restore_fails()
     ensures { (s : Start) (log : List Moment) → IsSmooth s log → NoneAsked log → NoneUnrestored log }
+{
+    each_world_is_free();
+}
+
+/// No verification fails: what it wrote is the text of its id, and stays as it is until it is removed.
+pub fn no_verification_fails<S, F, H, T>()
+    ensures { (c : checking.Counts S F) (s : Start) (log : List Moment) (faults : List (Fault S F H T)) → IsSmooth s log → AreVerifyCaused c s log faults → NoneUnverified log }
 {
     each_world_is_free();
 }

@@ -6,10 +6,10 @@ use Rattle.std.proofs.lemmas.Bool.{ltb-true, ltb-false}
 use Rattle.std.proofs.lemmas.List.Sums.{sum_by-cons}
 use Rattle.esr_model.specs.Values.{Bytes, Has, Formats}
 use Rattle.esr_model.specs.Image.{Image}
-use Rattle.esr_core.specs.World.{World, Opened}
-use Rattle.esr_core.specs.Entry.{AskedIndex, Asked, Snapshot, Restore, Read, CommitTest, Step, AskStep, TakeStep, ElectStep, ReadStep, Reply, Refused, DepotFault, DeposedAt, IdsSpent, GenerationsSpent, TermsSpent, Entry, Moment, DrawTest}
+use Rattle.esr_core.specs.World.{World, Caller, Opened}
+use Rattle.esr_core.specs.Entry.{AskedIndex, Snapshot, Restore, CheckedAll, Step, AskStep, ElectStep, ReadStep, Reply, Refused, DepotFault, DeposedAt, IdsSpent, GenerationsSpent, TermsSpent, Entry, Moment, DrawTest}
 use Rattle.esr_core.specs.Allowed as allowed
-use Rattle.esr_core.specs.Allowed.{ReadAllows, VerifyAllows, Allows, Allowed}
+use Rattle.esr_core.specs.Allowed.{Allows, Allowed}
 use Rattle.esr_core.specs.History.{world_from, IsLegal, AreTold}
 use Rattle.esr_depot.specs.Image.{Image as Held}
 use Rattle.esr_depot.specs.Look.{Look, now}
@@ -21,24 +21,26 @@ use Rattle.esr_report.specs.Replies.{replies}
 use Rattle.esr_report.specs.Status.{ending, status_of}
 use Rattle.esr_desk.specs.Start.{Start, Legal, formats_of}
 use Rattle.esr_desk.specs.declared.fault.Fault.{Fault}
-use Rattle.esr_run.specs.Counts.{Counts, unit_counts, read_counts, AreShown}
+use Rattle.esr_run.specs.Counts.{Counts, unit_counts, read_counts, verify_counts, AreShown}
 use Rattle.esr_desk.specs.Once.{AreOnce}
+use Rattle.esr_checking.specs.Tested.{AreTested}
 use Rattle.esr_repo.specs.Log.{image_of, image_at, log_from, log_of, tick}
 use Rattle.esr_repo.specs.Counted.{is_fault, fault_entries}
 use Rattle.esr_repo.specs.Calm.{IsCalm}
 use Rattle.esr_repo.specs.Deposed.{FailedSwap, AreDeposedSo}
 use Rattle.esr_quiet.specs.Asked.{is_line_ask, is_asked, asked_steps, AreSteady}
-use Rattle.esr_quiet.specs.Smooth.{HasDrawn, IsSmooth, IsSpent, AreCalm, AreUnelected, AreTestedOnce, NoneFailed, NoneUnrestored, NoneAsked, AreDrawn}
+use Rattle.esr_quiet.specs.Smooth.{HasDrawn, IsSmooth, IsSpent, AreCalm, AreUnelected, NoneFailed, NoneUnrestored, NoneUnverified, NoneChecked, NoneAsked}
 use Rattle.esr_quiet.specs.Refusals.{AreByRule}
-use Rattle.esr_complete.specs.Lines.{index_of_line, steps_of_item, steps_of, IsKnown, AreKnown, entries_of}
+use Rattle.esr_complete.specs.Lines.{index_of_line, steps_of_item, steps_of, AreKnown, entries_of}
+use Rattle.esr_complete.specs.InTurn.{IsInTurn}
 use Rattle.esr_complete.specs.Answers.{AreAnswered, EndsWell}
 use Rattle.esr_run.specs.Start.{Telling, formats_by, steady_by, start_of}
 use Rattle.esr_run.specs.Images.{TellsAll}
 use Rattle.esr_run.specs.Complete.{AsksRestore, IsQuietFor, IsAnsweredWell, Completes}
 use Rattle.esr_run.specs.Laws.{QuietLaws}
 use Rattle.esr_verify.specs.Began.{IsFurther}
-use Rattle.esr_run.specs.Verified.{AreBegun}
-use Rattle.esr_run.specs.Made.{MadeFirst, HasFallen, AreDone}
+use Rattle.esr_run.specs.Verified.{AreBegun, AreClosed}
+use Rattle.esr_run.specs.Made.{MadeFirst, HasFallen, AreDone, NoneOpen}
 
 -- ---- entries and moments
 
@@ -136,22 +138,11 @@ legal_rest : (f : Formats) (size : ℕ) (front back : List Moment) (w : World) �
 legal_rest f size [] back w legal = legal
 legal_rest f size (m ∷ front) back w legal = legal_rest f size front back _ legal.1
 
--- an ask, an election and the commit of a test blob are nobody's
+-- an ask and an election are nobody's
 abbrev IsNobodys : ℕ → Step → Type 0
 IsNobodys who (AskStep command) = who ≡ 0
 IsNobodys who ElectStep = who ≡ 0
-IsNobodys who (ReadStep (CommitTest name)) = who ≡ 0
 IsNobodys who step = Unit {0}
-
-reads_nobodys : (f : Formats) (w : World) (who : ℕ) (read : Read) (reply : Reply) (image : Option Image) → ReadAllows f w who read reply image → IsNobodys who (ReadStep read)
-reads_nobodys f w who read reply image (allowed.ReadFound k name im stored fetcher told) = tt
-reads_nobodys f w who read reply image a = tt
-
-verifies_nobodys : (f : Formats) (w : World) (read : Read) (reply : Reply) (image : Option Image) → VerifyAllows f w read reply image → IsNobodys 0 (ReadStep read)
-verifies_nobodys f w read reply image (allowed.CommittingTest name bytes im own free told) = refl
-verifies_nobodys f w read reply image (allowed.TestTaken name im own told) = refl
-verifies_nobodys f w read reply image (allowed.CommitTestFails name bytes im own told) = refl
-verifies_nobodys f w read reply image a = tt
 
 nobodys : (f : Formats) (size : ℕ) (w : World) (who : ℕ) (step : Step) (reply : Reply) (image : Option Image) → Allows f size w who step reply image → IsNobodys who step
 nobodys f size w who step reply image (allowed.Accepting name indices moment o im accepts same) = refl
@@ -164,8 +155,6 @@ nobodys f size w who step reply image (allowed.ElectSpent im last same) = refl
 nobodys f size w who step reply image (allowed.AskFails name indices moment im accepts same) = refl
 nobodys f size w who step reply image (allowed.ElectFails im room same) = refl
 nobodys f size w who step reply image (allowed.AskingRestore name place answer im allows same) = refl
-nobodys f size w who step reply image (allowed.Verifying read answer im allows) = verifies_nobodys f w read answer im allows
-nobodys f size w who step reply image (allowed.Reading k read answer im allows same) = reads_nobodys f w k read answer im allows
 nobodys f size w who step reply image a = tt
 
 module _ (s : Start) (log : List Moment) (es : List Entry) (entries : entries_of log ≡ es) (legal : Legal s log) (none : fault_entries es ≡ 0) (named : AreDeposedSo es) where
@@ -246,22 +235,6 @@ no_election moment items.Verify (inl e) = cc
 no_election moment items.Verify (inr h) = h
 no_election moment item h = h
 
--- none of these lines asks for a verification
-no_read : (moment : ℕ) (item : Item) → IsKnown item → (read : Read) → Has (steps_of_item moment item) (ReadStep read) → ⊥
-no_read moment (items.Snapshot name indices) known read (inl e) = cc
-no_read moment (items.Snapshot name indices) known read (inr h) = h
-no_read moment (items.Restore name place) known read (inl e) = cc
-no_read moment (items.Restore name place) known read (inr h) = h
-no_read moment items.List known read (inl e) = cc
-no_read moment items.List known read (inr h) = h
-no_read moment items.Wait known read h = h
-no_read moment item known read h = known
-
-known_in : (lines : List ScriptLine) → AreKnown lines → (line : ScriptLine) → Has lines line → IsKnown line.item
-known_in [] known line h = absurd h
-known_in (x ∷ lines) known line (inl e) = subst (λ (l : ScriptLine). IsKnown l.item) e known.0
-known_in (x ∷ lines) known line (inr h) = known_in lines known.1 line h
-
 -- the indices of a snapshot that was asked are those of the line's
 record OfSnapshot (item : Item) (indices : List AskedIndex) : Type 0 where
   name : Bytes
@@ -323,8 +296,8 @@ in_map (b ∷ l) a (inr h) = let r = in_map l a h in (r.0, inr r.1, r.2)
 is_steady : (telling : Telling) (place name : Bytes) (number : ℕ) → telling.is_quiet ≡ true → telling.is_there place name number ≡ Some true → steady_by telling place name number ≡ true
 is_steady telling place name number quiet there = ap (λ (b : Bool). b && unwrap_or (telling.is_there place name number) false) quiet ∙ ap (λ (o : Option Bool). unwrap_or o false) there
 
-asks_none : (command : Asked) → AskStep command ≡ TakeStep → ⊥
-asks_none command e = cc
+draws_no_check : (snapshots blobs : ℕ) → ReadStep DrawTest ≡ ReadStep (CheckedAll snapshots blobs) → ⊥
+draws_no_check snapshots blobs e = cc
 
 -- ---- a run over quiet objects
 
@@ -336,8 +309,8 @@ module _ {S F H T : Type 0} (laws : QuietLaws S F H T) (count : Counts S F H T) 
   abbrev log : List Moment
   log = log_of after clock history
 
-  module _ (no_deletes : world.deletes ≡ fin.empty) (legal : Legal s log) (told : s.tells ≡ true → AreTold log) (shown : AreShown {S = S} {F = F} {H = H} {T = T} count s log faults) (once : AreOnce s log) (calm : IsCalm true after.sure history) (named : AreDeposedSo history)
-      (made : MadeFirst s (steps_of moment lines) [] log) (begun : AreBegun log) (quiet_for : IsQuietFor telling before lines) (tells_all : TellsAll (formats_by telling) world log) (few : length history < 2 ^ 40) (unspent : (e : Entry) → Has history e → IsSpent e.reply → ⊥) where
+  module _ (no_deletes : world.deletes ≡ fin.empty) (legal : Legal s log) (told : s.tells ≡ true → AreTold log) (shown : AreShown {S = S} {F = F} {H = H} {T = T} count s log faults) (once : AreOnce s log) (tested : AreTested s log) (calm : IsCalm true after.sure history) (named : AreDeposedSo history)
+      (made : MadeFirst s (steps_of moment lines) [] log) (begun : AreBegun log) (apart : AreClosed s log) (quiet_for : IsQuietFor telling before lines) (tells_all : TellsAll (formats_by telling) world log) (few : length history < 2 ^ 40) (unspent : (e : Entry) → Has history e → IsSpent e.reply → ⊥) where
     entries : entries_of log ≡ history
     entries = entries_are (image_at after) clock history
 
@@ -371,27 +344,14 @@ module _ {S F H T : Type 0} (laws : QuietLaws S F H T) (count : Counts S F H T) 
         let from = wanted m h who (ap is_line_ask is) in
         no_election moment from.line.item (subst (λ (step : Step). Has (steps_of_item moment from.line.item) step) is from.step_is)
 
-    -- no line asks for a verification
-    none_drawn : (m : Moment) → Has log m → m.entry.who ≡ 0 → m.entry.step ≡ ReadStep DrawTest → ⊥
-    none_drawn m h who is =
-        let from = wanted m h who (ap is_line_ask is) in
-        no_read moment from.line.item (known_in lines quiet_for.known from.line from.there) DrawTest (subst (λ (step : Step). Has (steps_of_item moment from.line.item) step) is from.step_is)
-
-    -- so who 0 has read nothing
-    none_read : (front back : List Moment) (m : Moment) (read : Read) → log ≡ front ++ m ∷ back → m.entry.who ≡ 0 → m.entry.step ≡ ReadStep read → ⊥
-    none_read front back m read split who is =
+    -- who 0 reads for verifications alone
+    unchecked : NoneChecked log
+    unchecked m snapshots blobs h who is =
+        let p = place_of log m h in
         ⊎_elim
-        (λ (draw : m.entry.step ≡ ReadStep DrawTest). none_drawn m (subst (λ (l : List Moment). Has l m) (sym split) (in_middle front back m)) who draw)
-        (λ (further : IsFurther read × HasDrawn front). let d = further.1 in none_drawn d.0 (subst (λ (l : List Moment). Has l d.0) (sym split) (in_front front (m ∷ back) d.0 d.1)) d.2 d.3)
-        (begun front back m read split who is)
-
-    tested : AreTestedOnce s log
-    tested front back m name split is has =
-        let h : Has log m = subst (λ (l : List Moment). Has l m) (sym split) (in_middle front back m) in
-        none_read front back m (CommitTest name) split (subst (IsNobodys m.entry.who) is (nobody m h)) is
-
-    drawn : AreDrawn log
-    drawn front back m read split who is ended = absurd (none_read front back m read split who is)
+        (λ (draw : m.entry.step ≡ ReadStep DrawTest). draws_no_check snapshots blobs (sym draw ∙ is))
+        (λ (further : IsFurther (CheckedAll snapshots blobs) × HasDrawn p.front). further.0)
+        (begun p.front p.back m (CheckedAll snapshots blobs) p.is who is)
 
     tells : s.tells ≡ true
     tells = ap is_some quiet_for.holds.told
@@ -434,6 +394,16 @@ module _ {S F H T : Type 0} (laws : QuietLaws S F H T) (count : Counts S F H T) 
         (λ none. laws.unasked s log smooth (unasked none))
         (find_restore lines)
 
+    none_unverified : NoneUnverified log
+    none_unverified = laws.verifies (verify_counts count) s log faults smooth shown.verifications
+
+    -- one after another
+    in_turn : NoneOpen s log → IsInTurn s log
+    in_turn closed = record {
+      asked = λ front back m is who ask. ap (λ (c : Caller). c.drawn) (apart front back m is who ask);
+      closed = ap (λ (c : Caller). c.drawn) closed;
+    }
+
     rules : AreByRule log
     rules = laws.rules s log smooth none_failed
 
@@ -450,14 +420,14 @@ module _ {S F H T : Type 0} (laws : QuietLaws S F H T) (count : Counts S F H T) 
     well known done =
         let asked : asked_steps log ≡ steps_of moment lines = ap asked_steps done.grew.is ∙ done.grew.asked refl in
         record {
-          answered = subst (λ (es : List Entry). AreAnswered lines (replies lines es)) entries (laws.answered s log lines moment smooth none_failed none_unrestored rules drawn done.idle known asked);
-          ends = subst (λ (es : List Entry). EndsWell lines es) entries (laws.ends s log lines moment smooth none_failed none_unrestored rules drawn done.idle known asked);
+          answered = subst (λ (es : List Entry). AreAnswered lines (replies lines es)) entries (laws.answered s log lines moment smooth none_failed none_unrestored none_unverified unchecked rules (in_turn done.closed) done.idle known asked);
+          ends = subst (λ (es : List Entry). EndsWell lines es) entries (laws.ends s log lines moment smooth none_failed none_unrestored none_unverified unchecked rules (in_turn done.closed) done.idle known asked);
           waits = done.waits;
         }
 
-  pub completes : (status : ℕ) → (no_deletes : world.deletes ≡ fin.empty) → Legal s log → (s.tells ≡ true → AreTold log) → AreShown {S = S} {F = F} {H = H} {T = T} count s log faults → AreOnce s log → IsCalm true after.sure history → AreDeposedSo history
-      → MadeFirst s (steps_of moment lines) [] log → AreBegun log → AreDone s moment lines [] log ⊎ HasFallen s moment lines [] log → AreKnown lines → status ≡ status_of (ending lines history) → IsQuietFor telling before lines → Completes telling size moment lines before world clock after history status
-  completes status no_deletes legal told shown once calm named made begun done known is quiet_for tells_all =
+  pub completes : (status : ℕ) → (no_deletes : world.deletes ≡ fin.empty) → Legal s log → (s.tells ≡ true → AreTold log) → AreShown {S = S} {F = F} {H = H} {T = T} count s log faults → AreOnce s log → AreTested s log → IsCalm true after.sure history → AreDeposedSo history
+      → MadeFirst s (steps_of moment lines) [] log → AreBegun log → AreClosed s log → AreDone s moment lines [] log ⊎ HasFallen s moment lines [] log → AreKnown lines → status ≡ status_of (ending lines history) → IsQuietFor telling before lines → Completes telling size moment lines before world clock after history status
+  completes status no_deletes legal told shown once tested calm named made begun apart done known is quiet_for tells_all =
       ⊎_elim
       (λ (spent : Spent history). inl (inl spent))
       (λ (unspent : (e : Entry) → Has history e → IsSpent e.reply → ⊥).
@@ -466,8 +436,8 @@ module _ {S F H T : Type 0} (laws : QuietLaws S F H T) (count : Counts S F H T) 
       (λ (few : length history < 2 ^ 40).
       inr (
         ⊎_elim
-            (λ (all : AreDone s moment lines [] log). well no_deletes legal told shown once calm named made begun quiet_for tells_all few unspent known all)
-            (λ (stopped : HasFallen s moment lines [] log). absurd (not_stopped no_deletes legal told shown once calm named made begun quiet_for tells_all few unspent stopped))
+            (λ (all : AreDone s moment lines [] log). well no_deletes legal told shown once tested calm named made begun apart quiet_for tells_all few unspent known all)
+            (λ (stopped : HasFallen s moment lines [] log). absurd (not_stopped no_deletes legal told shown once tested calm named made begun apart quiet_for tells_all few unspent stopped))
             done,
         is,
       ))

@@ -22,6 +22,7 @@ use Rattle.esr_complete.specs.Lines.{steps_of}
 use Rattle.esr_desk.specs.declared.fault.Fault.{Fault}
 use Rattle.esr_run.specs.Counts.{Counts, AreShown}
 use Rattle.esr_desk.specs.Once.{AreOnce, NoneTwice}
+use Rattle.esr_checking.specs.Tested.{AreTested}
 use Rattle.esr_run.specs.Asked.{Wanted, ReadScript, OneCommand, NoCommand, NoRun, AsksScript, wanted_of, workers_of, part_size_of, single_script}
 use Rattle.esr_run.specs.Script.{AreBytes, first_bad, bad_line}
 use Rattle.esr_run.specs.Ends.{RunEnd, BadWords, Unreadable, BadScript, BadLine, OpenFault, Damaged, NoTerm, Carried, text_of, exit_of, exit_at, text_at}
@@ -142,6 +143,7 @@ pub record IsOpenedRun {S F H T : Type 0} (count : Counts S F H T) (files : Tell
   pub shown : AreShown count (start_of files size quiet before world) (log_of after clock history) faults
   -- no blob is committed twice, but for the metadata of a finalization
   pub once : AreOnce (start_of files size quiet before world) (log_of after clock history)
+  pub tested : AreTested (start_of files size quiet before world) (log_of after clock history)
   -- no ticket makes a step twice
   pub single : NoneTwice (log_of after clock history)
   -- a quiet container failed in none of the first 2^41 entries

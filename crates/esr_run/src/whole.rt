@@ -10,6 +10,7 @@ ghost use Rattle.esr_run.specs.Filled.{unless_wanting};
 ghost use Rattle.esr_desk.specs.Sources.{AreSources};
 ghost use Rattle.esr_repo.specs.Begun.{IsBegun};
 ghost use Rattle.esr_desk.specs.Once.{AreOnce, NoneTwice};
+ghost use Rattle.esr_checking.specs.Tested.{AreTested};
 ghost use Rattle.esr_core.specs.Tracked.{Tracked};
 ghost use Rattle.esr_core.specs.ReadTracked.{ReadTracked};
 ghost use Rattle.esr_run.specs.Counts.{AreShown};
@@ -138,6 +139,7 @@ fn carry_on<D: Depot, S: Sources, T: Targets, G: Gate, K: Told>(
     requires alive { K.start.world.deposed ≡ false }
     ensures shown { AreShown (record { stage = D.Stage.faults; fetch = D.Fetch.faults; shard = S.Shard.faults; target = T.Target.faults; made_for = λ h. (S.Shard.origin h).address; target_for = T.Target.made_for; held = T.Target.files; is_sure = T.Target.is_sure }) K.start result.repo result.faults }
     ensures once { AreOnce K.start result.repo }
+    ensures tested { AreTested K.start result.repo }
     ensures single { NoneTwice result.repo }
     ensures made { MadeFirst K.start (steps_of moment asked.now.script) [] result.repo }
     ensures done { OnOk result.filled (AreDone K.start moment asked.now.script [] result.repo ⊎ HasFallen K.start moment asked.now.script [] result.repo) }
@@ -202,6 +204,7 @@ fn run_told<D: Depot, S: Sources, T: Targets, G: Gate, K: Told>(
     ensures counted { IsCounted K.faults (D.faults result.0.depot) result.0.history }
     ensures named { AreDeposedSo result.0.history }
     ensures once { AreOnce K.start (log_of (D.look result.0.depot) K.clock result.0.history) }
+    ensures tested { AreTested K.start (log_of (D.look result.0.depot) K.clock result.0.history) }
     ensures single { NoneTwice (log_of (D.look result.0.depot) K.clock result.0.history) }
     ensures calm { IsCalm K.start.quiet (D.look result.0.depot).sure result.0.history }
     ensures made { MadeFirst K.start (steps_of moment asked.now.script) [] (log_of (D.look result.0.depot) K.clock result.0.history) }

@@ -1,6 +1,7 @@
 //! A repository with a count of turns, and the objects that failed.
 ghost use Rattle.std.specs.Prelude.{◌≡◌, ◌+◌, ◌≤◌, ◌^◌, [], length};
 ghost use Rattle.esr_desk.specs.Once.{AreOnce, NoneTwice};
+ghost use Rattle.esr_checking.specs.Tested.{AreTested};
 ghost use Rattle.esr_checking.specs.AllShown.{AreAllShown};
 ghost use Rattle.esr_solo.specs.Turns.{turns_of};
 
@@ -36,6 +37,7 @@ impl<D: Depot, K: Told, H: Shard, T: Target> Model for Solo<D, K, H, T> {
     ghost use Rattle.std.specs.Prelude.{◌≡◌, ◌+◌, ◌^◌, length};
     ghost use Rattle.esr_desk.specs.Once.{AreOnce, NoneTwice};
     ghost use Rattle.esr_desk.specs.Numbered.{Numbered};
+    ghost use Rattle.esr_checking.specs.Tested.{AreTested};
     ghost use Rattle.esr_checking.specs.AllShown.{AreAllShown};
 
     ghost view = { λ s. s.repo };
@@ -45,7 +47,8 @@ impl<D: Depot, K: Told, H: Shard, T: Target> Model for Solo<D, K, H, T> {
         (record { fetch = D.Fetch.faults; target = T.faults; made_for = T.made_for }) (record { stage = D.Stage.faults; fetch = D.Fetch.faults }) K.start s.repo s.faults.items
         × AreOnce K.start s.repo
         × NoneTwice s.repo
-        × Numbered 1 K.start.world };
+        × Numbered 1 K.start.world
+        × AreTested K.start s.repo };
 }
 
 impl<D: Depot, K: Told, H: Shard, T: Target> Solo<D, K, H, T> {
@@ -76,6 +79,7 @@ impl<D: Depot, K: Told, H: Shard, T: Target> Solo<D, K, H, T> {
             (record { fetch = D.Fetch.faults; target = T.faults; made_for = T.made_for }) (record { stage = D.Stage.faults; fetch = D.Fetch.faults }) K.start result.0 result.1 }
         ensures once { AreOnce K.start result.0 }
         ensures single { NoneTwice result.0 }
+        ensures tested { AreTested K.start result.0 }
     {
         let Solo {
             repo,

@@ -1,6 +1,7 @@
 use Rattle.std.proofs.Common.{◌≡◌, ◌⊎◌, List, [], sym, subst}
 use Rattle.esr_core.specs.Entry.{Moment}
 use Rattle.esr_desk.specs.Once.{AreOnce, NoneTwice}
+use Rattle.esr_checking.specs.Tested.{AreTested}
 use Rattle.esr_run.specs.Verified.{AreWhole}
 use Rattle.esr_run.specs.Made.{HasFallen, AreDone}
 use Rattle.esr_run.proofs.Making.{done_or}
@@ -15,6 +16,9 @@ returns-clause-shown g c = logged (record { stage = g.D.Stage.Counted.faults; fe
 
 pub returns-clause-once : goal.returns-clause-once
 returns-clause-once g c = subst (λ (l : List Moment). AreOnce g.K.Told.start l) (sym c.into_parts-depot.ensures.log) c.carry_on-worked.ensures.once
+
+pub returns-clause-tested : goal.returns-clause-tested
+returns-clause-tested g c = subst (λ (l : List Moment). AreTested g.K.Told.start l) (sym c.into_parts-depot.ensures.log) c.carry_on-worked.ensures.tested
 
 pub returns-clause-single : goal.returns-clause-single
 returns-clause-single g c = subst NoneTwice (sym c.into_parts-depot.ensures.log) c.carry_on-worked.ensures.single

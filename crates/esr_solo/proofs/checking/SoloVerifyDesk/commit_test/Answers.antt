@@ -3,6 +3,7 @@ use Rattle.esr_names.specs.IdText.{id_text}
 use Rattle.esr_formats.specs.Names.{name_of}
 use Rattle.esr_solo.proofs.Stepping.{outcome, waited, spends}
 use Rattle.esr_solo.proofs.Alone.{keeps_alone}
+use Rattle.esr_solo.proofs.Testing.{test_new}
 use Rattle.esr_solo.proofs.checking.SoloVerifyDesk.commit_test.Goals as goal
 
 pub returns-then-self-eq0-clause-step : goal.returns-then-self-eq0-clause-step
@@ -15,7 +16,7 @@ pub commit_test-answer-requires-clause-holds : goal.commit_test-answer-requires-
 commit_test-answer-requires-clause-holds g c = (id_text c.requires.holds.0, c.requires.holds.2)
 
 pub invariant_of-self : goal.invariant_of-self
-invariant_of-self g c = keeps_alone _ g.K.Told.start c.self.inside.repo c.commit_test-answer.new.self (CommitTest (name_of c.args.name)) _ c.commit_test-answer.result c.self.inside.faults.items c.self.inside.left c.turns.result _ c.self.invariant c.if-self-eq0.false c.turns.ensures (λ x why e d. cc) c.commit_test-answer.ensures.step
+invariant_of-self g c = keeps_alone _ g.K.Told.start c.self.inside.repo c.commit_test-answer.new.self (CommitTest (name_of c.args.name)) _ c.commit_test-answer.result c.self.inside.faults.items c.self.inside.left c.turns.result _ c.self.invariant c.if-self-eq0.false c.turns.ensures (λ x why e d. cc) c.commit_test-answer.ensures.step (test_new g.K.Told.start c.self.inside.repo c.args.self.now c.commit_test-answer.new.self (name_of c.args.name) _ c.commit_test-answer.result c.self.view_is c.requires.holds c.requires.may c.commit_test-answer.ensures.own)
 
 pub returns-clause-step : goal.returns-clause-step
 returns-clause-step g c = outcome g.K.Told.start c.self.inside.repo c.args.self.now c.commit_test-answer.new.self 0 (ReadStep (CommitTest (name_of c.args.name))) _ c.commit_test-answer.result c.self.view_is c.is_legal.ensures c.commit_test-answer.ensures.step

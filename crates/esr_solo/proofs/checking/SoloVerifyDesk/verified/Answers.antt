@@ -10,7 +10,7 @@ returns-then-self-eq0-clause-step g c = (
 )
 
 pub invariant_of-self : goal.invariant_of-self
-invariant_of-self g c = keeps_alone _ g.K.Told.start c.self.inside.repo c.verified-answer.new.self VerifiedAll _ c.verified-answer.result c.self.inside.faults.items c.self.inside.left c.turns.result _ c.self.invariant c.if-self-eq0.false c.turns.ensures (λ x why e d. cc) c.verified-answer.ensures.step
+invariant_of-self g c = keeps_alone _ g.K.Told.start c.self.inside.repo c.verified-answer.new.self VerifiedAll _ c.verified-answer.result c.self.inside.faults.items c.self.inside.left c.turns.result _ c.self.invariant c.if-self-eq0.false c.turns.ensures (λ x why e d. cc) c.verified-answer.ensures.step tt
 
 pub returns-clause-step : goal.returns-clause-step
 returns-clause-step g c = outcome g.K.Told.start c.self.inside.repo c.args.self.now c.verified-answer.new.self 0 (ReadStep VerifiedAll) _ c.verified-answer.result c.self.view_is c.is_legal.ensures c.verified-answer.ensures.step

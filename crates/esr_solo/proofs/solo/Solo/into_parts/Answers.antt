@@ -9,3 +9,6 @@ returns-clause-once g c = c.self.invariant.2
 
 pub returns-clause-single : goal.returns-clause-single
 returns-clause-single g c = c.self.invariant.3
+
+pub returns-clause-tested : goal.returns-clause-tested
+returns-clause-tested g c = c.self.invariant.5
