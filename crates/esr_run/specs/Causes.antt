@@ -143,6 +143,7 @@ pub record IsOpenedRun {S F H T : Type 0} (count : Counts S F H T) (files : Tell
   pub shown : AreShown count (start_of files size quiet before world) (log_of after clock history) faults
   -- no blob is committed twice, but for the metadata of a finalization
   pub once : AreOnce (start_of files size quiet before world) (log_of after clock history)
+  -- no test blob is committed twice, and each that was added holds the text of the id that was drawn
   pub tested : AreTested (start_of files size quiet before world) (log_of after clock history)
   -- no ticket makes a step twice
   pub single : NoneTwice (log_of after clock history)

@@ -35,17 +35,22 @@ fn print_of(rt: &impl Abort, cut: Cut) -> Print {
     print_of_three(first.as_bytes(), second.as_bytes(), third.as_bytes())
 }
 
-/// That the print has this length and these digits.
-fn check_print(rt: &impl Abort, print: &Print, len: u64, digits: &str) {
-    assert_eq!(rt; print.len, len);
-    assert_eq!(rt; print_text(print).as_slice(), digits.as_bytes());
-    assert_eq!(rt; print_read(len, digits.as_bytes()).as_ref(), Some(print));
+/// Whether the print has this length and these digits, which are read as the print.
+fn is_print(print: &Print, len: u64, digits: &str) -> bool {
+    print.len == len
+        && print_text(print).as_slice() == digits.as_bytes()
+        && print_read(len, digits.as_bytes()) == Some(*print)
 }
 
 #[test]
 fn each_cut_of_a_text_has_its_print(rt: HostRuntime) {
     for (cut, len, digits) in &CUTS {
-        check_print(&rt, &print_of(&rt, *cut), *len, digits);
+        let (first, second, third) = *cut;
+        let print = print_of(&rt, *cut);
+        assert!(rt;
+            is_print(&print, *len, digits),
+            "{first}, {second} and {third}"
+        );
     }
 }
 
@@ -63,7 +68,7 @@ static BAD_DIGITS: [&str; 7] = [
 #[test]
 fn only_64_lower_case_digits_are_read(rt: HostRuntime) {
     for digits in &BAD_DIGITS {
-        assert_eq!(rt; print_read(3, digits.as_bytes()), None);
+        assert!(rt; print_read(3, digits.as_bytes()).is_none(), "{digits}");
     }
 }
 
@@ -77,7 +82,5 @@ fn print(len: u64, byte: u8) -> Print {
 #[test]
 fn prints_are_ordered_by_length_and_then_digest(rt: HostRuntime) {
     let (low, middle, high) = (print(1, 9), print(2, 1), print(2, 2));
-    assert!(rt; low < middle);
-    assert!(rt; middle < high);
-    assert!(rt; middle != high);
+    assert!(rt; low < middle && middle < high && middle != high);
 }

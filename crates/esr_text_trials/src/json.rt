@@ -1,44 +1,54 @@
+//! Parts of JSON values, why some are none, and texts that are written.
+use crate::texts::nested;
 use esr_json::{
     Key, ReadRefusal, Reason, items, items_or_none, member, members, number, number_or, parse,
     text, text_item, text_value, write,
 };
-use serde_json::Value;
-use std::alloc::Global;
-use std::process::Abort;
+use serde_json::{Map, Value};
+use std::alloc::{AllocError, Global};
 use std::test::Fail;
 
 const ROOT: &str =
     "{\"min_version\":\"7.12.0\",\"snapshots\":[{\"name\":\"s1\",\"uuid\":\"AAAAAAAAAAEAAAAAAAAAAA\",\"state\":1,\"index_metadata_lookup\":{}}],\"indices\":{\"b\":{},\"a\":{}}}";
 
-/// That this is the snapshot of `ROOT`.
-fn check_snap(rt: &impl Abort, snap: &Value) -> Result<(), Fail> {
-    assert_eq!(rt; text(snap, Key::Name)?, "s1");
+/// Whether the texts of the snapshot of `ROOT` are these.
+fn has_texts(snap: &Value) -> Result<bool, Reason> {
     let uuid = text_item(member(snap, Key::Uuid)?, Key::Uuid)?;
-    assert_eq!(rt; uuid, "AAAAAAAAAAEAAAAAAAAAAA");
-    assert_eq!(rt; number_or(snap, Key::State, 0, 255, 7)?, 1);
-    assert_eq!(rt; number_or(snap, Key::Term, 0, 255, 7)?, 7);
-    assert_eq!(rt; items_or_none(snap, Key::ShardGenerations)?.len(), 0);
+    Ok(text(snap, Key::Name)? == "s1" && uuid == "AAAAAAAAAAEAAAAAAAAAAA")
+}
+
+/// Whether the snapshot of `ROOT` has the state 1, and no term and no generations.
+fn has_state_alone(snap: &Value) -> Result<bool, Reason> {
+    let state = number_or(snap, Key::State, 0, 255, 7)?;
+    let term = number_or(snap, Key::Term, 0, 255, 7)?;
+    Ok(state == 1 && term == 7 && items_or_none(snap, Key::ShardGenerations)?.is_empty())
+}
+
+#[test]
+fn the_snapshot_of_a_root_has_its_parts(rt: HostRuntime) -> Result<(), Fail> {
+    let root = parse(rt.alloc(), ROOT.as_bytes())?;
+    let snaps = items(&root, Key::Snapshots)?;
+    assert!(rt; snaps.len() == 1);
+    for snap in snaps {
+        assert!(rt; has_texts(snap)? && has_state_alone(snap)?);
+    }
     Ok(())
 }
 
-/// The names of the members of a member, one after another.
-fn names_in(alloc: Global, value: &Value, key: Key) -> Result<String, Fail> {
+/// The names of members, one after another.
+fn names_of(alloc: Global, members: &Map<String, Value>) -> Result<String, AllocError> {
     let mut names = String::new(alloc);
-    for (name, _) in members(value, key)?.iter() {
+    for (name, _) in members.iter() {
         names.push_str(name.as_str())?;
     }
     Ok(names)
 }
 
 #[test]
-fn a_root_of_elasticsearch_has_its_parts(rt: HostRuntime) -> Result<(), Fail> {
+fn members_come_in_the_order_of_their_names(rt: HostRuntime) -> Result<(), Fail> {
     let root = parse(rt.alloc(), ROOT.as_bytes())?;
-    let snaps = items(&root, Key::Snapshots)?;
-    assert_eq!(rt; snaps.len(), 1);
-    for snap in snaps {
-        check_snap(&rt, snap)?;
-    }
-    assert_eq!(rt; names_in(rt.alloc(), &root, Key::Indices)?.as_str(), "ab");
+    let names = names_of(rt.alloc(), members(&root, Key::Indices)?)?;
+    assert!(rt; names.as_str() == "ab", "{names}");
     Ok(())
 }
 
@@ -71,82 +81,93 @@ fn kinds_of(value: &Value) -> [Option<Reason>; 3] {
 fn a_part_of_another_kind_is_refused(rt: HostRuntime) -> Result<(), Fail> {
     for (bytes, reasons) in &KINDS {
         let value = parse(rt.alloc(), bytes.as_bytes())?;
-        assert_eq!(rt; kinds_of(&value), *reasons, "{bytes}");
+        assert!(rt; kinds_of(&value) == *reasons, "{bytes}");
     }
     Ok(())
 }
 
+/// What `op` is in a text where it is no whole number.
 const NO_NUMBER: Result<i128, Reason> = Err(Reason::WrongKind { key: Key::Op });
 
-/// Texts, with the number that their member `op` is.
-static NUMBERS: [(&str, Result<i128, Reason>); 11] = [
-    ("{\"op\":18446744073709551615}", Ok(18446744073709551615)),
-    ("{\"op\":-9223372036854775808}", Ok(-9223372036854775808)),
-    ("{\"op\":1,\"op\":2}", Ok(2)),
-    ("{\"op\":-0}", NO_NUMBER),
-    ("{\"op\":1.0}", NO_NUMBER),
-    ("{\"op\":1e2}", NO_NUMBER),
-    ("{\"op\":18446744073709551616}", NO_NUMBER),
-    ("{\"op\":-9223372036854775809}", NO_NUMBER),
-    ("{\"op\":\"1\"}", NO_NUMBER),
-    ("{\"op\":null}", NO_NUMBER),
-    ("{}", Err(Reason::Missing { key: Key::Op })),
+/// All numbers that a text may have.
+const ANY: (i128, i128) = (-(1 << 64), 1 << 64);
+
+/// Texts, the least and the largest number that is asked for, and the number that their member `op` is.
+static NUMBERS: [(&str, (i128, i128), Result<i128, Reason>); 13] = [
+    (
+        "{\"op\":18446744073709551615}",
+        ANY,
+        Ok(18446744073709551615),
+    ),
+    (
+        "{\"op\":-9223372036854775808}",
+        ANY,
+        Ok(-9223372036854775808),
+    ),
+    ("{\"op\":1,\"op\":2}", ANY, Ok(2)),
+    ("{\"op\":-0}", ANY, NO_NUMBER),
+    ("{\"op\":1.0}", ANY, NO_NUMBER),
+    ("{\"op\":1e2}", ANY, NO_NUMBER),
+    ("{\"op\":18446744073709551616}", ANY, NO_NUMBER),
+    ("{\"op\":-9223372036854775809}", ANY, NO_NUMBER),
+    ("{\"op\":\"1\"}", ANY, NO_NUMBER),
+    ("{\"op\":null}", ANY, NO_NUMBER),
+    ("{}", ANY, Err(Reason::Missing { key: Key::Op })),
+    (
+        "{\"op\":5}",
+        (6, 9),
+        Err(Reason::OutOfRange {
+            key: Key::Op,
+            limit: 6,
+        }),
+    ),
+    (
+        "{\"op\":5}",
+        (1, 4),
+        Err(Reason::OutOfRange {
+            key: Key::Op,
+            limit: 4,
+        }),
+    ),
 ];
 
 #[test]
-fn only_whole_numbers_are_read(rt: HostRuntime) -> Result<(), Fail> {
-    for (bytes, wanted) in &NUMBERS {
+fn only_whole_numbers_in_range_are_read(rt: HostRuntime) -> Result<(), Fail> {
+    for (bytes, (least, limit), wanted) in &NUMBERS {
         let value = parse(rt.alloc(), bytes.as_bytes())?;
-        let got = number(&value, Key::Op, -(1 << 64), 1 << 64);
-        assert_eq!(rt; got, *wanted, "{bytes}");
+        assert!(rt;
+            number(&value, Key::Op, *least, *limit) == *wanted,
+            "{bytes}"
+        );
     }
     Ok(())
 }
 
-#[test]
-fn only_numbers_in_range_are_read(rt: HostRuntime) -> Result<(), Fail> {
-    let key = Key::Op;
-    let value = parse(rt.alloc(), "{\"op\":5}".as_bytes())?;
-    let below = number(&value, key, 6, 9);
-    assert_eq!(rt; below, Err(Reason::OutOfRange { key, limit: 6 }));
-    let above = number(&value, key, 1, 4);
-    assert_eq!(rt; above, Err(Reason::OutOfRange { key, limit: 4 }));
-    Ok(())
+/// Whether the bytes are no JSON text.
+fn is_no_json(alloc: Global, bytes: &[u8]) -> bool {
+    match parse(alloc, bytes) {
+        Ok(_) => false,
+        Err(refusal) => refusal == ReadRefusal::Damaged { why: Reason::Json },
+    }
 }
 
-/// Why the bytes are not read.
-fn refusal(alloc: Global, bytes: &[u8]) -> Option<ReadRefusal> {
-    parse(alloc, bytes).err()
-}
-
-const NO_JSON: Option<ReadRefusal> = Some(ReadRefusal::Damaged { why: Reason::Json });
+/// What is no JSON text.
+static NO_JSON: [&[u8]; 5] = [b"", b"{", b"{} x", b"{\"op\":01}", b"\"\xff\""];
 
 #[test]
 fn what_is_no_json_is_refused(rt: HostRuntime) {
-    for text in &["", "{", "{} x", "{\"op\":01}"] {
-        assert_eq!(rt; refusal(rt.alloc(), text.as_bytes()), NO_JSON, "{text}");
+    for bytes in &NO_JSON {
+        assert!(rt; is_no_json(rt.alloc(), bytes), "{bytes:?}");
     }
-    assert_eq!(rt; refusal(rt.alloc(), b"\"\xff\""), NO_JSON);
-}
-
-/// An empty list, in so many lists that it nests this deep.
-fn nested(alloc: Global, depth: usize) -> Result<Vec<u8>, Fail> {
-    let mut bytes = Vec::new(alloc);
-    for _ in 0..depth {
-        bytes.push(b'[')?;
-    }
-    for _ in 0..depth {
-        bytes.push(b']')?;
-    }
-    Ok(bytes)
 }
 
 #[test]
 fn a_text_may_nest_127_deep(rt: HostRuntime) -> Result<(), Fail> {
     let most = nested(rt.alloc(), 127)?;
-    assert_eq!(rt; refusal(rt.alloc(), most.as_slice()), None);
+    let value = parse(rt.alloc(), most.as_bytes())?;
+    assert!(rt; value.is_array());
     let more = nested(rt.alloc(), 128)?;
-    assert_eq!(rt; refusal(rt.alloc(), more.as_slice()), NO_JSON);
+    assert!(rt; is_no_json(rt.alloc(), more.as_bytes()));
     Ok(())
 }
 
@@ -180,7 +201,7 @@ static KEYS: [(Key, &str); 23] = [
 #[test]
 fn each_member_has_its_name(rt: HostRuntime) {
     for (key, name) in &KEYS {
-        assert_eq!(rt; key.text(), *name);
+        assert!(rt; key.text() == *name, "{name}");
     }
 }
 
@@ -188,9 +209,6 @@ fn each_member_has_its_name(rt: HostRuntime) {
 fn a_text_is_written_with_its_escapes(rt: HostRuntime) -> Result<(), Fail> {
     let value = text_value(rt.alloc(), "a\"\\\n\u{1}é")?;
     let bytes = write(rt.alloc(), &value)?;
-    assert_eq!(rt;
-        str::from_utf8(bytes.as_slice())?,
-        "\"a\\\"\\\\\\n\\u0001é\""
-    );
+    assert!(rt; bytes.as_slice() == "\"a\\\"\\\\\\n\\u0001é\"".as_bytes());
     Ok(())
 }

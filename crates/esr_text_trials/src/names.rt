@@ -1,7 +1,6 @@
 //! Texts from the format's own tables.
 use esr_names::*;
 use std::alloc::Global;
-use std::process::Abort;
 use std::test::Fail;
 
 /// Terms and counters, with the texts of their ids.
@@ -12,18 +11,19 @@ static IDS: [(u64, u64, &str); 4] = [
     (3, 0, "AAAAAAAAAAMAAAAAAAAAAA"),
 ];
 
-/// That the id is of that term and counter, and has that text.
-fn check_id(rt: &impl Abort, term: u64, counter: u64, text: &str) {
+/// Whether the id of that term and counter has that text, which is read as the id.
+fn is_id(term: u64, counter: u64, text: &str) -> bool {
     let id = Id::new(term, counter);
-    assert_eq!(rt; (id.term(), id.counter()), (term, counter));
-    assert_eq!(rt; id_text(id).as_slice(), text.as_bytes());
-    assert_eq!(rt; id_read(text.as_bytes()), Some(id));
+    id.term() == term
+        && id.counter() == counter
+        && id_text(id).as_slice() == text.as_bytes()
+        && id_read(text.as_bytes()) == Some(id)
 }
 
 #[test]
 fn ids_have_their_texts(rt: HostRuntime) {
     for (term, counter, text) in &IDS {
-        check_id(&rt, *term, *counter, text);
+        assert!(rt; is_id(*term, *counter, text), "{text}");
     }
     assert!(rt;
         Id::new(1, u64::MAX) < Id::new(2, 0),
@@ -45,7 +45,7 @@ static NO_IDS: [&str; 7] = [
 #[test]
 fn other_texts_are_no_ids(rt: HostRuntime) {
     for text in &NO_IDS {
-        assert_eq!(rt; id_read(text.as_bytes()), None, "{text}");
+        assert!(rt; id_read(text.as_bytes()).is_none(), "{text}");
     }
 }
 
@@ -112,19 +112,17 @@ static BLOBS: [(BlobName, &str); 13] = [
     ),
 ];
 
-/// That this is the text of the name.
-fn check_blob(rt: &impl Abort, name: &BlobName, text: &str) {
+/// Whether this is the text of the name, and is read as it.
+fn is_blob(name: &BlobName, text: &str) -> bool {
     let mut out = [0; 128];
     let len = print_name(name, &mut out);
-    assert!(rt; is_name(name), "{text}");
-    assert_eq!(rt; &out[..len], text.as_bytes(), "{text}");
-    assert_eq!(rt; parse_name(text.as_bytes()), Some(*name), "{text}");
+    is_name(name) && &out[..len] == text.as_bytes() && parse_name(text.as_bytes()) == Some(*name)
 }
 
 #[test]
 fn each_kind_of_blob_has_its_text(rt: HostRuntime) {
     for (name, text) in &BLOBS {
-        check_blob(&rt, name, text);
+        assert!(rt; is_blob(name, text), "{text}");
     }
 }
 
@@ -168,28 +166,15 @@ static NO_BLOBS: [&str; 33] = [
 #[test]
 fn other_texts_name_no_blob(rt: HostRuntime) {
     for text in &NO_BLOBS {
-        assert_eq!(rt; parse_name(text.as_bytes()), None, "{text}");
+        assert!(rt; parse_name(text.as_bytes()).is_none(), "{text}");
     }
 }
 
 /// The place of a broken rule, and the rule.
 type Broken = Option<(usize, Rule)>;
 
-fn bad(broken: Broken) -> Option<NameRefusal> {
-    let (place, rule) = broken?;
-    Some(NameRefusal::Bad(BadName { place, rule }))
-}
-
-fn letters(alloc: Global, count: usize) -> Result<String, Fail> {
-    let mut text = String::new(alloc);
-    for _ in 0..count {
-        text.push('a')?;
-    }
-    Ok(text)
-}
-
 /// Texts, each with what it breaks as the name of a snapshot and as that of an index.
-static RULES: [(&str, Broken, Broken); 18] = [
+static RULES: [(&str, Broken, Broken); 19] = [
     ("s1", None, None),
     ("a:b", None, None),
     ("g00-+_~!", None, None),
@@ -220,26 +205,43 @@ static RULES: [(&str, Broken, Broken); 18] = [
     (".", None, Some((0, Rule::Dots))),
     ("..", None, Some((0, Rule::Dots))),
     ("...", None, None),
+    (
+        "!$%&'()+-.0123456789:;=@[]^_`abcdefghijklmnopqrstuvwxyz{}~",
+        None,
+        None,
+    ),
 ];
 
-/// That the text breaks these rules, as the name of a snapshot and as that of an index.
-fn check_rules(rt: &impl Abort, alloc: Global, text: &str, of_snap: Broken, of_index: Broken) {
-    let snap = SnapName::new(alloc, text).err();
-    assert_eq!(rt; snap, bad(of_snap), "snapshot {text}");
-    let index = IndexName::new(alloc, text).err();
-    assert_eq!(rt; index, bad(of_index), "index {text}");
+fn bad(broken: Broken) -> Option<NameRefusal> {
+    let (place, rule) = broken?;
+    Some(NameRefusal::Bad(BadName { place, rule }))
+}
+
+/// Whether the text breaks these rules, as the name of a snapshot and as that of an index.
+fn breaks(alloc: Global, text: &str, of_snap: Broken, of_index: Broken) -> bool {
+    SnapName::new(alloc, text).err() == bad(of_snap)
+        && IndexName::new(alloc, text).err() == bad(of_index)
 }
 
 #[test]
-fn the_first_broken_rule_of_a_name(rt: HostRuntime) -> Result<(), Fail> {
+fn the_first_broken_rule_of_a_name(rt: HostRuntime) {
     for (text, of_snap, of_index) in &RULES {
-        check_rules(&rt, rt.alloc(), text, *of_snap, *of_index);
+        assert!(rt; breaks(rt.alloc(), text, *of_snap, *of_index), "{text}");
     }
-    let most = letters(rt.alloc(), 255)?;
-    check_rules(&rt, rt.alloc(), most.as_str(), None, None);
-    let more = letters(rt.alloc(), 256)?;
-    let long = Some((255, Rule::TooLong));
-    check_rules(&rt, rt.alloc(), more.as_str(), long, long);
+}
+
+/// How many letters a text has, and what it breaks as a name.
+static LENGTHS: [(usize, Broken); 2] = [(255, None), (256, Some((255, Rule::TooLong)))];
+
+#[test]
+fn a_name_has_at_most_255_bytes(rt: HostRuntime) -> Result<(), Fail> {
+    for (count, wanted) in &LENGTHS {
+        let text = "a".repeat(rt.alloc(), *count)?;
+        assert!(rt;
+            breaks(rt.alloc(), text.as_str(), *wanted, *wanted),
+            "{count} letters"
+        );
+    }
     Ok(())
 }
 
@@ -251,36 +253,36 @@ fn ten_printed_bytes_stand_in_no_name(rt: HostRuntime) -> Result<(), Fail> {
     let wanted = Some((1, Rule::Forbidden));
     for byte in &FORBIDDEN {
         let text = format!(in rt.alloc(); "a{byte}")?;
-        check_rules(&rt, rt.alloc(), text.as_str(), wanted, wanted);
+        assert!(rt; breaks(rt.alloc(), text.as_str(), wanted, wanted), "{text}");
     }
-    let others = "!$%&'()+-.0123456789:;=@[]^_`abcdefghijklmnopqrstuvwxyz{}~";
-    check_rules(&rt, rt.alloc(), others, None, None);
     Ok(())
 }
 
-/// Names of indices in this order.
-fn names_of(alloc: Global, texts: &[&str]) -> Result<IndexNames, Fail> {
+/// Names of indices, in their order.
+static SORTED: [&str; 3] = ["a", "a-", "b"];
+
+/// The names of `SORTED`, from another order.
+fn sorted(alloc: Global) -> Result<Vec<IndexName>, Fail> {
     let mut names = IndexNames::new(alloc);
-    for text in texts {
+    for text in &["b", "a", "a-"] {
         names.push(IndexName::new(alloc, text)?)?;
     }
+    let mut names = names.into_vec();
+    names.sort()?;
     Ok(names)
 }
 
-/// That the name of an index and its copy have this text.
-fn check_name(rt: &impl Abort, alloc: Global, name: &IndexName, text: &str) -> Result<(), Fail> {
-    assert_eq!(rt; name.as_str(), text);
-    assert_eq!(rt; name.try_clone(alloc)?, IndexName::new(alloc, text)?);
-    Ok(())
+/// Whether the name of an index and its copy have this text.
+fn is_index(alloc: Global, name: &IndexName, text: &str) -> Result<bool, Fail> {
+    Ok(name.as_str() == text && name.try_clone(alloc)? == IndexName::new(alloc, text)?)
 }
 
 #[test]
 fn names_of_indices_compare_by_bytes_and_copy(rt: HostRuntime) -> Result<(), Fail> {
-    let mut sorted = names_of(rt.alloc(), &["b", "a", "a-"])?.into_vec();
-    sorted.sort()?;
-    assert_eq!(rt; sorted.len(), 3);
-    for (name, text) in sorted.iter().zip(&["a", "a-", "b"]) {
-        check_name(&rt, rt.alloc(), name, text)?;
+    let names = sorted(rt.alloc())?;
+    assert!(rt; names.len() == 3);
+    for (name, text) in names.iter().zip(&SORTED) {
+        assert!(rt; is_index(rt.alloc(), name, text)?, "{text}");
     }
     Ok(())
 }
@@ -288,20 +290,25 @@ fn names_of_indices_compare_by_bytes_and_copy(rt: HostRuntime) -> Result<(), Fai
 #[test]
 fn names_of_snapshots_compare_by_bytes_and_copy(rt: HostRuntime) -> Result<(), Fail> {
     let snap = SnapName::new(rt.alloc(), "s1")?;
-    assert_eq!(rt; snap.try_clone(rt.alloc())?.as_str(), "s1");
-    assert!(rt; snap < SnapName::new(rt.alloc(), "s10")?);
+    let later = SnapName::new(rt.alloc(), "s10")?;
+    let copy = snap.try_clone(rt.alloc())?;
+    assert!(rt; copy.as_str() == "s1" && snap < later);
     Ok(())
+}
+
+/// Whether the index has this id, this name and so many shards.
+fn is_ref(index: &IndexRef, id: Id, name: &str, shards: u32) -> bool {
+    index.id == id && index.name.as_str() == name && index.shards == shards
 }
 
 #[test]
 fn the_index_of_a_snapshot_is_copied(rt: HostRuntime) -> Result<(), Fail> {
+    let id = Id::new(1, 1);
     let index = IndexRef {
-        id: Id::new(1, 1),
+        id,
         name: IndexName::new(rt.alloc(), "logs")?,
         shards: 4,
     };
-    let copy = index.try_clone(rt.alloc())?;
-    assert_eq!(rt; (copy.id, copy.shards), (index.id, 4));
-    assert_eq!(rt; copy.name.as_str(), "logs");
+    assert!(rt; is_ref(&index.try_clone(rt.alloc())?, id, "logs", 4));
     Ok(())
 }

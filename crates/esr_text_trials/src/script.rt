@@ -1,10 +1,9 @@
 //! What scripts and words give.
+use crate::texts::check_told;
 use esr_names::{IndexNames, SnapName, SnapNames};
 use esr_script::*;
 use esr_seq::Text;
 use std::alloc::{AllocError, Global};
-use std::fmt::Write;
-use std::process::Abort;
 use std::test::Fail;
 
 /// Why a script is not read.
@@ -12,10 +11,9 @@ fn fault(alloc: Global, script: &[u8]) -> Option<ScriptRefusal> {
     script_read(alloc, script).err()
 }
 
-/// That this is the first bad line of a script, and its fault.
-fn check_bad_line(rt: &impl Abort, alloc: Global, script: &str, number: u32, why: Why) {
-    let refusal = Some(ScriptRefusal::BadLine { number, why });
-    assert_eq!(rt; fault(alloc, script.as_bytes()), refusal, "{script}");
+/// Whether this is the first bad line of a script, and its fault.
+fn is_bad_line(alloc: Global, script: &str, number: u32, why: Why) -> bool {
+    fault(alloc, script.as_bytes()) == Some(ScriptRefusal::BadLine { number, why })
 }
 
 /// Lines, each with its first fault.
@@ -59,7 +57,7 @@ static BAD_LINES: [(&str, Why); 34] = [
 #[test]
 fn bad_lines_have_their_first_fault(rt: HostRuntime) {
     for (line, why) in &BAD_LINES {
-        check_bad_line(&rt, rt.alloc(), line, 1, *why);
+        assert!(rt; is_bad_line(rt.alloc(), line, 1, *why), "{line}");
     }
 }
 
@@ -74,35 +72,19 @@ static BAD_SCRIPTS: [(&str, u32, Why); 4] = [
 #[test]
 fn the_first_bad_line_decides(rt: HostRuntime) {
     for (script, number, why) in &BAD_SCRIPTS {
-        check_bad_line(&rt, rt.alloc(), script, *number, *why);
+        assert!(rt; is_bad_line(rt.alloc(), script, *number, *why), "{script}");
     }
 }
 
-/// Adds a word after a space.
-fn push_word(text: &mut String, word: &str) -> Result<(), AllocError> {
-    text.push_str(" ")?;
-    text.push_str(word)
-}
-
-fn push_number(text: &mut String, number: u64) -> Result<(), Fail> {
-    write!(text, "{number}")?;
-    Ok(())
-}
-
-fn tell_index(text: &mut String, index: &AskedIndex) -> Result<(), Fail> {
-    push_word(text, index.name.as_str())?;
-    text.push_str(":")?;
-    push_number(text, u64::from(index.shards))?;
-    text.push_str(":")?;
-    text.push_str(index.place.as_str())?;
-    Ok(())
-}
-
-fn tell_snapshot(text: &mut String, name: &SnapName, indices: &AskedIndices) -> Result<(), Fail> {
-    text.push_str("snapshot")?;
-    push_word(text, name.as_str())?;
+fn tell_snapshot(
+    text: &mut String,
+    name: &SnapName,
+    indices: &AskedIndices,
+) -> Result<(), AllocError> {
+    write!(text, "snapshot {}", name.as_str())?;
     for index in indices.as_slice() {
-        tell_index(text, index)?;
+        let (name, place) = (index.name.as_str(), index.place.as_str());
+        write!(text, " {name}:{}:{place}", index.shards)?;
     }
     Ok(())
 }
@@ -113,11 +95,9 @@ fn tell_clone(
     name: &SnapName,
     indices: &IndexNames,
 ) -> Result<(), AllocError> {
-    text.push_str("clone")?;
-    push_word(text, source.as_str())?;
-    push_word(text, name.as_str())?;
+    write!(text, "clone {} {}", source.as_str(), name.as_str())?;
     for index in indices.as_slice() {
-        push_word(text, index.as_str())?;
+        write!(text, " {}", index.as_str())?;
     }
     Ok(())
 }
@@ -125,15 +105,9 @@ fn tell_clone(
 fn tell_delete(text: &mut String, names: &SnapNames) -> Result<(), AllocError> {
     text.push_str("delete")?;
     for name in names.as_slice() {
-        push_word(text, name.as_str())?;
+        write!(text, " {}", name.as_str())?;
     }
     Ok(())
-}
-
-fn tell_restore(text: &mut String, name: &SnapName, place: &Text) -> Result<(), AllocError> {
-    text.push_str("restore")?;
-    push_word(text, name.as_str())?;
-    push_word(text, place.as_str())
 }
 
 /// The verb of an item.
@@ -153,26 +127,29 @@ fn verb_of(item: &Item) -> &'static str {
 }
 
 /// Adds an item and what it holds.
-fn tell(text: &mut String, item: &Item) -> Result<(), Fail> {
+fn tell(text: &mut String, item: &Item) -> Result<(), AllocError> {
     match item {
         Item::Snapshot { name, indices } => tell_snapshot(text, name, indices),
         Item::Clone {
             source,
             name,
             indices,
-        } => Ok(tell_clone(text, source, name, indices)?),
-        Item::Delete { names } => Ok(tell_delete(text, names)?),
-        Item::Restore { name, place } => Ok(tell_restore(text, name, place)?),
-        _ => Ok(text.push_str(verb_of(item))?),
+        } => tell_clone(text, source, name, indices),
+        Item::Delete { names } => tell_delete(text, names),
+        Item::Restore { name, place } => {
+            write!(text, "restore {} {}", name.as_str(), place.as_str())
+        }
+        _ => text.push_str(verb_of(item)),
     }
 }
 
-/// Adds a line: its number and its item.
-fn tell_line(text: &mut String, line: &ScriptLine) -> Result<(), Fail> {
-    push_number(text, u64::from(line.number))?;
-    text.push_str(" ")?;
-    tell(text, &line.item)?;
-    text.push_str("; ")?;
+/// Adds lines, each with its number and its item.
+fn tell_lines(text: &mut String, lines: &[ScriptLine]) -> Result<(), AllocError> {
+    for line in lines {
+        write!(text, "{} ", line.number)?;
+        tell(text, &line.item)?;
+        text.push_str("; ")?;
+    }
     Ok(())
 }
 
@@ -180,9 +157,7 @@ fn tell_line(text: &mut String, line: &ScriptLine) -> Result<(), Fail> {
 fn told(alloc: Global, script: &str) -> Result<String, Fail> {
     let script = script_read(alloc, script.as_bytes())?;
     let mut text = String::new(alloc);
-    for line in script.as_slice() {
-        tell_line(&mut text, line)?;
-    }
+    tell_lines(&mut text, script.as_slice())?;
     Ok(text)
 }
 
@@ -213,24 +188,23 @@ static SCRIPTS: [(&str, &str); 13] = [
 fn lines_have_their_items(rt: HostRuntime) -> Result<(), Fail> {
     for (script, items) in &SCRIPTS {
         let text = told(rt.alloc(), script)?;
-        assert_eq!(rt; text.as_str(), *items, "{script}");
+        check_told(&rt, text.as_str(), items, script);
     }
     Ok(())
 }
 
 #[test]
 fn a_script_has_at_most_4_mebibytes(rt: HostRuntime) -> Result<(), Fail> {
-    let alloc = rt.alloc();
-    let mut script = Vec::with_capacity(alloc, 4_194_305)?;
-    script.resize(4_194_304, b'\n')?;
-    assert_eq!(rt; fault(alloc, &script), None);
-    script.push(b'\n')?;
-    assert_eq!(rt; fault(alloc, &script), Some(ScriptRefusal::TooLong));
+    let lines = "\n".repeat(rt.alloc(), 2048)?;
+    let mut script = lines.as_str().repeat(rt.alloc(), 2048)?;
+    assert!(rt; fault(rt.alloc(), script.as_bytes()).is_none());
+    script.push('\n')?;
+    assert!(rt; fault(rt.alloc(), script.as_bytes()) == Some(ScriptRefusal::TooLong));
     Ok(())
 }
 
 /// The words of a command line without the program's name, which spaces part here.
-fn words(alloc: Global, line: &str) -> Result<Words, Fail> {
+fn words(alloc: Global, line: &str) -> Result<Words, AllocError> {
     let mut words = Words::new(alloc);
     for word in line.split_whitespace() {
         words.push(Text::from_str(alloc, word)?)?;
@@ -238,38 +212,29 @@ fn words(alloc: Global, line: &str) -> Result<Words, Fail> {
     Ok(words)
 }
 
-fn tell_work(text: &mut String, work: &JobWork) -> Result<(), Fail> {
+fn tell_work(text: &mut String, work: &JobWork) -> Result<(), AllocError> {
     match work {
-        JobWork::Run => Ok(text.push_str("run")?),
+        JobWork::Run => text.push_str("run"),
         JobWork::Single(item) => tell(text, item),
-        JobWork::Generate { seed } => {
-            text.push_str("generate ")?;
-            push_number(text, *seed)
-        }
+        JobWork::Generate { seed } => write!(text, "generate {seed}"),
     }
 }
 
-/// A job: its workers, the size of its parts and its work.
-fn job_text(alloc: Global, job: &Job) -> Result<String, Fail> {
-    let mut text = String::new(alloc);
-    push_number(&mut text, u64::from(job.options.workers))?;
-    text.push_str(" ")?;
-    push_number(&mut text, job.options.part_size)?;
-    text.push_str(" ")?;
-    tell_work(&mut text, &job.work)?;
-    Ok(text)
-}
-
-fn refusal_text(alloc: Global, refusal: WordsRefusal) -> Result<String, Fail> {
-    Ok(format!(in alloc; "{refusal}")?)
+/// Adds a job: its workers, the size of its parts and its work.
+fn tell_job(text: &mut String, job: &Job) -> Result<(), AllocError> {
+    let options = &job.options;
+    write!(text, "{} {} ", options.workers, options.part_size)?;
+    tell_work(text, &job.work)
 }
 
 /// The job of a command line, or why there is none.
-fn told_job(alloc: Global, line: &str) -> Result<String, Fail> {
+fn told_job(alloc: Global, line: &str) -> Result<String, AllocError> {
+    let mut text = String::new(alloc);
     match words_read(alloc, &words(alloc, line)?) {
-        Ok(job) => job_text(alloc, &job),
-        Err(refusal) => refusal_text(alloc, refusal),
+        Ok(job) => tell_job(&mut text, &job)?,
+        Err(refusal) => write!(text, "{refusal}")?,
     }
+    Ok(text)
 }
 
 /// Command lines, each with its job.
@@ -330,7 +295,7 @@ static JOBS: [(&str, &str); 41] = [
 fn words_have_their_jobs(rt: HostRuntime) -> Result<(), Fail> {
     for (line, job) in &JOBS {
         let text = told_job(rt.alloc(), line)?;
-        assert_eq!(rt; text.as_str(), *job, "{line}");
+        check_told(&rt, text.as_str(), job, line);
     }
     Ok(())
 }
@@ -349,8 +314,8 @@ static FOLDERS: [(&str, &str); 7] = [
 #[test]
 fn the_folder_is_that_of_good_words(rt: HostRuntime) -> Result<(), Fail> {
     for (line, folder) in &FOLDERS {
-        let place = repo_place(rt.alloc(), &words(rt.alloc(), line)?)?;
-        assert_eq!(rt; place.as_str(), *folder, "{line}");
+        let words = words(rt.alloc(), line)?;
+        check_told(&rt, repo_place(rt.alloc(), &words)?.as_str(), folder, line);
     }
     Ok(())
 }

@@ -10,6 +10,3 @@ mod view;
 pub use lock::TurnLock;
 pub use logged::Logged;
 pub use pass::{Held, Pass, Turn};
-
-#[cfg(test)]
-mod tests;

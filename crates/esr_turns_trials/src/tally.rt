@@ -1,7 +1,7 @@
 // A value whose history has images, which exist in proofs alone.
 ghost use Rattle.std.specs.Prelude.{◌≡◌, ℕ, List, [], ◌∷◌, ◌++◌, Option, Some, None, map, IfOk, OnErr};
 
-use crate::Logged;
+use esr_turns::Logged;
 use std::alloc::{AllocError, Global};
 use std::marker::Model;
 

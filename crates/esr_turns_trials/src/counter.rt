@@ -1,7 +1,7 @@
 // A counter that remembers who counted.
 ghost use Rattle.std.specs.Prelude.{◌≡◌, ℕ, ◌+◌, List, [], ◌∷◌, ◌++◌, length, IfOk, OnErr, None};
 
-use crate::Logged;
+use esr_turns::Logged;
 use std::alloc::{AllocError, Global};
 use std::marker::Model;
 

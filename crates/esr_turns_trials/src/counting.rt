@@ -1,19 +1,16 @@
+// Turns that are taken at one lock.
 ghost use Rattle.std.specs.Prelude.{◌≡◌, ℕ, ◌+◌, ◌^◌, ◌<◌, List, [], ◌∷◌, ◌++◌, Option, Some, true};
 ghost use Rattle.esr_turns.specs.Places.{places_from, merged};
 ghost use Rattle.esr_turns.specs.Histories.{StartsWith};
 
-use super::*;
+use crate::counter::Counter;
+use crate::tally::Tally;
+use esr_turns::{Logged, Pass, TurnLock};
 use std::alloc::Global;
 use std::sync::Wait;
-use std::test::*;
+use std::test::Fail;
 use std::thread;
 use std::thread::Threads;
-
-mod counter;
-mod tally;
-
-use counter::Counter;
-use tally::Tally;
 
 // How often each of two threads counts.
 const OFTEN: u64 = 100_000;
