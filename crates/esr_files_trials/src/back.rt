@@ -2,7 +2,7 @@
 ghost use Rattle.std.specs.Prelude.{◌≤◌, None, false, IfOk, IsSomeAnd};
 
 use esr_depot::{CallError, Counted, Failed, Fetch};
-use esr_hash::{Hasher, Print, print_read};
+use esr_hash::{Hasher, print_read};
 use esr_parts::{BackError, Extent, hash_back, read_back};
 use esr_seq::Seq;
 use esr_source::{Address, Call, FailingAt, MemTarget, MemTargets, Target, Targets};
@@ -77,128 +77,108 @@ fn target_of(alloc: Global, call: Call, size: u64) -> Result<MemTarget, CallErro
     Ok(target)
 }
 
-/// The bytes of the one file of a target.
-fn written(target: &MemTarget) -> &[u8] {
-    match target.files() {
-        [file] => file.bytes.as_slice(),
-        _ => b"not one file",
-    }
+/// Whether a target has one file, with these bytes.
+fn has_written(target: &MemTarget, text: &[u8]) -> bool {
+    let files = target.files();
+    files.len() == 1 && files[0].bytes.as_slice() == text
 }
 
-/// How much the blob has of a file of that size, where it is read back two bytes at a time; what was written of it, and
-/// the print of what was read.
-fn back_of(
-    alloc: Global,
-    bytes: &'static [u8],
-    size: u32,
-) -> Result<(Extent, MemTarget, Print), Fail> {
+/// A blob and the size of a file that it is read back as; how much of that file it has, and what is written; and how many
+/// bytes are hashed, with their digest.
+type Back = (&'static str, u32, Extent, &'static str, u64, &'static [u8]);
+
+const BACK: [Back; 6] = [
+    ("abcd", 4, Extent::Whole, "abcd", 4, OF_ABCD),
+    ("", 0, Extent::Whole, "", 0, OF_NOTHING),
+    // a short blob is written as far as it goes
+    ("ab", 3, Extent::Short, "ab", 2, OF_AB),
+    // one byte past the size is hashed and not written
+    ("abcd", 3, Extent::Long, "abc", 4, OF_ABCD),
+    ("abcdefgh", 3, Extent::Long, "abc", 4, OF_ABCD),
+    ("abcd", 0, Extent::Long, "", 1, OF_A),
+];
+
+/// The size of a file that the blob `abcd` is hashed as; how much of that file it has; and how many bytes are hashed, with
+/// their digest.
+type Hashed = (u32, Extent, u64, &'static [u8]);
+
+const HASHED: [Hashed; 4] = [
+    (4, Extent::Whole, 4, OF_ABCD),
+    (9, Extent::Short, 4, OF_ABCD),
+    (1, Extent::Long, 2, OF_AB),
+    (0, Extent::Long, 1, OF_A),
+];
+
+/// Whether the blob is read back so, two bytes at a time.
+fn is_read_back(alloc: Global, row: &Back) -> Result<bool, Fail> {
+    let (blob, size, extent, text, len, digits) = *row;
     let size = u64::from(size);
-    let mut blob = blob_of(bytes, false);
+    let mut blob = blob_of(blob.as_bytes(), false);
     let mut target = target_of(alloc, Call::Create, size)?;
     let mut hasher = Hasher::start();
     let mut buf = [0u8; 2];
-    let extent = read_back(&mut blob, &mut target, &mut hasher, size, &mut buf)?;
+    let found = read_back(&mut blob, &mut target, &mut hasher, size, &mut buf)?;
     target.end()?;
-    Ok((extent, target, hasher.end()))
+    let is_hashed = Some(hasher.end()) == print_read(len, digits);
+    Ok(found == extent && is_hashed && has_written(&target, text.as_bytes()))
 }
 
-/// The same of a blob that is read for its print alone.
-fn hash_of(bytes: &'static [u8], size: u32) -> Result<(Extent, Print), Failed> {
-    let size = u64::from(size);
-    let mut blob = blob_of(bytes, false);
+/// Whether the blob `abcd` is hashed so, two bytes at a time.
+fn is_hashed(row: &Hashed) -> Result<bool, Failed> {
+    let (size, extent, len, digits) = *row;
+    let mut blob = blob_of(b"abcd", false);
     let mut hasher = Hasher::start();
     let mut buf = [0u8; 2];
-    let extent = hash_back(&mut blob, &mut hasher, size, &mut buf)?;
-    Ok((extent, hasher.end()))
+    let found = hash_back(&mut blob, &mut hasher, u64::from(size), &mut buf)?;
+    Ok(found == extent && Some(hasher.end()) == print_read(len, digits))
 }
 
 #[test]
-fn a_whole_file_is_written(rt: HostRuntime) -> Result<(), Fail> {
-    let (extent, target, print) = back_of(rt.alloc(), b"abcd", 4)?;
-    assert_eq!(rt; extent, Extent::Whole);
-    assert_eq!(rt; written(&target), b"abcd".as_slice());
-    assert_eq!(rt; Some(print), print_read(4, OF_ABCD));
-    Ok(())
-}
-
-#[test]
-fn an_empty_file_is_whole(rt: HostRuntime) -> Result<(), Fail> {
-    let (extent, target, print) = back_of(rt.alloc(), b"", 0)?;
-    assert_eq!(rt; extent, Extent::Whole);
-    assert_eq!(rt; written(&target), b"".as_slice());
-    assert_eq!(rt; Some(print), print_read(0, OF_NOTHING));
-    Ok(())
-}
-
-#[test]
-fn a_short_file_is_written_as_far_as_it_goes(rt: HostRuntime) -> Result<(), Fail> {
-    let (extent, target, print) = back_of(rt.alloc(), b"ab", 3)?;
-    assert_eq!(rt; extent, Extent::Short);
-    assert_eq!(rt; written(&target), b"ab".as_slice());
-    assert_eq!(rt; Some(print), print_read(2, OF_AB));
-    Ok(())
-}
-
-#[test]
-fn one_byte_past_the_size_is_hashed_and_not_written(rt: HostRuntime) -> Result<(), Fail> {
-    for bytes in [b"abcd".as_slice(), b"abcdefgh".as_slice()] {
-        let (extent, target, print) = back_of(rt.alloc(), bytes, 3)?;
-        assert_eq!(rt; extent, Extent::Long);
-        assert_eq!(rt; written(&target), b"abc".as_slice());
-        assert_eq!(rt; Some(print), print_read(4, OF_ABCD));
+fn files_are_read_back(rt: HostRuntime) -> Result<(), Fail> {
+    for row in &BACK {
+        assert!(rt; is_read_back(rt.alloc(), row)?, "{} as {}", row.0, row.1);
     }
-    Ok(())
-}
-
-#[test]
-fn a_byte_where_there_should_be_none_is_told(rt: HostRuntime) -> Result<(), Fail> {
-    let (extent, target, print) = back_of(rt.alloc(), b"abcd", 0)?;
-    assert_eq!(rt; extent, Extent::Long);
-    assert_eq!(rt; written(&target), b"".as_slice());
-    assert_eq!(rt; Some(print), print_read(1, OF_A));
     Ok(())
 }
 
 #[test]
 fn blobs_are_hashed_without_a_target(rt: HostRuntime) -> Result<(), Fail> {
-    let table = [
-        (4, Extent::Whole, 4, OF_ABCD),
-        (9, Extent::Short, 4, OF_ABCD),
-        (1, Extent::Long, 2, OF_AB),
-        (0, Extent::Long, 1, OF_A),
-    ];
-    for (size, expected, len, digits) in table {
-        let (extent, print) = hash_of(b"abcd", size)?;
-        assert_eq!(rt; extent, expected);
-        assert_eq!(rt; Some(print), print_read(len, digits));
+    for row in &HASHED {
+        assert!(rt; is_hashed(row)?, "abcd as {}", row.0);
     }
     Ok(())
 }
 
-#[test]
-fn a_read_that_fails_is_of_the_blob(rt: HostRuntime) -> Result<(), Fail> {
-    let alloc = rt.alloc();
-    let mut blob = blob_of(b"abcd", true);
-    let mut target = target_of(alloc, Call::Create, 4)?;
+/// How often calls of the blob and of the target failed.
+type FaultCounts = (u64, u64);
+
+/// What reading back answers where the blob is broken or the second call of that kind fails, and how often each failed.
+fn broken(
+    alloc: Global,
+    is_broken: bool,
+    call: Call,
+) -> Result<(Result<Extent, BackError>, FaultCounts), Fail> {
+    let mut blob = blob_of(b"abcd", is_broken);
+    let mut target = target_of(alloc, call, 4)?;
     let mut hasher = Hasher::start();
-    let mut buf = [0u8; 4];
+    let mut buf = [0u8; 2];
     let answer = read_back(&mut blob, &mut target, &mut hasher, 4, &mut buf);
-    assert_eq!(rt; answer, Err(BackError::Fetch));
-    assert_eq!(rt; (blob.fault_count(), target.fault_count()), (1, 0));
-    let answer = hash_back(&mut blob, &mut hasher, 4, &mut buf);
-    assert_eq!(rt; answer, Err(Failed));
+    Ok((answer, (blob.fault_count(), target.fault_count())))
+}
+
+#[test]
+fn a_failure_is_of_the_blob_or_of_the_target(rt: HostRuntime) -> Result<(), Fail> {
+    let of_blob = broken(rt.alloc(), true, Call::Create)?;
+    assert!(rt; of_blob == (Err(BackError::Fetch), (1, 0)));
+    let of_target = broken(rt.alloc(), false, Call::Write)?;
+    assert!(rt; of_target == (Err(BackError::Target), (0, 1)));
     Ok(())
 }
 
 #[test]
-fn a_write_that_fails_is_of_the_target(rt: HostRuntime) -> Result<(), Fail> {
-    let alloc = rt.alloc();
-    let mut blob = blob_of(b"abcd", false);
-    let mut target = target_of(alloc, Call::Write, 4)?;
+fn a_read_that_fails_ends_the_hashing(rt: HostRuntime) {
+    let mut blob = blob_of(b"abcd", true);
     let mut hasher = Hasher::start();
-    let mut buf = [0u8; 2];
-    let answer = read_back(&mut blob, &mut target, &mut hasher, 4, &mut buf);
-    assert_eq!(rt; answer, Err(BackError::Target));
-    assert_eq!(rt; (blob.fault_count(), target.fault_count()), (0, 1));
-    Ok(())
+    let mut buf = [0u8; 4];
+    assert!(rt; hash_back(&mut blob, &mut hasher, 4, &mut buf) == Err(Failed));
 }

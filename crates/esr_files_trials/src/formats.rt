@@ -5,6 +5,8 @@ use esr_formats::{
     write_root, write_shard_index, write_shard_snap,
 };
 use esr_names::{BlobName, Id, ShardId, is_name};
+use esr_seq::Bytes;
+use std::alloc::{AllocError, Global};
 use std::test::Fail;
 
 /// The root after one snapshot `s1` of an index `logs` of one shard: 208 bytes.
@@ -29,60 +31,73 @@ const SHARD_INDEX: &str =
 
 const NAME: &str = "indices/AAAAAAAAAAEAAAAAAAAAAQ/0/index-AAAAAAAAAAEAAAAAAAAAAw";
 
-#[test]
-fn a_worked_root_is_read_and_written(rt: HostRuntime) -> Result<(), Fail> {
-    let alloc = rt.alloc();
-    let root = write_root(alloc, &read_root(alloc, ROOT.as_bytes())?)?;
-    assert_eq!(rt; (root.len(), root.as_slice()), (208, ROOT.as_bytes()));
-    Ok(())
+/// What is read and written again, and its worked text.
+const TEXTS: [(&str, &str); 7] = [
+    ("root", ROOT),
+    ("record", CLUSTER),
+    ("info", INFO),
+    ("global metadata", GLOBAL),
+    ("metadata of an index", INDEX_META),
+    ("snapshot of a shard", SHARD_SNAP),
+    ("index of a shard", SHARD_INDEX),
+];
+
+fn root_again(alloc: Global, text: &[u8]) -> Result<Bytes, Fail> {
+    Ok(write_root(alloc, &read_root(alloc, text)?)?)
+}
+
+fn cluster_again(alloc: Global, text: &[u8]) -> Result<Bytes, Fail> {
+    Ok(write_cluster(alloc, &read_cluster(alloc, text)?)?)
+}
+
+fn info_again(alloc: Global, text: &[u8]) -> Result<Bytes, Fail> {
+    Ok(write_info(alloc, &read_info(alloc, text)?)?)
+}
+
+fn global_again(alloc: Global, text: &[u8]) -> Result<Bytes, Fail> {
+    Ok(write_global(alloc, &read_global(alloc, text)?)?)
+}
+
+fn index_meta_again(alloc: Global, text: &[u8]) -> Result<Bytes, Fail> {
+    Ok(write_index_meta(alloc, &read_index_meta(alloc, text)?)?)
+}
+
+fn shard_snap_again(alloc: Global, text: &[u8]) -> Result<Bytes, Fail> {
+    Ok(write_shard_snap(alloc, &read_shard_snap(alloc, text)?)?)
+}
+
+fn shard_index_again(alloc: Global, text: &[u8]) -> Result<Bytes, Fail> {
+    Ok(write_shard_index(alloc, &read_shard_index(alloc, text)?)?)
+}
+
+/// The text of such a value, read and written again.
+fn again(alloc: Global, kind: &str, text: &[u8]) -> Result<Bytes, Fail> {
+    match kind {
+        "root" => root_again(alloc, text),
+        "record" => cluster_again(alloc, text),
+        "info" => info_again(alloc, text),
+        "global metadata" => global_again(alloc, text),
+        "metadata of an index" => index_meta_again(alloc, text),
+        "snapshot of a shard" => shard_snap_again(alloc, text),
+        "index of a shard" => shard_index_again(alloc, text),
+        _ => Err(Fail::new("no such kind")),
+    }
 }
 
 #[test]
-fn a_worked_record_is_read_and_written(rt: HostRuntime) -> Result<(), Fail> {
-    let alloc = rt.alloc();
-    let cluster = write_cluster(alloc, &read_cluster(alloc, CLUSTER.as_bytes())?)?;
-    assert_eq!(rt; cluster.as_slice(), CLUSTER.as_bytes());
+fn worked_texts_are_read_and_written(rt: HostRuntime) -> Result<(), Fail> {
+    assert!(rt; ROOT.len() == 208);
+    for (kind, text) in &TEXTS {
+        let again = again(rt.alloc(), kind, text.as_bytes())?;
+        assert!(rt; again.as_slice() == text.as_bytes(), "{kind}");
+    }
     Ok(())
 }
 
-#[test]
-fn a_worked_info_is_read_and_written(rt: HostRuntime) -> Result<(), Fail> {
-    let alloc = rt.alloc();
-    let info = write_info(alloc, &read_info(alloc, INFO.as_bytes())?)?;
-    assert_eq!(rt; info.as_slice(), INFO.as_bytes());
-    Ok(())
-}
-
-#[test]
-fn worked_global_metadata_is_read_and_written(rt: HostRuntime) -> Result<(), Fail> {
-    let alloc = rt.alloc();
-    let global = write_global(alloc, &read_global(alloc, GLOBAL.as_bytes())?)?;
-    assert_eq!(rt; global.as_slice(), GLOBAL.as_bytes());
-    Ok(())
-}
-
-#[test]
-fn worked_metadata_of_an_index_is_read_and_written(rt: HostRuntime) -> Result<(), Fail> {
-    let alloc = rt.alloc();
-    let meta = write_index_meta(alloc, &read_index_meta(alloc, INDEX_META.as_bytes())?)?;
-    assert_eq!(rt; meta.as_slice(), INDEX_META.as_bytes());
-    Ok(())
-}
-
-#[test]
-fn a_worked_snapshot_of_a_shard_is_read_and_written(rt: HostRuntime) -> Result<(), Fail> {
-    let alloc = rt.alloc();
-    let snap = write_shard_snap(alloc, &read_shard_snap(alloc, SHARD_SNAP.as_bytes())?)?;
-    assert_eq!(rt; snap.as_slice(), SHARD_SNAP.as_bytes());
-    Ok(())
-}
-
-#[test]
-fn a_worked_index_of_a_shard_is_read_and_written(rt: HostRuntime) -> Result<(), Fail> {
-    let alloc = rt.alloc();
-    let index = write_shard_index(alloc, &read_shard_index(alloc, SHARD_INDEX.as_bytes())?)?;
-    assert_eq!(rt; index.as_slice(), SHARD_INDEX.as_bytes());
-    Ok(())
+/// Whether the name is written as this text, which reads as it.
+fn is_written_and_read(alloc: Global, name: BlobName, text: &str) -> Result<bool, AllocError> {
+    let is_written = is_name(&name) && write_name(alloc, &name)?.as_str() == text;
+    Ok(is_written && read_name(text.as_bytes()) == Some(name))
 }
 
 #[test]
@@ -92,9 +107,7 @@ fn a_worked_name_is_written_and_read(rt: HostRuntime) -> Result<(), Fail> {
         number: 0,
     };
     let name = BlobName::ShardIndex(shard, Id::new(1, 3));
-    assert!(rt; is_name(&name));
-    assert_eq!(rt; write_name(rt.alloc(), &name)?.as_str(), NAME);
-    assert_eq!(rt; read_name(NAME.as_bytes()), Some(name));
-    assert_eq!(rt; read_name(b"index-01"), None);
+    assert!(rt; is_written_and_read(rt.alloc(), name, NAME)?);
+    assert!(rt; read_name(b"index-01").is_none());
     Ok(())
 }

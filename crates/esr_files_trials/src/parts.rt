@@ -1,9 +1,9 @@
 //! Files of shards are hashed and copied in pieces.
-ghost use Rattle.std.specs.Prelude.{None, false, [], ◌<◌, length, IsSomeAnd};
+ghost use Rattle.std.specs.Prelude.{None, false, [], ◌<◌, ◌≡◌, length, IsSomeAnd};
 
 use esr_depot::{CallError, Counted, Failed, Stage};
 use esr_hash::{Hasher, Print, print_read};
-use esr_parts::{copy_part, hash_file, part_plan};
+use esr_parts::{CopyError, copy_part, hash_file, part_plan};
 use esr_seq::Seq;
 use esr_source::{Address, MemFile, MemShard, MemSource, MemSources, NoGate, Shard, Sources};
 use std::alloc::{AllocError, Global};
@@ -44,14 +44,35 @@ impl Stage for Tally {
     }
 }
 
-/// The shard 0 of `logs` in `src`, with the files `a`, which is empty, and `b`, which is `abc`.
-fn shard_of(alloc: Global) -> Result<MemShard, AllocError> {
+fn push(
+    alloc: Global,
+    files: &mut Seq<MemFile>,
+    name: &str,
+    bytes: &[u8],
+) -> Result<(), AllocError> {
+    files.push(MemFile::new(alloc, name, bytes)?)?;
+    Ok(())
+}
+
+/// The files `a`, which is empty, and `b`, which is `abc`.
+fn files_of(alloc: Global) -> Result<Seq<MemFile>, AllocError> {
     let mut files = Seq::new(alloc);
-    files.push(MemFile::new(alloc, "a", b"")?)?;
-    files.push(MemFile::new(alloc, "b", b"abc")?)?;
+    push(alloc, &mut files, "a", b"")?;
+    push(alloc, &mut files, "b", b"abc")?;
+    Ok(files)
+}
+
+fn source_of(alloc: Global) -> Result<MemSource, AllocError> {
+    Ok(MemSource {
+        address: Address::new(alloc, "src", "logs", 0)?,
+        files: files_of(alloc)?,
+    })
+}
+
+/// The shard 0 of `logs` in `src`, with those files.
+fn shard_of(alloc: Global) -> Result<MemShard, AllocError> {
     let mut sources = Seq::new(alloc);
-    let address = Address::new(alloc, "src", "logs", 0)?;
-    sources.push(MemSource { address, files })?;
+    sources.push(source_of(alloc)?)?;
     MemSources::new(sources, Seq::new(alloc)).shard(alloc, "src", "logs", 0)
 }
 
@@ -72,47 +93,66 @@ fn print_at<S: Shard>(
 
 #[test]
 fn parts_at_the_edges(rt: HostRuntime) {
-    assert_eq!(rt; part_plan(0, 4, 0), (0, 0));
-    assert_eq!(rt; part_plan(4, 4, 0), (0, 4));
-    assert_eq!(rt; part_plan(5, 4, 0), (0, 4));
-    assert_eq!(rt; part_plan(5, 4, 1), (4, 1));
-    assert_eq!(rt; part_plan(8, 4, 1), (4, 4));
-    assert_eq!(rt; part_plan(9, 4, 2), (8, 1));
+    assert!(rt; part_plan(0, 4, 0) == (0, 0));
+    assert!(rt; part_plan(9, 4, 2) == (8, 1));
 }
+
+/// A file of the shard, with its length and its digest.
+const FILES: [(usize, u64, &[u8]); 2] = [(0, 0, OF_NOTHING), (1, 3, OF_ABC)];
 
 #[test]
 fn files_are_hashed_to_their_ends(rt: HostRuntime) -> Result<(), Fail> {
-    let alloc = rt.alloc();
-    let mut shard = shard_of(alloc)?;
-    for (file, len, digits) in [(0, 0, OF_NOTHING), (1, 3, OF_ABC)] {
-        let print = print_at(alloc, &mut shard, file)?;
-        assert_eq!(rt; print, print_read(len, digits));
+    let mut shard = shard_of(rt.alloc())?;
+    for (file, len, digits) in &FILES {
+        let print = print_at(rt.alloc(), &mut shard, *file)?;
+        assert!(rt; print == print_read(*len, digits), "file {file}");
     }
     Ok(())
 }
 
+fn tally_of(room: usize) -> Tally
+    ensures { result.room ≡ room }
+{
+    Tally { room, written: 0 }
+}
+
+/// The shard, where its second file is to be read.
+fn begun(alloc: Global) -> Result<MemShard, Fail> {
+    let mut shard = shard_of(alloc)?;
+    if shard.list(alloc)?.len() != 2 {
+        return Err(Fail::new("not two files"));
+    }
+    shard.start(alloc, 1)?;
+    Ok(shard)
+}
+
+/// Whether a stage got all bytes that it had room for, and how many it got.
+type Filled = (bool, usize);
+
+/// What is copied of the file into two stages of two bytes each, one byte at a time; and its print.
+fn copied(alloc: Global) -> Result<(Filled, Filled, Print), Fail> {
+    let mut shard = begun(alloc)?;
+    Ok(copy_halves(&mut shard)?)
+}
+
+fn copy_halves(shard: &mut MemShard) -> Result<(Filled, Filled, Print), CopyError> {
+    let mut hasher = Hasher::start();
+    let (mut first, mut last) = (tally_of(2), tally_of(2));
+    let mut buf = [0u8; 1];
+    let first_full = copy_part(shard, &mut first, &mut hasher, 2, &NoGate, 1, &mut buf)?;
+    let last_full = copy_part(shard, &mut last, &mut hasher, 2, &NoGate, 1, &mut buf)?;
+    Ok((
+        (first_full, first.written),
+        (last_full, last.written),
+        hasher.end(),
+    ))
+}
+
 #[test]
 fn pieces_are_copied_and_hashed(rt: HostRuntime) -> Result<(), Fail> {
-    let alloc = rt.alloc();
-    let mut shard = shard_of(alloc)?;
-    let files = shard.list(alloc)?;
-    assert_eq!(rt; files.len(), 2);
-    shard.start(alloc, 1)?;
-    let mut hasher = Hasher::start();
-    let mut first = Tally {
-        room: 2,
-        written: 0,
-    };
-    let mut last = Tally {
-        room: 2,
-        written: 0,
-    };
-    let mut buf = [0u8; 1];
-    let is_full = copy_part(&mut shard, &mut first, &mut hasher, 2, &NoGate, 1, &mut buf)?;
-    assert!(rt; is_full);
-    let is_full = copy_part(&mut shard, &mut last, &mut hasher, 2, &NoGate, 1, &mut buf)?;
-    assert!(rt; !is_full);
-    assert_eq!(rt; (first.written, last.written), (2, 1));
-    assert_eq!(rt; Some(hasher.end()), print_read(3, OF_ABC));
+    let (first, last, print) = copied(rt.alloc())?;
+    assert!(rt; first == (true, 2));
+    assert!(rt; last == (false, 1));
+    assert!(rt; Some(print) == print_read(3, OF_ABC));
     Ok(())
 }

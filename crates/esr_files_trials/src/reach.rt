@@ -4,9 +4,8 @@ use esr_names::{Id, ShardId};
 use esr_reach::{Names, ShardIndices, doomed_by_delete, reach};
 use esr_root::root_read;
 use esr_seq::Bytes;
-use esr_shardidx::shard_index_read;
+use esr_shardidx::{ShardIndex, shard_index_read};
 use std::alloc::{AllocError, Global};
-use std::process::Abort;
 use std::test::Fail;
 
 /// One snapshot of an index of one shard.
@@ -78,29 +77,53 @@ indices/AAAAAAAAAAEAAAAAAAAAAQ/0/snap-AAAAAAAAAAEAAAAAAAAABA.dat
 indices/AAAAAAAAAAEAAAAAAAAAAQ/0/__AAAAAAAAAAEAAAAAAAAABQ
 ";
 
-/// That shard of the index, with the index that has this text.
-fn held_of(alloc: Global, number: u32, text: &str) -> Result<ShardIndices, Fail> {
+/// What is shown; a root; a shard of its index, with the index of the shard; and what the root reaches.
+const REACHES: [(&str, &str, u32, &str, &str); 4] = [
+    ("what a root lists", ONE, 0, ONE_SHARD, ONE_REACHES),
+    ("each part of a file", ONE, 0, PARTS_SHARD, PARTS_REACH),
+    (
+        "files of unlisted snapshots",
+        ONE,
+        0,
+        MORE_SHARD,
+        MORE_REACH,
+    ),
+    (
+        "nothing where there is no generation",
+        PARTIAL,
+        1,
+        ONE_SHARD,
+        PARTIAL_REACHES,
+    ),
+];
+
+/// That shard of the index, with this index of its own.
+fn held_with(alloc: Global, number: u32, index: ShardIndex) -> Result<ShardIndices, AllocError> {
     let shard = ShardId {
         index: Id::new(1, 1),
         number,
     };
     let mut held = ShardIndices::new(alloc);
-    held.insert(shard, shard_index_read(alloc, text.as_bytes())?)?;
+    held.insert(shard, index)?;
     Ok(held)
 }
 
-/// The names that the root of this text reaches, where that shard of its index has the index of this text.
-fn reach_of(
-    rt: &impl Abort,
-    alloc: Global,
-    root: &str,
-    number: u32,
-    shard: &str,
-) -> Result<Names, Fail> {
+/// The same with the index that has this text.
+fn held_of(alloc: Global, number: u32, text: &str) -> Result<ShardIndices, Fail> {
+    let index = shard_index_read(alloc, text.as_bytes())?;
+    Ok(held_with(alloc, number, index)?)
+}
+
+/// The names that the root of this text reaches, where that shard of its index has the index of this text; or none where
+/// a shard is not held.
+fn reach_of(alloc: Global, root: &str, number: u32, shard: &str) -> Result<Option<Names>, Fail> {
     let root = root_read(alloc, root.as_bytes())?;
     let held = held_of(alloc, number, shard)?;
-    assert!(rt; held.has_each(&root));
-    Ok(reach(alloc, &root, &held)?)
+    if held.has_each(&root) {
+        Ok(Some(reach(alloc, &root, &held)?))
+    } else {
+        Ok(None)
+    }
 }
 
 /// The names, one a line.
@@ -113,58 +136,42 @@ fn lines_of(alloc: Global, names: &Names) -> Result<Bytes, AllocError> {
     Ok(lines)
 }
 
-#[test]
-fn a_root_reaches_what_it_lists(rt: HostRuntime) -> Result<(), Fail> {
-    let alloc = rt.alloc();
-    let names = reach_of(&rt, alloc, ONE, 0, ONE_SHARD)?;
-    let lines = lines_of(alloc, &names)?;
-    assert_eq!(rt; lines.as_slice(), ONE_REACHES.as_bytes());
-    Ok(())
+/// What the root reaches, one name a line.
+fn reached(alloc: Global, root: &str, number: u32, shard: &str) -> Result<Bytes, Fail> {
+    match reach_of(alloc, root, number, shard)? {
+        Some(names) => Ok(lines_of(alloc, &names)?),
+        None => Err(Fail::new("a shard is not held")),
+    }
 }
 
 #[test]
-fn each_part_of_a_file_is_reached(rt: HostRuntime) -> Result<(), Fail> {
-    let alloc = rt.alloc();
-    let names = reach_of(&rt, alloc, ONE, 0, PARTS_SHARD)?;
-    let lines = lines_of(alloc, &names)?;
-    assert_eq!(rt; lines.as_slice(), PARTS_REACH.as_bytes());
-    Ok(())
-}
-
-#[test]
-fn files_of_unlisted_snapshots_are_reached(rt: HostRuntime) -> Result<(), Fail> {
-    let alloc = rt.alloc();
-    let names = reach_of(&rt, alloc, ONE, 0, MORE_SHARD)?;
-    let lines = lines_of(alloc, &names)?;
-    assert_eq!(rt; lines.as_slice(), MORE_REACH.as_bytes());
-    Ok(())
-}
-
-#[test]
-fn a_shard_without_a_generation_reaches_nothing(rt: HostRuntime) -> Result<(), Fail> {
-    let alloc = rt.alloc();
-    let names = reach_of(&rt, alloc, PARTIAL, 1, ONE_SHARD)?;
-    let lines = lines_of(alloc, &names)?;
-    assert_eq!(rt; lines.as_slice(), PARTIAL_REACHES.as_bytes());
+fn a_root_reaches(rt: HostRuntime) -> Result<(), Fail> {
+    for (what, root, number, shard, expected) in &REACHES {
+        let lines = reached(rt.alloc(), root, *number, shard)?;
+        assert!(rt; lines.as_slice() == expected.as_bytes(), "{what}");
+    }
     Ok(())
 }
 
 #[test]
 fn a_shard_that_is_not_held_is_told(rt: HostRuntime) -> Result<(), Fail> {
-    let alloc = rt.alloc();
-    let root = root_read(alloc, PARTIAL.as_bytes())?;
-    assert!(rt; held_of(alloc, 1, ONE_SHARD)?.has_each(&root));
-    assert!(rt; !held_of(alloc, 0, ONE_SHARD)?.has_each(&root));
+    assert!(rt; reach_of(rt.alloc(), PARTIAL, 0, ONE_SHARD)?.is_none());
     Ok(())
+}
+
+/// What a delete dooms that puts the second root in place of the first.
+fn doomed(alloc: Global, old: Option<Names>, new: Option<Names>) -> Result<Bytes, Fail> {
+    match (old, new) {
+        (Some(old), Some(new)) => Ok(lines_of(alloc, &doomed_by_delete(alloc, &old, &new)?)?),
+        _ => Err(Fail::new("a shard is not held")),
+    }
 }
 
 #[test]
 fn a_delete_dooms_what_only_the_old_root_reaches(rt: HostRuntime) -> Result<(), Fail> {
-    let alloc = rt.alloc();
-    let old = reach_of(&rt, alloc, TWO, 0, MORE_SHARD)?;
-    let new = reach_of(&rt, alloc, ONE, 0, ONE_SHARD)?;
-    let doomed = doomed_by_delete(alloc, &old, &new)?;
-    let lines = lines_of(alloc, &doomed)?;
-    assert_eq!(rt; lines.as_slice(), DOOMED.as_bytes());
+    let old = reach_of(rt.alloc(), TWO, 0, MORE_SHARD)?;
+    let new = reach_of(rt.alloc(), ONE, 0, ONE_SHARD)?;
+    let lines = doomed(rt.alloc(), old, new)?;
+    assert!(rt; lines.as_slice() == DOOMED.as_bytes());
     Ok(())
 }

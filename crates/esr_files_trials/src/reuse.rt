@@ -1,7 +1,7 @@
 //! Files that a base has, and others.
 use esr_hash::Print;
 use esr_names::Id;
-use esr_reuse::{ReadFile, plan};
+use esr_reuse::{Planned, ReadFile, plan};
 use esr_seq::Seq;
 use esr_shardidx::{FileEntry, PhysicalName, ShardIndex, ShardSnap};
 use std::alloc::Global;
@@ -38,34 +38,44 @@ fn base_of(alloc: Global) -> Result<ShardIndex, Fail> {
     }
 }
 
-/// The ids that files of this name and print reuse.
-fn id_for(alloc: Global, text: &str, len: u64, byte: u8) -> Result<Option<u128>, Fail> {
-    let mut files = Seq::new(alloc);
-    files.push(ReadFile {
+/// A file of this name and print.
+fn file_of(alloc: Global, text: &str, len: u64, byte: u8) -> Result<ReadFile, Fail> {
+    Ok(ReadFile {
         physical: name_of(alloc, text)?,
         print: print_of(len, byte),
-    })?;
-    let base = base_of(alloc)?;
-    let plans = plan(alloc, &base, files.as_slice())?;
-    for planned in plans.as_slice() {
-        if let Some(entry) = &planned.reused {
-            return Ok(Some(entry.name.number));
-        }
-    }
-    Ok(None)
+    })
 }
+
+/// The id that the first of these reuses.
+fn first_id(plans: &[Planned]) -> Option<u128> {
+    match plans.first() {
+        Some(planned) => planned.reused.as_ref().map(|entry| entry.name.number),
+        None => None,
+    }
+}
+
+/// The id that such a file reuses.
+fn id_for(alloc: Global, file: ReadFile) -> Result<Option<u128>, Fail> {
+    let base = base_of(alloc)?;
+    let plans = plan(alloc, &base, &[file])?;
+    Ok(first_id(plans.as_slice()))
+}
+
+/// The name, the length and a byte of the digest of a file; and the id of the file that it reuses.
+const FILES: [(&str, u64, u8, Option<u128>); 5] = [
+    ("a", 3, 1, Some(5)),
+    ("b", 3, 2, Some(6)),
+    ("b", 3, 1, None),
+    ("a", 4, 1, None),
+    ("c", 3, 1, None),
+];
 
 #[test]
 fn name_length_and_digest_count(rt: HostRuntime) -> Result<(), Fail> {
-    let alloc = rt.alloc();
-    for (text, len, byte, id) in [
-        ("a", 3, 1, Some(5)),
-        ("b", 3, 2, Some(6)),
-        ("b", 3, 1, None),
-        ("a", 4, 1, None),
-        ("c", 3, 1, None),
-    ] {
-        assert_eq!(rt; id_for(alloc, text, len, byte)?, id);
+    for (text, len, byte, id) in &FILES {
+        let file = file_of(rt.alloc(), text, *len, *byte)?;
+        let found = id_for(rt.alloc(), file)?;
+        assert!(rt; found == *id, "{text} {len} {byte}");
     }
     Ok(())
 }

@@ -17,8 +17,8 @@ use std::test::Fail;
 /// The folder.
 const DIR: &str = "esr_folder_killed";
 
-/// Two snapshots of one shard, which are open at once.
-const SCRIPT: &str = "snapshot s1 logs/1/src\nsnapshot s2 logs/1/src\nwait\n";
+/// Two snapshots of one shard, which are open at once, and a verification.
+const SCRIPT: &str = "snapshot s1 logs/1/src\nsnapshot s2 logs/1/src\nwait\nverify\n";
 
 /// More calls than a run of the script makes.
 const CALLS: u64 = 1000;

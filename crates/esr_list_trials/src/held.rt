@@ -7,7 +7,7 @@ use esr_seq::{Bytes, Seq, Text};
 use std::alloc::{AllocError, Global};
 
 /// What fails.
-#[derive(Clone, Copy, Debug, PartialEq, Eq)]
+#[derive(Clone, Copy, PartialEq, Eq)]
 pub enum Faulty {
     Nothing,
     Record,
@@ -146,7 +146,7 @@ impl Held {
         Ok(listing)
     }
 
-    fn record_copy(&self, alloc: Global) -> Result<Option<Bytes>, AllocError> {
+    pub fn record_copy(&self, alloc: Global) -> Result<Option<Bytes>, AllocError> {
         match &self.record {
             Some(text) => Ok(Some(text.try_clone(alloc)?)),
             None => Ok(None),

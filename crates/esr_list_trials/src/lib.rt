@@ -8,6 +8,8 @@ mod opening;
 #[cfg(test)]
 mod progress;
 #[cfg(test)]
+mod replies;
+#[cfg(test)]
 mod reports;
 #[cfg(test)]
 mod results;

@@ -50,15 +50,221 @@ const CREATES: &str =
 const DELETES: &str =
     r#"{"ops":[{"kind":"delete","op":5,"uuids":["AAAAAAAAAAEAAAAAAAAAAA"]}],"pending":-1,"safe":-1,"term":1}"#;
 
+/// What is shown; what fails; the record, root and info that were left; the record after the opening, or the name of what is
+/// damaged, or another refusal; and what is wrong with it.
+type Case = (
+    &'static str,
+    Faulty,
+    &'static str,
+    &'static str,
+    &'static str,
+    &'static str,
+    Option<Why>,
+);
+
+const OPENED: [Case; 3] = [
+    ("nothing", Faulty::Nothing, "", "", "", FIRST, None),
+    ("an open op", Faulty::Nothing, CREATES, "", "", SECOND, None),
+    (
+        "a pending generation",
+        Faulty::Nothing,
+        AHEAD,
+        ROOT,
+        INFO,
+        THIRD,
+        None,
+    ),
+];
+
+const RECORDS: [Case; 5] = [
+    (
+        "no record",
+        Faulty::Nothing,
+        "",
+        ROOT,
+        INFO,
+        "index-0",
+        Some(Why::NoRecord),
+    ),
+    (
+        "a record without ops",
+        Faulty::Nothing,
+        "{}",
+        "",
+        "",
+        "record",
+        Some(Why::Unreadable {
+            reason: Reason::Missing { key: Key::Ops },
+        }),
+    ),
+    (
+        "a term before the root's",
+        Faulty::Nothing,
+        EARLY,
+        ROOT,
+        INFO,
+        "index-0",
+        Some(Why::ForeignId {
+            id: Id { number: 1 << 64 },
+        }),
+    ),
+    (
+        "an open delete",
+        Faulty::Nothing,
+        DELETES,
+        "",
+        "",
+        "record",
+        Some(Why::OpenDelete { op: 5 }),
+    ),
+    (
+        "the last term",
+        Faulty::Nothing,
+        LAST,
+        "",
+        "",
+        "last term",
+        None,
+    ),
+];
+
+/// What is wrong with an info that is at odds with its root.
+const AT_ODDS: Option<Why> = Some(Why::Disagrees {
+    with: BlobName::Root(0),
+});
+
+const BLOBS: [Case; 7] = [
+    (
+        "no root",
+        Faulty::Nothing,
+        RECORD,
+        "",
+        INFO,
+        "index-0",
+        Some(Why::Absent),
+    ),
+    (
+        "a damaged root",
+        Faulty::Nothing,
+        RECORD,
+        "x",
+        INFO,
+        "index-0",
+        Some(Why::Unreadable {
+            reason: Reason::Json,
+        }),
+    ),
+    (
+        "no info",
+        Faulty::Nothing,
+        RECORD,
+        ROOT,
+        "",
+        SNAP,
+        Some(Why::Absent),
+    ),
+    (
+        "an info without bytes",
+        Faulty::Nothing,
+        RECORD,
+        ROOT,
+        "{}",
+        SNAP,
+        Some(Why::Unreadable {
+            reason: Reason::Missing { key: Key::Bytes },
+        }),
+    ),
+    (
+        "another state",
+        Faulty::Nothing,
+        RECORD,
+        ROOT,
+        PARTIAL,
+        SNAP,
+        AT_ODDS,
+    ),
+    (
+        "a shard more",
+        Faulty::Nothing,
+        RECORD,
+        ROOT,
+        WIDE,
+        SNAP,
+        AT_ODDS,
+    ),
+    (
+        "an index less",
+        Faulty::Nothing,
+        RECORD,
+        ROOT,
+        BARE,
+        SNAP,
+        AT_ODDS,
+    ),
+];
+
+const FAILURES: [Case; 5] = [
+    (
+        "of the record",
+        Faulty::Record,
+        RECORD,
+        ROOT,
+        INFO,
+        "failed call",
+        None,
+    ),
+    (
+        "of a list",
+        Faulty::List,
+        "",
+        ROOT,
+        INFO,
+        "failed call",
+        None,
+    ),
+    (
+        "of a fetch",
+        Faulty::Fetch,
+        RECORD,
+        ROOT,
+        INFO,
+        "failed call",
+        None,
+    ),
+    (
+        "of a read",
+        Faulty::Read,
+        RECORD,
+        ROOT,
+        INFO,
+        "failed read",
+        None,
+    ),
+    (
+        "of a swap",
+        Faulty::Swap,
+        RECORD,
+        ROOT,
+        INFO,
+        "failed call",
+        None,
+    ),
+];
+
+fn blob_of(alloc: Global, name: &str, text: &str) -> Result<HeldBlob, AllocError> {
+    Ok(HeldBlob {
+        name: Text::from_str(alloc, name)?,
+        bytes: Bytes::from_slice(alloc, text.as_bytes())?,
+    })
+}
+
 fn push(
     alloc: Global,
     blobs: &mut Seq<HeldBlob>,
     name: &str,
     text: &str,
 ) -> Result<(), AllocError> {
-    let name = Text::from_str(alloc, name)?;
-    let bytes = Bytes::from_slice(alloc, text.as_bytes())?;
-    blobs.push(HeldBlob { name, bytes })?;
+    blobs.push(blob_of(alloc, name, text)?)?;
     Ok(())
 }
 
@@ -88,171 +294,119 @@ fn held(
     })
 }
 
-/// The name of what is damaged, and why; or another refusal.
-fn refused(
-    alloc: Global,
-    refusal: OpenRefusal<HeldFetch>,
-) -> Result<(Bytes, Option<Why>), AllocError> {
+/// What is told of an opened container: its record, how many infos it has, the text of the last, how many snapshots its root
+/// lists, its term and the next id.
+#[derive(Drop)]
+struct Opened {
+    record: Bytes,
+    infos: usize,
+    info: Bytes,
+    snaps: usize,
+    term: u64,
+    next: Id,
+}
+
+/// The name of what is damaged, or another refusal.
+fn refused(alloc: Global, refusal: &OpenRefusal<HeldFetch>) -> Result<Bytes, AllocError> {
+    let text = match refusal {
+        OpenRefusal::Damaged { name, why: _ } => name.as_str(),
+        OpenRefusal::TermsSpent { term: _ } => "last term",
+        OpenRefusal::DepotFault { fetch: Some(_) } => "failed read",
+        OpenRefusal::DepotFault { fetch: None } => "failed call",
+        OpenRefusal::Memory => "memory",
+    };
+    Bytes::from_slice(alloc, text.as_bytes())
+}
+
+/// What is wrong with what is damaged.
+fn wrong(refusal: &OpenRefusal<HeldFetch>) -> Option<Why> {
     match refusal {
-        OpenRefusal::Damaged { name, why } => Ok((
-            Bytes::from_slice(alloc, name.as_str().as_bytes())?,
-            Some(why),
-        )),
-        OpenRefusal::TermsSpent { term: _ } => {
-            Ok((Bytes::from_slice(alloc, b"last term")?, None))
-        }
-        OpenRefusal::DepotFault { fetch } => {
-            if fetch.is_some() {
-                Ok((Bytes::from_slice(alloc, b"failed read")?, None))
-            } else {
-                Ok((Bytes::from_slice(alloc, b"failed call")?, None))
-            }
-        }
-        OpenRefusal::Memory => Ok((Bytes::from_slice(alloc, b"memory")?, None)),
+        OpenRefusal::Damaged { name: _, why } => Some(*why),
+        _ => None,
     }
 }
 
-/// The record after the opening, or the refusal.
-fn outcome(alloc: Global, held: Held) -> Result<(Bytes, Option<Why>), AllocError> {
-    match open_container(alloc, held) {
-        Ok(opening) => {
-            let Opening { depot, .. } = opening;
-            let Held { record, .. } = depot;
-            match record {
-                Some(text) => Ok((text, None)),
-                None => Ok((Bytes::new(alloc), None)),
-            }
-        }
-        Err((_held, refusal)) => refused(alloc, refusal),
+/// The text of the last info.
+fn last_text(alloc: Global, infos: Seq<SnapInfo>) -> Result<Bytes, AllocError> {
+    let mut infos = infos;
+    match infos.pop() {
+        Some(info) => write_info(alloc, &info),
+        None => Ok(Bytes::new(alloc)),
     }
 }
 
-/// The texts of infos, one after another.
-fn texts_of(alloc: Global, infos: &[SnapInfo]) -> Result<Bytes, AllocError> {
-    let mut texts = Bytes::new(alloc);
-    for info in infos {
-        texts.extend_from_slice(write_info(alloc, info)?.as_slice())?;
-    }
-    Ok(texts)
-}
-
-/// The texts of the infos of the container, once it is opened.
-fn info_texts(alloc: Global, held: Held) -> Result<Bytes, AllocError> {
-    match open_container(alloc, held) {
-        Ok(opening) => texts_of(alloc, opening.infos.as_slice()),
-        Err(_) => Ok(Bytes::new(alloc)),
-    }
-}
-
-/// What was left: the record, root and info, what opening them answers, and why.
-type Case = (
-    &'static str,
-    &'static str,
-    &'static str,
-    &'static str,
-    Option<Why>,
-);
-
-fn assert_answer(rt: &impl Abort, alloc: Global, case: &Case) -> Result<(), Fail> {
-    let (record, root, info, text, why) = *case;
-    let left = held(alloc, record, root, info, Faulty::Nothing)?;
-    let (bytes, found) = outcome(alloc, left)?;
-    assert_eq!(rt; bytes.as_slice(), text.as_bytes(), "{text}");
-    assert_eq!(rt; found, why, "{text}");
-    Ok(())
-}
-
-fn missing(key: Key) -> Option<Why> {
-    Some(Why::Unreadable {
-        reason: Reason::Missing { key },
+fn opened_of(alloc: Global, opening: Opening<Held>) -> Result<Opened, AllocError> {
+    let Opening {
+        depot,
+        cluster,
+        root,
+        infos,
+        next,
+        ..
+    } = opening;
+    Ok(Opened {
+        record: depot.record_copy(alloc)?.unwrap_or(Bytes::new(alloc)),
+        infos: infos.len(),
+        info: last_text(alloc, infos)?,
+        snaps: root.snapshots.as_slice().len(),
+        term: cluster.term,
+        next,
     })
+}
+
+/// What an opening leaves, or its refusal and what is wrong.
+fn outcome(alloc: Global, held: Held) -> Result<Result<Opened, (Bytes, Option<Why>)>, AllocError> {
+    match open_container(alloc, held) {
+        Ok(opening) => Ok(Ok(opened_of(alloc, opening)?)),
+        Err((_held, refusal)) => Ok(Err((refused(alloc, &refusal)?, wrong(&refusal)))),
+    }
+}
+
+fn is_answered(alloc: Global, case: &Case) -> Result<bool, AllocError> {
+    let (_, faulty, record, root, info, expected, expected_why) = *case;
+    let left = held(alloc, record, root, info, faulty)?;
+    let (text, why) = match outcome(alloc, left)? {
+        Ok(opened) => (opened.record, None),
+        Err(refused) => refused,
+    };
+    Ok(text.as_slice() == expected.as_bytes() && why == expected_why)
+}
+
+fn assert_each(rt: &impl Abort, alloc: Global, cases: &[Case]) -> Result<(), Fail> {
+    for case in cases {
+        assert!(rt; is_answered(alloc, case)?, "{}", case.0);
+    }
+    Ok(())
 }
 
 #[test]
 fn what_was_left_is_opened(rt: HostRuntime) -> Result<(), Fail> {
-    let cases = [
-        ("", "", "", FIRST, None),
-        (CREATES, "", "", SECOND, None),
-        (AHEAD, ROOT, INFO, THIRD, None),
-    ];
-    for case in &cases {
-        assert_answer(&rt, rt.alloc(), case)?;
-    }
-    Ok(())
+    assert_each(&rt, rt.alloc(), &OPENED)
 }
 
 #[test]
 fn a_record_that_cannot_be_continued_is_refused(rt: HostRuntime) -> Result<(), Fail> {
-    let foreign = Why::ForeignId { id: Id::new(1, 0) };
-    let cases = [
-        ("", ROOT, INFO, "index-0", Some(Why::NoRecord)),
-        ("{}", "", "", "record", missing(Key::Ops)),
-        (EARLY, ROOT, INFO, "index-0", Some(foreign)),
-        (DELETES, "", "", "record", Some(Why::OpenDelete { op: 5 })),
-        (LAST, "", "", "last term", None),
-    ];
-    for case in &cases {
-        assert_answer(&rt, rt.alloc(), case)?;
-    }
-    Ok(())
+    assert_each(&rt, rt.alloc(), &RECORDS)
 }
 
 #[test]
 fn a_damaged_root_or_info_is_refused(rt: HostRuntime) -> Result<(), Fail> {
-    let no_json = Why::Unreadable {
-        reason: Reason::Json,
-    };
-    let cases = [
-        (RECORD, "", INFO, "index-0", Some(Why::Absent)),
-        (RECORD, "x", INFO, "index-0", Some(no_json)),
-        (RECORD, ROOT, "", SNAP, Some(Why::Absent)),
-        (RECORD, ROOT, "{}", SNAP, missing(Key::Bytes)),
-    ];
-    for case in &cases {
-        assert_answer(&rt, rt.alloc(), case)?;
-    }
-    Ok(())
-}
-
-#[test]
-fn an_info_at_odds_with_its_root_is_refused(rt: HostRuntime) -> Result<(), Fail> {
-    let alloc = rt.alloc();
-    for info in [PARTIAL, WIDE, BARE] {
-        let disagrees = Why::Disagrees {
-            with: BlobName::Root(0),
-        };
-        assert_answer(&rt, alloc, &(RECORD, ROOT, info, SNAP, Some(disagrees)))?;
-    }
-    Ok(())
-}
-
-#[test]
-fn an_opened_container_has_its_root_its_infos_and_the_next_id(rt: HostRuntime) -> Result<(), Fail> {
-    let alloc = rt.alloc();
-    let left = held(alloc, RECORD, ROOT, INFO, Faulty::Nothing)?;
-    let opened = open_container(alloc, left).ok();
-    assert_eq!(rt; opened.as_ref().map(|o| o.next), Some(Id::new(2, 0)));
-    assert_eq!(rt; opened.as_ref().map(|o| o.cluster.term), Some(2));
-    assert_eq!(rt; opened.map(|o| o.root.snapshots.as_slice().len()), Some(1));
-    let texts = info_texts(alloc, held(alloc, RECORD, ROOT, INFO, Faulty::Nothing)?)?;
-    assert_eq!(rt; texts.as_slice(), INFO.as_bytes());
-    Ok(())
+    assert_each(&rt, rt.alloc(), &BLOBS)
 }
 
 #[test]
 fn a_failure_is_told(rt: HostRuntime) -> Result<(), Fail> {
-    let alloc = rt.alloc();
-    let cases = [
-        (Faulty::Record, RECORD, "failed call"),
-        (Faulty::List, "", "failed call"),
-        (Faulty::Fetch, RECORD, "failed call"),
-        (Faulty::Read, RECORD, "failed read"),
-        (Faulty::Swap, RECORD, "failed call"),
-    ];
-    for (faulty, record, text) in cases {
-        let (bytes, why) = outcome(alloc, held(alloc, record, ROOT, INFO, faulty)?)?;
-        assert_eq!(rt; bytes.as_slice(), text.as_bytes(), "{faulty:?}");
-        assert_eq!(rt; why, None, "{faulty:?}");
-    }
+    assert_each(&rt, rt.alloc(), &FAILURES)
+}
+
+#[test]
+fn an_opened_container_has_its_root_its_infos_and_the_next_id(rt: HostRuntime) -> Result<(), Fail> {
+    let left = held(rt.alloc(), RECORD, ROOT, INFO, Faulty::Nothing)?;
+    let Ok(opened) = outcome(rt.alloc(), left)? else {
+        return Err(Fail::new("refused"));
+    };
+    assert!(rt; opened.info.as_slice() == INFO.as_bytes());
+    assert!(rt; (opened.infos, opened.snaps, opened.term) == (1, 1, 2));
+    assert!(rt; opened.next == Id::new(2, 0));
     Ok(())
 }

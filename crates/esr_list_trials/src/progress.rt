@@ -1,5 +1,6 @@
 //! Commands, one after another, on a list that was empty.
-ghost use Rattle.std.specs.Prelude.{◌<◌, ◌^◌, IfOk};
+ghost use Rattle.std.specs.Prelude.{◌≡◌, IfOk};
+ghost use Rattle.esr_root.specs.Root.{empty_root};
 ghost use Rattle.esr_progress.specs.Asked.{asked_of, IsAskable};
 
 use esr_names::{Id, IndexName, SnapName};
@@ -26,23 +27,24 @@ fn logs_command(alloc: Global, name: &str) -> Result<Command, Fail>
     })
 }
 
-/// What so many commands on an empty list are answered in term 1, up to the first that is refused: the last that was
-/// accepted, and the refusal.
+/// What so many commands on an empty list are answered in term 1 over an empty root, whose ids are drawn from this counter on, up to the first
+/// that is refused: the last that was accepted, and the refusal.
 fn answers(
     alloc: Global,
-    first: Id,
+    root: &RootData,
+    counter: u64,
     count: u32,
 ) -> Result<(Option<Accepted>, Option<Refusal>), Fail>
-    requires { first.number < 2 ^ 65 }
+    requires { root.now ≡ empty_root }
 {
-    let root = RootData::new(alloc);
+    let first = Id::new(1, counter);
     let mut list = Progress::new(alloc);
     let mut next = first;
     let mut last = None;
     for number in 0..count {
         let name = format!(in alloc; "s{number}")?;
         let command = logs_command(alloc, name.as_str())?;
-        match list.accept(alloc, &root, 1, next, &command) {
+        match list.accept(alloc, root, 1, next, &command) {
             Ok((new, accepted)) => {
                 list = new;
                 next = Id {
@@ -56,36 +58,46 @@ fn answers(
     Ok((last, None))
 }
 
-#[test]
-fn a_command_draws_its_uuid_and_an_id_for_each_new_index(rt: HostRuntime) -> Result<(), Fail> {
-    let first = Id::new(1, 0);
-    let new = Accepted { op: 1, drawn: 2 };
-    assert_eq!(rt; answers(rt.alloc(), first, 1)?, (Some(new), None));
-    let known = Accepted { op: 2, drawn: 1 };
-    assert_eq!(rt; answers(rt.alloc(), first, 2)?, (Some(known), None));
-    let last = Id::new(1, u64::MAX);
-    let refusal = Refusal::IdsSpent { next: last };
-    assert_eq!(rt; answers(rt.alloc(), last, 1)?, (None, Some(refusal)));
-    Ok(())
-}
+/// The counter of the first id; how many commands there are; the last that is accepted; and the refusal.
+const ANSWERS: [(u64, u32, Option<Accepted>, Option<Refusal>); 4] = [
+    // a command draws its uuid, and an id for each new index
+    (0, 1, Some(Accepted { op: 1, drawn: 2 }), None),
+    (0, 2, Some(Accepted { op: 2, drawn: 1 }), None),
+    // no id is left
+    (
+        u64::MAX,
+        1,
+        None,
+        Some(Refusal::IdsSpent {
+            next: Id {
+                number: (1 << 65) - 1,
+            },
+        }),
+    ),
+    // a thousand ops are open
+    (
+        0,
+        1001,
+        Some(Accepted { op: 1000, drawn: 1 }),
+        Some(Refusal::TooMany { limit: 1000 }),
+    ),
+];
 
 #[test]
-fn a_command_beside_a_thousand_open_ops_is_refused(rt: HostRuntime) -> Result<(), Fail> {
-    let first = Id::new(1, 0);
-    let accepted = Accepted { op: 1000, drawn: 1 };
-    let refusal = Refusal::TooMany { limit: 1000 };
-    assert_eq!(rt;
-        answers(rt.alloc(), first, 1001)?,
-        (Some(accepted), Some(refusal))
-    );
+fn commands_are_accepted_and_refused(rt: HostRuntime) -> Result<(), Fail> {
+    let root = RootData::new(rt.alloc());
+    for (counter, count, accepted, refusal) in &ANSWERS {
+        let found = answers(rt.alloc(), &root, *counter, *count)?;
+        assert!(rt; found == (*accepted, *refusal), "{count} from {counter}");
+    }
     Ok(())
 }
 
 #[test]
 fn a_name_that_is_not_listed_is_not_restored(rt: HostRuntime) -> Result<(), Fail> {
+    let name = SnapName::new(rt.alloc(), "s1")?;
     let root = RootData::new(rt.alloc());
     let list = Progress::new(rt.alloc());
-    let name = SnapName::new(rt.alloc(), "s1")?;
-    assert_eq!(rt; list.restorable(&root, &name), Err(Refusal::NoSnapshot));
+    assert!(rt; list.restorable(&root, &name) == Err(Refusal::NoSnapshot));
     Ok(())
 }

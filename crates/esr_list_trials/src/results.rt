@@ -1,5 +1,6 @@
 //! Two roots, written by hand from the rule.
 ghost use Rattle.std.specs.Prelude.{◌≡◌, ◌∷◌, [], ◌+◌, ◌^◌, codes, Some, IfOk};
+ghost use Rattle.esr_root.specs.Root.{empty_root};
 ghost use Rattle.esr_formats.specs.Roots.{root_of};
 
 use esr_meta::SnapInfo;
@@ -76,7 +77,21 @@ fn logs_results(alloc: Global, generation: Id) -> Result<ShardResults, AllocErro
     Ok(results)
 }
 
-/// The root of the first snapshot.
+/// The root of the first snapshot, over an empty one.
+fn first_root_over(alloc: Global, root: &RootData) -> Result<RootData, Fail>
+    requires { root.now ≡ empty_root }
+    ensures { IfOk result (λ r. root_of r ≡ record {
+      snapshots = record { name = codes "s1"; uuid = 2 ^ 64; state = 1 } ∷ [];
+      indices = record { name = codes "logs"; id = 2 ^ 64 + 1; snapshots = 2 ^ 64 ∷ []; generations = Some (2 ^ 64 + 3) ∷ [] } ∷ [];
+    }) }
+{
+    let uuid = Id::new(1, 0);
+    let generation = Id::new(1, 3);
+    let info = logs_info(alloc, "s1", uuid)?;
+    let results = logs_results(alloc, generation)?;
+    Ok(finalized(alloc, root, &info, &results)?)
+}
+
 fn first_root(alloc: Global) -> Result<RootData, Fail>
     ensures { IfOk result (λ r. root_of r ≡ record {
       snapshots = record { name = codes "s1"; uuid = 2 ^ 64; state = 1 } ∷ [];
@@ -84,11 +99,7 @@ fn first_root(alloc: Global) -> Result<RootData, Fail>
     }) }
 {
     let root = RootData::new(alloc);
-    let uuid = Id::new(1, 0);
-    let generation = Id::new(1, 3);
-    let info = logs_info(alloc, "s1", uuid)?;
-    let results = logs_results(alloc, generation)?;
-    Ok(finalized(alloc, &root, &info, &results)?)
+    first_root_over(alloc, &root)
 }
 
 /// The root of a second snapshot, whose shard was done at a smaller generation.
@@ -105,13 +116,17 @@ fn second_root(alloc: Global, root: &RootData) -> Result<RootData, Fail>
     Ok(finalized(alloc, root, &info, &results)?)
 }
 
+fn is_text_of(alloc: Global, root: &RootData, text: &str) -> Result<bool, Fail> {
+    Ok(root_text(alloc, root)?.as_slice() == text.as_bytes())
+}
+
 #[test]
 fn a_second_snapshot_keeps_the_larger_generation(rt: HostRuntime) -> Result<(), Fail> {
-    let alloc = rt.alloc();
-    let first = first_root(alloc)?;
-    assert_eq!(rt; FIRST.len(), 208);
-    assert_eq!(rt; root_text(alloc, &first)?.as_slice(), FIRST.as_bytes());
-    let second = second_root(alloc, &first)?;
-    assert_eq!(rt; root_text(alloc, &second)?.as_slice(), SECOND.as_bytes());
+    let first = first_root(rt.alloc())?;
+    let is_first = is_text_of(rt.alloc(), &first, FIRST)?;
+    assert!(rt; is_first && FIRST.len() == 208, "the first root");
+    let second = second_root(rt.alloc(), &first)?;
+    let is_second = is_text_of(rt.alloc(), &second, SECOND)?;
+    assert!(rt; is_second, "the second root");
     Ok(())
 }

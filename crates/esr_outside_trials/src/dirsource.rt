@@ -2,8 +2,9 @@
 ghost use Rattle.std.specs.Prelude.{◌≡◌, None};
 
 use crate::shaky::Shaky;
-use crate::shards::{check_listing, check_reads};
-use esr_depot::{CallError, Counted, Failed};
+use crate::shards::{Look, check_shard};
+use crate::targets::{create, fill};
+use crate::told::{check_row, say_faults};
 use esr_dirsource::{DirSources, DirTargets};
 use esr_source::{Shard, Sources, Target, Targets};
 use std::alloc::Global;
@@ -12,10 +13,18 @@ use std::os::unix::fs::symlink;
 use std::process::Abort;
 use std::test::Fail;
 
-/// Makes an empty folder.
-fn make(rt: &HostRuntime, folder: &str) -> Result<(), Fail> {
-    let _ = fs::remove_dir_all(rt, folder);
-    Ok(fs::create_dir_all(rt, folder)?)
+/// A folder, a file in it, and the bytes of that.
+type Placed = (&'static str, &'static str, &'static str);
+
+/// Makes a folder anew, and these files.
+fn make(rt: &HostRuntime, place: &str, files: &[Placed]) -> Result<(), Fail> {
+    let _ = fs::remove_dir_all(rt, place);
+    fs::create_dir_all(rt, place)?;
+    for (folder, path, text) in files {
+        fs::create_dir_all(rt, *folder)?;
+        fs::write(rt, *path, *text)?;
+    }
+    Ok(())
 }
 
 /// Removes a folder with all that it holds.
@@ -23,284 +32,226 @@ fn remove(rt: &HostRuntime, place: &str) -> Result<(), Fail> {
     Ok(fs::remove_dir_all(rt, place)?)
 }
 
-/// Writes a file.
-fn put(rt: &HostRuntime, path: &str, text: &str) -> Result<(), Fail> {
-    Ok(fs::write(rt, path, text)?)
-}
-
-/// Makes a symbolic link.
-fn link(rt: &HostRuntime, path: &str, to: &str) -> Result<(), Fail> {
-    Ok(symlink(rt, to, path)?)
-}
-
-/// Files of a folder, with their bytes.
-static THREE: [(&str, &str); 3] = [
-    ("esr_dirsource_read/7/b", ""),
-    ("esr_dirsource_read/7/_1.si", "abc"),
-    ("esr_dirsource_read/7/B", "xy"),
+/// The files of shard 7.
+static THREE: [Placed; 3] = [
+    ("esr_dirsource_read/7", "esr_dirsource_read/7/b", ""),
+    ("esr_dirsource_read/7", "esr_dirsource_read/7/_1.si", "abc"),
+    ("esr_dirsource_read/7", "esr_dirsource_read/7/B", "xy"),
 ];
 
-/// The folder with three files.
-fn put_three(rt: &HostRuntime) -> Result<(), Fail> {
-    make(rt, "esr_dirsource_read/7")?;
-    for (path, text) in &THREE {
-        put(rt, path, text)?;
-    }
-    Ok(())
-}
-
-/// Files by their places in the list, and what three reads of each give.
-static READS: [(usize, [&str; 3]); 4] = [
-    (1, ["ab", "c", ""]),
-    (0, ["xy", "", ""]),
-    (1, ["ab", "c", ""]),
-    (2, ["", "", ""]),
+/// What the shard answers.
+static READS: [Look<'static>; 5] = [
+    (None, "B:2 _1.si:3 b:0 faults 0"),
+    (Some(1), "B:2 _1.si:3 b:0 ok [ab] [c] [] [] faults 0"),
+    (Some(0), "B:2 _1.si:3 b:0 ok [xy] [] [] [] faults 0"),
+    (Some(1), "B:2 _1.si:3 b:0 ok [ab] [c] [] [] faults 0"),
+    (Some(2), "B:2 _1.si:3 b:0 ok [] [] [] [] faults 0"),
 ];
 
-/// That a shard lists and reads the three files.
-fn check_three<S: Shard>(rt: &impl Abort, alloc: Global, shard: &mut S) -> Result<(), Fail> {
-    check_listing(rt, alloc, shard, &[("B", 2), ("_1.si", 3), ("b", 0)])?;
-    for (file, texts) in &READS {
-        check_reads(rt, alloc, shard, *file, texts)?;
-    }
-    Ok(())
-}
-
-/// That a shard lists a fourth file, and has counted no failure.
-fn check_four<S: Shard>(rt: &impl Abort, alloc: Global, shard: &mut S) -> Result<(), Fail> {
-    let files = [("B", 2), ("_1.si", 3), ("a", 5), ("b", 0)];
-    check_listing(rt, alloc, shard, &files)?;
-    assert_eq!(rt; shard.fault_count(), 0);
-    Ok(())
-}
-
-/// That a shard lists and reads the three files, and then a fourth one.
+/// That a shard answers so, and then lists a fourth file.
 fn check_both<S: Shard + Drop>(
     rt: &impl Abort,
     files: &HostRuntime,
     mut shard: S,
 ) -> Result<(), Fail> {
-    check_three(rt, files.alloc(), &mut shard)?;
-    put(files, "esr_dirsource_read/7/a", "later")?;
-    check_four(rt, files.alloc(), &mut shard)
+    check_shard(rt, files.alloc(), ("three", "files"), &mut shard, &READS)?;
+    fs::write(files, "esr_dirsource_read/7/a", "later")?;
+    let four = [(None, "B:2 _1.si:3 a:5 b:0 faults 0")];
+    check_shard(rt, files.alloc(), ("four", "files"), &mut shard, &four)
 }
 
 #[test]
 fn a_folder_is_listed_and_read(rt: HostRuntime) -> Result<(), Fail> {
-    put_three(&rt)?;
-    let sources = DirSources::new(&rt);
-    let shard = sources.shard(rt.alloc(), "esr_dirsource_read", "logs", 7)?;
+    make(&rt, "esr_dirsource_read", &THREE)?;
+    let shard = DirSources::new(&rt).shard(rt.alloc(), "esr_dirsource_read", "logs", 7)?;
     check_both(&rt, &rt, shard)?;
     remove(&rt, "esr_dirsource_read")
 }
 
-/// Folders, with a file in each: shard 1 with a sub-folder, 2 to 4 with a file.
-static ODD: [(&str, &str); 4] = [
-    ("esr_dirsource_odd/1/sub", "esr_dirsource_odd/1/sub/x"),
-    ("esr_dirsource_odd/2", "esr_dirsource_odd/2/x"),
-    ("esr_dirsource_odd/3", "esr_dirsource_odd/3/a b"),
-    ("esr_dirsource_odd/4", "esr_dirsource_odd/4/x"),
+/// Shard 1 with a sub-folder, 2 with a file beside which a symbolic link to it comes, 3 with a bad name, and 4 with a
+/// good one.
+static ODD: [Placed; 4] = [
+    (
+        "esr_dirsource_odd/1/sub",
+        "esr_dirsource_odd/1/sub/x",
+        "abc",
+    ),
+    ("esr_dirsource_odd/2", "esr_dirsource_odd/2/x", "abc"),
+    ("esr_dirsource_odd/3", "esr_dirsource_odd/3/a b", "abc"),
+    ("esr_dirsource_odd/4", "esr_dirsource_odd/4/x", "abc"),
 ];
 
-/// Shard 1 with a sub-folder, 2 with a symbolic link to a file, 3 with a bad name, and 4 with a good one.
-fn odd_shards(rt: &HostRuntime) -> Result<(), Fail> {
-    for (folder, path) in &ODD {
-        make(rt, folder)?;
-        put(rt, path, "abc")?;
-    }
-    link(rt, "esr_dirsource_odd/2/y", "x")
-}
+/// What the row shows, a number of a shard, and what it answers.
+type Listed<'a> = (&'a str, u32, Look<'a>);
 
-/// That the shard can be listed, or that this fails and is counted.
-fn check_shard<S: Shard + Drop>(rt: &impl Abort, alloc: Global, mut shard: S, is_good: bool) {
-    assert_eq!(rt; shard.fault_count(), 0);
-    let has_failed = matches!(shard.list(alloc), Err(CallError::Failed));
-    assert_eq!(rt; has_failed, !is_good);
-    assert_eq!(rt; shard.fault_count(), u64::from(!is_good));
+/// These shards, and shard 0, which has no folder.
+static LISTED: [Listed<'static>; 5] = [
+    ("no folder", 0, (None, "failed faults 1")),
+    ("a sub-folder", 1, (None, "failed faults 1")),
+    ("a symbolic link", 2, (None, "failed faults 1")),
+    ("a bad name", 3, (None, "failed faults 1")),
+    ("a good name", 4, (None, "x:3 faults 0")),
+];
+
+/// That the shards of a place answer so.
+fn check_shards<S: Sources>(
+    rt: &impl Abort,
+    alloc: Global,
+    sources: &S,
+    place: &str,
+    rows: &[Listed<'_>],
+) -> Result<(), Fail> {
+    for (label, number, look) in rows {
+        let mut shard = sources.shard(alloc, place, "logs", *number)?;
+        check_shard(rt, alloc, (place, label), &mut shard, &[*look])?;
+    }
+    Ok(())
 }
 
 #[test]
 fn a_folder_that_may_not_be_listed_fails(rt: HostRuntime) -> Result<(), Fail> {
-    odd_shards(&rt)?;
-    let sources = DirSources::new(&rt);
-    for number in 0..5 {
-        let shard = sources.shard(rt.alloc(), "esr_dirsource_odd", "logs", number)?;
-        check_shard(&rt, rt.alloc(), shard, number == 4);
-    }
+    make(&rt, "esr_dirsource_odd", &ODD)?;
+    symlink(&rt, "x", "esr_dirsource_odd/2/y")?;
+    check_shards(
+        &rt,
+        rt.alloc(),
+        &DirSources::new(&rt),
+        "esr_dirsource_odd",
+        &LISTED,
+    )?;
     remove(&rt, "esr_dirsource_odd")
 }
 
-/// Writes a file of `abc` in two pieces, and ends it.
-fn fill<T: Target>(alloc: Global, target: &mut T, name: &str) -> Result<(), Fail>
-    requires none_begun { T.begun target.old ≡ None }
-    requires untold { T.files target.old ≡ None }
-{
-    target.create(alloc, name, 3)?;
-    target.write(b"ab")?;
-    target.write(b"c")?;
-    target.end()?;
-    Ok(())
-}
+/// How a file is written: what is written in place of `ab` where that fails, and whether `c` comes then.
+type Pieces<'a> = (&'a [u8; 2], bool);
 
-/// That this goes without a failure.
-fn check_filled<T: Target + Drop>(
+const WHOLE: Option<Pieces<'static>> = Some((b"ab", true));
+
+/// An index and a file; how the file is written, or that it is only created; and what the target answers.
+type Made<'a> = (&'a str, &'a str, Option<Pieces<'a>>, &'a str);
+
+/// That a new target answers so.
+fn check_target<T: Target + Drop>(
     rt: &impl Abort,
     alloc: Global,
     mut target: T,
-    name: &str,
+    row: &Made<'_>,
 ) -> Result<(), Fail>
     requires none_begun { T.begun target ≡ None }
     requires untold { T.files target ≡ None }
 {
-    fill(alloc, &mut target, name)?;
-    assert_eq!(rt; target.fault_count(), 0);
-    Ok(())
-}
-
-/// That a target refuses a file, which it counts.
-fn check_refused<T: Target + Drop>(
-    rt: &impl Abort,
-    alloc: Global,
-    mut target: T,
-    name: &str,
-    length: u64,
-)
-    requires none_begun { T.begun target ≡ None }
-    requires untold { T.files target ≡ None }
-{
-    let answer = target.create(alloc, name, length);
-    assert!(rt; matches!(answer, Err(CallError::Failed)), "{name}");
-    assert_eq!(rt; target.fault_count(), 1, "{name}");
-}
-
-/// Writes the files `b` and `a`, and then `b` again, which fails.
-fn write_twice(
-    rt: &impl Abort,
-    alloc: Global,
-    targets: &DirTargets<'_, HostRuntime>,
-) -> Result<(), Fail> {
-    for name in &["b", "a"] {
-        let target = targets.target(alloc, "esr_dirsource_write", "logs", 7)?;
-        check_filled(rt, alloc, target, name)?;
+    let (index, name, pieces, wanted) = *row;
+    let mut line = String::with_capacity(alloc, 300)?;
+    match pieces {
+        Some(pieces) => fill(alloc, &mut target, name, pieces, &mut line),
+        None => {
+            create(alloc, &mut target, name, &mut line);
+            say_faults(&mut line, target.fault_count());
+        }
     }
-    let target = targets.target(alloc, "esr_dirsource_write", "logs", 7)?;
-    check_refused(rt, alloc, target, "b", 9);
+    check_row(rt, ("target", index, name), line.as_str(), wanted);
     Ok(())
 }
 
-/// That a shard lists two files, and reads the second.
-fn check_two<S: Shard + Drop>(rt: &impl Abort, alloc: Global, mut shard: S) -> Result<(), Fail> {
-    check_listing(rt, alloc, &mut shard, &[("a", 3), ("b", 3)])?;
-    check_reads(rt, alloc, &mut shard, 1, &["ab", "c", ""])
+/// That new targets in a place answer so.
+fn check_targets(
+    rt: &impl Abort,
+    files: &HostRuntime,
+    place: &str,
+    rows: &[Made<'_>],
+) -> Result<(), Fail> {
+    let targets = DirTargets::new(files);
+    for row in rows {
+        let target = targets.target(files.alloc(), place, row.0, 7)?;
+        check_target(rt, files.alloc(), target, row)?;
+    }
+    Ok(())
 }
+
+/// Two files, of which the first can't be made again.
+static WRITTEN: [Made<'static>; 3] = [
+    ("logs", "b", WHOLE, "ok ok ok ok faults 0"),
+    ("logs", "a", WHOLE, "ok ok ok ok faults 0"),
+    ("logs", "b", None, "failed faults 1"),
+];
+
+/// The two files, as a shard of another place.
+static TWO: [Listed<'static>; 1] = [("two", 7, (Some(1), "a:3 b:3 ok [ab] [c] [] [] faults 0"))];
 
 #[test]
 fn a_file_is_written_and_never_overwritten(rt: HostRuntime) -> Result<(), Fail> {
-    make(&rt, "esr_dirsource_write")?;
-    write_twice(&rt, rt.alloc(), &DirTargets::new(&rt))?;
-    let sources = DirSources::new(&rt);
-    let shard = sources.shard(rt.alloc(), "esr_dirsource_write/logs", "logs", 7)?;
-    check_two(&rt, rt.alloc(), shard)?;
+    make(&rt, "esr_dirsource_write", &[])?;
+    check_targets(&rt, &rt, "esr_dirsource_write", &WRITTEN)?;
+    check_shards(
+        &rt,
+        rt.alloc(),
+        &DirSources::new(&rt),
+        "esr_dirsource_write/logs",
+        &TWO,
+    )?;
     remove(&rt, "esr_dirsource_write")
 }
 
 /// Indices, and files that no target makes in a folder with a link `link`.
-static BAD_NAMES: [(&str, &str); 11] = [
-    ("logs", ""),
-    ("logs", "."),
-    ("logs", ".."),
-    ("logs", "a/b"),
-    ("logs", "a b"),
-    ("", "x"),
-    (".", "x"),
-    ("..", "x"),
-    ("a/b", "x"),
-    ("a\0b", "x"),
-    ("link", "x"),
+static REFUSED: [Made<'static>; 11] = [
+    ("logs", "", None, "failed faults 1"),
+    ("logs", ".", None, "failed faults 1"),
+    ("logs", "..", None, "failed faults 1"),
+    ("logs", "a/b", None, "failed faults 1"),
+    ("logs", "a b", None, "failed faults 1"),
+    ("", "x", None, "failed faults 1"),
+    (".", "x", None, "failed faults 1"),
+    ("..", "x", None, "failed faults 1"),
+    ("a/b", "x", None, "failed faults 1"),
+    ("a\0b", "x", None, "failed faults 1"),
+    ("link", "x", None, "failed faults 1"),
 ];
 
-/// That each bad name is refused in that folder, and one without a folder.
-fn check_bad_names(
-    rt: &impl Abort,
-    alloc: Global,
-    targets: &DirTargets<'_, HostRuntime>,
-) -> Result<(), Fail> {
-    for (index, name) in &BAD_NAMES {
-        let target = targets.target(alloc, "esr_dirsource_names", index, 0)?;
-        check_refused(rt, alloc, target, name, 3);
-    }
-    let nowhere = targets.target(alloc, "", "logs", 0)?;
-    check_refused(rt, alloc, nowhere, "x", 3);
-    Ok(())
-}
+/// The same where there is no folder.
+static NOWHERE: [Made<'static>; 1] = [("logs", "x", None, "failed faults 1")];
 
 #[test]
 fn a_bad_name_is_refused_and_nothing_is_made(rt: HostRuntime) -> Result<(), Fail> {
-    make(&rt, "esr_dirsource_names")?;
-    link(&rt, "esr_dirsource_names/link", ".")?;
-    check_bad_names(&rt, rt.alloc(), &DirTargets::new(&rt))?;
+    make(&rt, "esr_dirsource_names", &[])?;
+    symlink(&rt, ".", "esr_dirsource_names/link")?;
+    check_targets(&rt, &rt, "esr_dirsource_names", &REFUSED)?;
+    check_targets(&rt, &rt, "", &NOWHERE)?;
     fs::remove_file(&rt, "esr_dirsource_names/link")?;
-    fs::remove_dir(&rt, "esr_dirsource_names")?;
-    Ok(())
+    Ok(fs::remove_dir(&rt, "esr_dirsource_names")?)
 }
 
-/// Writes a file whose first write and whose first two ends fail.
-fn write_shaky<T: Target + Drop>(rt: &impl Abort, alloc: Global, mut target: T) -> Result<(), Fail>
-    requires none_begun { T.begun target ≡ None }
-    requires untold { T.files target ≡ None }
-{
-    target.create(alloc, "x", 3)?;
-    assert!(rt; target.write(b"ab").is_err());
-    assert_eq!(rt; target.fault_count(), 1);
-    target.write(b"cd")?;
-    assert!(rt; target.end().is_err());
-    assert!(rt; target.end().is_err());
-    assert_eq!(rt; target.fault_count(), 3);
-    Ok(())
-}
+/// A file whose first write and whose first two ends fail.
+const TORN: Made<'static> = (
+    "logs",
+    "x",
+    Some((b"cd", false)),
+    "ok failed ok failed failed faults 3",
+);
 
 #[test]
 fn a_failed_write_can_be_made_again(rt: HostRuntime) -> Result<(), Fail> {
-    make(&rt, "esr_dirsource_torn")?;
+    make(&rt, "esr_dirsource_torn", &[])?;
     let shaky = Shaky::new(&rt);
-    let targets = DirTargets::new(&shaky);
-    let target = targets.target(rt.alloc(), "esr_dirsource_torn", "logs", 7)?;
-    write_shaky(&rt, rt.alloc(), target)?;
+    let target = DirTargets::new(&shaky).target(rt.alloc(), "esr_dirsource_torn", "logs", 7)?;
+    check_target(&rt, rt.alloc(), target, &TORN)?;
     let text = fs::read_to_string(&rt, "esr_dirsource_torn/logs/7/x")?;
-    assert_eq!(rt; text.as_str(), "cd");
+    check_row(&rt, ("torn", "x", "holds"), text.as_str(), "cd");
     remove(&rt, "esr_dirsource_torn")
 }
 
-/// That a read into the buffer answers this.
-fn check_read<S: Shard>(
-    rt: &impl Abort,
-    shard: &mut S,
-    buf: &mut [u8],
-    answer: Result<usize, Failed>,
-) {
-    assert_eq!(rt; shard.read(buf), answer);
-}
-
-/// Reads the one file, of three bytes. The second read fails.
-fn read_shaky<S: Shard + Drop>(rt: &impl Abort, alloc: Global, mut shard: S) -> Result<(), Fail> {
-    assert_eq!(rt; shard.list(alloc)?.len(), 1);
-    shard.start(alloc, 0)?;
-    let mut buf = [0u8; 2];
-    check_read(rt, &mut shard, &mut buf, Ok(2));
-    check_read(rt, &mut shard, &mut buf, Err(Failed));
-    assert_eq!(rt; shard.fault_count(), 1);
-    check_read(rt, &mut shard, &mut buf, Ok(1));
-    check_read(rt, &mut shard, &mut buf, Ok(0));
-    Ok(())
-}
+/// A file of which the second read fails.
+static BROKEN: [Listed<'static>; 1] = [(
+    "broken",
+    7,
+    (Some(0), "x:3 ok [ab] failed [c] [] faults 1"),
+)];
 
 #[test]
 fn a_failed_read_is_counted(rt: HostRuntime) -> Result<(), Fail> {
-    make(&rt, "esr_dirsource_broken/7")?;
-    put(&rt, "esr_dirsource_broken/7/x", "abc")?;
+    let files = [("esr_dirsource_broken/7", "esr_dirsource_broken/7/x", "abc")];
+    make(&rt, "esr_dirsource_broken", &files)?;
     let shaky = Shaky::new(&rt);
     let sources = DirSources::new(&shaky);
-    let shard = sources.shard(rt.alloc(), "esr_dirsource_broken", "logs", 7)?;
-    read_shaky(&rt, rt.alloc(), shard)?;
+    check_shards(&rt, rt.alloc(), &sources, "esr_dirsource_broken", &BROKEN)?;
     remove(&rt, "esr_dirsource_broken")
 }

@@ -9,13 +9,21 @@ use std::rt::Files;
 /// The file system, whose call after the next `left` ones fails, and no other. Where it is full, the files of stages
 /// take no byte.
 #[derive(Drop)]
-pub struct Failing {
-    pub rt: HostRuntime,
-    pub left: Cell<u64>,
-    pub is_full: bool,
+pub(crate) struct Failing<'a> {
+    rt: &'a HostRuntime,
+    left: Cell<u64>,
+    is_full: bool,
 }
 
-impl Failing {
+impl<'a> Failing<'a> {
+    pub fn new(rt: &'a HostRuntime, left: u64, is_full: bool) -> Failing<'a> {
+        Failing {
+            rt,
+            left: Cell::new(left),
+            is_full,
+        }
+    }
+
     fn turn(&self) -> io::Result<()> {
         let left = self.left.get();
         self.left.set(left.wrapping_sub(1));
@@ -26,7 +34,7 @@ impl Failing {
     }
 }
 
-impl Files for Failing {
+impl<'a> Files for Failing<'a> {
     type File = File;
 
     type Dir = <HostRuntime as Files>::Dir;
@@ -90,7 +98,7 @@ impl Files for Failing {
     }
 }
 
-impl Eprint for Failing {
+impl<'a> Eprint for Failing<'a> {
     fn eprint<D: Display + Drop>(&self, value: D) -> io::Result<()> {
         self.rt.eprint(value)
     }

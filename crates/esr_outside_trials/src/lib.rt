@@ -17,3 +17,9 @@ mod shaky;
 mod shards;
 #[cfg(test)]
 mod source;
+#[cfg(test)]
+mod steps;
+#[cfg(test)]
+mod targets;
+#[cfg(test)]
+mod told;

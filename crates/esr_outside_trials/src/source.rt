@@ -1,5 +1,10 @@
-use crate::shards::{check_listing, check_reads};
-use esr_depot::{CallError, Counted, Failed};
+//! Sources, targets and streams in memory, with planned failures, and over streams that fail.
+ghost use Rattle.std.specs.Prelude.{◌≤◌, IfOk};
+
+use crate::shards::{Look, check_shard};
+use crate::targets::fill;
+use crate::told::{check_row, say, say_bytes, say_faults, say_number};
+use esr_depot::{Counted, Failed};
 use esr_seq::{Bytes, Seq};
 use esr_source::*;
 use std::alloc::{AllocError, Global};
@@ -7,27 +12,10 @@ use std::io::{self, ErrorKind, Read, Write};
 use std::process::Abort;
 use std::test::Fail;
 
-fn plan_of(alloc: Global, call: Call, nth: u64) -> Result<Plan, AllocError> {
-    let mut plan = Seq::new(alloc);
-    plan.push(Failing { call, nth })?;
-    Ok(plan)
-}
-
-fn plan_at(alloc: Global, call: Call, nth: u64) -> Result<Seq<FailingAt>, AllocError> {
-    let mut plan = Seq::new(alloc);
-    let address = Address::new(alloc, "src", "logs", 0)?;
-    plan.push(FailingAt { address, call, nth })?;
-    Ok(plan)
-}
-
-/// Sources with shard 0 of `logs` in `src`, whose files are all `abc`.
-fn sources_of(
-    alloc: Global,
-    names: &[&str],
-    plan: Seq<FailingAt>,
-) -> Result<MemSources, AllocError> {
+/// Sources with shard 0 of `logs` in `src`, whose files are all `abc`. The names have bars between them.
+fn sources_of(alloc: Global, names: &str, plan: Seq<FailingAt>) -> Result<MemSources, AllocError> {
     let mut files = Seq::new(alloc);
-    for name in names {
+    for name in names.split('|') {
         files.push(MemFile::new(alloc, name, b"abc")?)?;
     }
     let mut sources = Seq::new(alloc);
@@ -36,198 +24,266 @@ fn sources_of(
     Ok(MemSources::new(sources, plan))
 }
 
-/// That the shard lists two files, and reads them in any order.
-fn check_two<S: Shard + Drop>(rt: &impl Abort, alloc: Global, mut shard: S) -> Result<(), Fail> {
-    check_listing(rt, alloc, &mut shard, &[("_0.cfs", 3), ("_1.si", 3)])?;
-    check_reads(rt, alloc, &mut shard, 1, &["ab", "c", ""])?;
-    check_reads(rt, alloc, &mut shard, 0, &["ab", "c", ""])
+/// A plan by which that call of shard 0 of `logs` in `src` fails.
+fn plan_at(alloc: Global, call: Call, nth: u64) -> Result<Seq<FailingAt>, AllocError> {
+    let mut plan = Seq::new(alloc);
+    let address = Address::new(alloc, "src", "logs", 0)?;
+    plan.push(FailingAt { address, call, nth })?;
+    Ok(plan)
 }
 
-#[test]
-fn files_are_listed_and_read(rt: HostRuntime) -> Result<(), Fail> {
-    let sources = sources_of(rt.alloc(), &["_0.cfs", "_1.si"], Seq::new(rt.alloc()))?;
-    let shard = sources.shard(rt.alloc(), "src", "logs", 0)?;
-    check_two(&rt, rt.alloc(), shard)
-}
+/// A call that no shard makes.
+const NONE: (Call, u64) = (Call::Create, 1);
 
-/// That the shard of that address can't be listed, which is counted.
-fn check_absent(
-    rt: &impl Abort,
-    alloc: Global,
-    sources: &MemSources,
-    address: (&str, &str, u32),
-) -> Result<(), Fail> {
+const SHARD: (&str, &str, u32) = ("src", "logs", 0);
+
+/// What the row shows; the names of the files of shard 0 of `logs` in `src`, all of them `abc`; which call of that shard
+/// fails; a place, an index and a number; and what the shard of these answers.
+type Case<'a> = (
+    &'a str,
+    &'a str,
+    (Call, u64),
+    (&'a str, &'a str, u32),
+    &'a [Look<'a>],
+);
+
+static SHARDS: [Case<'static>; 20] = [
+    (
+        "two files",
+        "_0.cfs|_1.si",
+        NONE,
+        SHARD,
+        &[
+            (None, "_0.cfs:3 _1.si:3 faults 0"),
+            (Some(1), "_0.cfs:3 _1.si:3 ok [ab] [c] [] [] faults 0"),
+            (Some(0), "_0.cfs:3 _1.si:3 ok [ab] [c] [] [] faults 0"),
+        ],
+    ),
+    (
+        "another number",
+        "_0.cfs",
+        NONE,
+        ("src", "logs", 1),
+        &[(None, "failed faults 1")],
+    ),
+    (
+        "another place",
+        "_0.cfs",
+        NONE,
+        ("srd", "logs", 0),
+        &[(None, "failed faults 1")],
+    ),
+    (
+        "another index",
+        "_0.cfs",
+        NONE,
+        ("src", "log", 0),
+        &[(None, "failed faults 1")],
+    ),
+    (
+        "good names",
+        "!|~",
+        NONE,
+        SHARD,
+        &[(None, "!:3 ~:3 faults 0")],
+    ),
+    (
+        "good names",
+        "a.b|ab",
+        NONE,
+        SHARD,
+        &[(None, "a.b:3 ab:3 faults 0")],
+    ),
+    ("bad names", "|x", NONE, SHARD, &[(None, "failed faults 1")]),
+    (
+        "bad names",
+        ".|x",
+        NONE,
+        SHARD,
+        &[(None, "failed faults 1")],
+    ),
+    (
+        "bad names",
+        "..|x",
+        NONE,
+        SHARD,
+        &[(None, "failed faults 1")],
+    ),
+    (
+        "bad names",
+        "a/b|x",
+        NONE,
+        SHARD,
+        &[(None, "failed faults 1")],
+    ),
+    (
+        "bad names",
+        "a b|x",
+        NONE,
+        SHARD,
+        &[(None, "failed faults 1")],
+    ),
+    (
+        "bad names",
+        "a|\x7f",
+        NONE,
+        SHARD,
+        &[(None, "failed faults 1")],
+    ),
+    (
+        "bad names",
+        "a|a",
+        NONE,
+        SHARD,
+        &[(None, "failed faults 1")],
+    ),
+    (
+        "bad names",
+        "b|a",
+        NONE,
+        SHARD,
+        &[(None, "failed faults 1")],
+    ),
+    (
+        "a list",
+        "_0.cfs",
+        (Call::List, 1),
+        SHARD,
+        &[(Some(0), "failed _0.cfs:3 ok [ab] [c] [] [] faults 1")],
+    ),
+    (
+        "the second list",
+        "_0.cfs",
+        (Call::List, 2),
+        SHARD,
+        &[(Some(0), "_0.cfs:3 ok [ab] [c] [] [] faults 0")],
+    ),
+    (
+        "a start",
+        "_0.cfs",
+        (Call::Start, 1),
+        SHARD,
+        &[(Some(0), "_0.cfs:3 failed [] [] [] [] faults 1")],
+    ),
+    (
+        "a read",
+        "_0.cfs",
+        (Call::Read, 1),
+        SHARD,
+        &[(Some(0), "_0.cfs:3 ok failed [ab] [c] [] faults 1")],
+    ),
+    (
+        "the second read",
+        "_0.cfs",
+        (Call::Read, 2),
+        SHARD,
+        &[(Some(0), "_0.cfs:3 ok [ab] failed [c] [] faults 1")],
+    ),
+    (
+        "a write",
+        "_0.cfs",
+        (Call::Write, 1),
+        SHARD,
+        &[(Some(0), "_0.cfs:3 ok [ab] [c] [] [] faults 0")],
+    ),
+];
+
+/// That the shard of a row answers as it is to.
+fn check_case(rt: &impl Abort, alloc: Global, case: &Case<'_>) -> Result<(), Fail> {
+    let (label, names, fails, address, looks) = *case;
+    let sources = sources_of(alloc, names, plan_at(alloc, fails.0, fails.1)?)?;
     let mut shard = sources.shard(alloc, address.0, address.1, address.2)?;
-    assert_eq!(rt; shard.fault_count(), 0);
-    assert!(rt; matches!(shard.list(alloc), Err(CallError::Failed)));
-    assert_eq!(rt; shard.fault_count(), 1);
-    Ok(())
+    check_shard(rt, alloc, (label, names), &mut shard, looks)
 }
 
 #[test]
-fn a_place_that_does_not_exist_fails(rt: HostRuntime) -> Result<(), Fail> {
-    let sources = sources_of(rt.alloc(), &["_0.cfs"], Seq::new(rt.alloc()))?;
-    let others = [("src", "logs", 1), ("srd", "logs", 0), ("src", "log", 0)];
-    for address in others {
-        check_absent(&rt, rt.alloc(), &sources, address)?;
+fn shards_list_and_read_or_fail(rt: HostRuntime) -> Result<(), Fail> {
+    for case in &SHARDS {
+        check_case(&rt, rt.alloc(), case)?;
     }
     Ok(())
 }
 
-/// Whether a shard with files of these two names can be listed.
-fn is_listed(alloc: Global, first: &str, second: &str) -> Result<bool, Fail> {
-    let sources = sources_of(alloc, &[first, second], Seq::new(alloc))?;
-    let mut shard = sources.shard(alloc, "src", "logs", 0)?;
-    Ok(shard.list(alloc).is_ok())
-}
-
-/// Names of two files, and whether a shard with both can be listed.
-static PAIRS: [(&str, &str, bool); 10] = [
-    ("!", "~", true),
-    ("a.b", "ab", true),
-    ("", "x", false),
-    (".", "x", false),
-    ("..", "x", false),
-    ("a/b", "x", false),
-    ("a b", "x", false),
-    ("a", "\x7f", false),
-    ("a", "a", false),
-    ("b", "a", false),
-];
-
 #[test]
-fn only_files_by_the_rule_are_listed(rt: HostRuntime) -> Result<(), Fail> {
-    for (first, second, wanted) in &PAIRS {
-        assert_eq!(rt; is_listed(rt.alloc(), first, second)?, *wanted);
-    }
+fn names_of_255_bytes_are_listed_and_no_longer_ones(rt: HostRuntime) -> Result<(), Fail> {
     let long = "x".repeat(rt.alloc(), 255)?;
-    assert!(rt; is_listed(rt.alloc(), "...", long.as_str())?);
-    let longer = "x".repeat(rt.alloc(), 256)?;
-    assert!(rt; !is_listed(rt.alloc(), "a", longer.as_str())?);
-    Ok(())
+    let names = format!(in rt.alloc(); "...|{long}")?;
+    let wanted = format!(in rt.alloc(); "...:3 {long}:3 faults 0")?;
+    let looks = [(None, wanted.as_str())];
+    check_case(
+        &rt,
+        rt.alloc(),
+        &("255", names.as_str(), NONE, SHARD, &looks),
+    )?;
+    let names = format!(in rt.alloc(); "a|x{long}")?;
+    let looks = [(None, "failed faults 1")];
+    check_case(
+        &rt,
+        rt.alloc(),
+        &("256", names.as_str(), NONE, SHARD, &looks),
+    )
 }
 
-/// What a shard answers to `list` until it succeeds, `start`, and three times `read`.
-fn answers_of(alloc: Global, shard: &mut MemShard) -> Result<String, Fail> {
-    let mut text = String::new(alloc);
-    let files = match shard.list(alloc) {
-        Ok(files) => files,
-        Err(_) => {
-            text.push_str("- ")?;
-            shard.list(alloc)?
-        }
-    };
-    text.push_str(&format!(in alloc; "{}", files.len())?)?;
-    if files.is_empty() {
-        return Ok(text);
-    }
-    text.push_str(if shard.start(alloc, 0).is_ok() {
-        " ok"
-    } else {
-        " -"
-    })?;
-    let mut buf = [0u8; 2];
-    for _ in 0..3 {
-        match shard.read(&mut buf) {
-            Ok(count) => text.push_str(&format!(in alloc; " {:?}", &buf[..count])?)?,
-            Err(Failed) => text.push_str(" -")?,
-        }
-    }
-    Ok(text)
-}
-
-/// What a shard answers of which that call fails, and how many failures it counts.
-fn planned_answers(alloc: Global, call: Call, nth: u64) -> Result<(String, u64), Fail> {
-    let sources = sources_of(alloc, &["_0.cfs"], plan_at(alloc, call, nth)?)?;
-    let mut shard = sources.shard(alloc, "src", "logs", 0)?;
-    let text = answers_of(alloc, &mut shard)?;
-    Ok((text, shard.fault_count()))
-}
-
-/// Calls that fail, what the shard answers, and how many failures it counts.
-static SHARD_CALLS: [(Call, u64, &str, u64); 6] = [
-    (Call::List, 1, "- 1 ok [97, 98] [99] []", 1),
-    (Call::List, 2, "1 ok [97, 98] [99] []", 0),
-    (Call::Start, 1, "1 - [] [] []", 1),
-    (Call::Read, 1, "1 ok - [97, 98] [99]", 1),
-    (Call::Read, 2, "1 ok [97, 98] - [99]", 1),
-    (Call::Write, 1, "1 ok [97, 98] [99] []", 0),
+/// What the row shows; which call of target 0 of `logs` in `src` fails; the number of a target there, and what it answers.
+static TARGETS: [(&str, (Call, u64), u32, &str); 6] = [
+    (
+        "a creation",
+        (Call::Create, 1),
+        0,
+        "failed ok ok ok ok faults 1 _0.cfs=abc",
+    ),
+    (
+        "another number",
+        (Call::Create, 1),
+        1,
+        "ok ok ok ok faults 0 _0.cfs=abc",
+    ),
+    (
+        "a write",
+        (Call::Write, 1),
+        0,
+        "ok failed ok ok ok faults 1 _0.cfs=abc",
+    ),
+    (
+        "an end",
+        (Call::End, 1),
+        0,
+        "ok ok ok failed ok faults 1 _0.cfs=abc",
+    ),
+    (
+        "a read",
+        (Call::Read, 1),
+        0,
+        "ok ok ok ok faults 0 _0.cfs=abc",
+    ),
+    (
+        "the second end",
+        (Call::End, 2),
+        0,
+        "ok ok ok ok faults 0 _0.cfs=abc",
+    ),
 ];
 
-#[test]
-fn planned_calls_of_a_shard_fail(rt: HostRuntime) -> Result<(), Fail> {
-    for (call, nth, expected, faults) in &SHARD_CALLS {
-        let (text, counted) = planned_answers(rt.alloc(), *call, *nth)?;
-        assert_eq!(rt; text.as_str(), *expected);
-        assert_eq!(rt; counted, *faults);
-    }
-    Ok(())
-}
-
-/// Whether the target of that number makes a file.
-fn makes(alloc: Global, targets: &MemTargets, number: u32) -> Result<bool, Fail> {
+/// What a target of which that call fails answers, and its files.
+fn target_told(alloc: Global, fails: (Call, u64), number: u32) -> Result<String, AllocError> {
+    let mut line = String::with_capacity(alloc, 300)?;
+    let targets = MemTargets::new(plan_at(alloc, fails.0, fails.1)?);
     let mut target = targets.target(alloc, "src", "logs", number)?;
-    Ok(target.create(alloc, "_0.cfs", 3).is_ok())
+    fill(alloc, &mut target, "_0.cfs", (b"ab", true), &mut line);
+    for file in target.files() {
+        say(&mut line, " ");
+        say(&mut line, file.name.as_str());
+        say(&mut line, "=");
+        say_bytes(&mut line, file.bytes.as_slice());
+    }
+    Ok(line)
 }
 
 #[test]
-fn a_plan_is_of_one_address(rt: HostRuntime) -> Result<(), Fail> {
-    let targets = MemTargets::new(plan_at(rt.alloc(), Call::Create, 1)?);
-    assert!(rt; makes(rt.alloc(), &targets, 1)?);
-    assert!(rt; !makes(rt.alloc(), &targets, 0)?);
-    Ok(())
-}
-
-/// A target with one file of `abc` that was written in two pieces, and the calls that failed and were made again.
-fn written(alloc: Global, targets: &MemTargets) -> Result<(MemTarget, String), Fail> {
-    let mut text = String::new(alloc);
-    let mut target = targets.target(alloc, "src", "logs", 0)?;
-    if target.create(alloc, "_0.cfs", 3).is_err() {
-        text.push_str("create")?;
-        target.create(alloc, "_0.cfs", 3)?;
-    }
-    if target.write(b"ab").is_err() {
-        text.push_str("write")?;
-        target.write(b"ab")?;
-    }
-    target.write(b"c")?;
-    if target.end().is_err() {
-        text.push_str("end")?;
-        target.end()?;
-    }
-    Ok((target, text))
-}
-
-/// That a target of which that call fails tells this, counts so many failures, and holds the file.
-fn check_target(
-    rt: &impl Abort,
-    alloc: Global,
-    planned: (Call, u64),
-    expected: &str,
-    faults: u64,
-) -> Result<(), Fail> {
-    let targets = MemTargets::new(plan_at(alloc, planned.0, planned.1)?);
-    let (target, text) = written(alloc, &targets)?;
-    assert_eq!(rt; text.as_str(), expected);
-    assert_eq!(rt; target.fault_count(), faults);
-    let wanted = [MemFile::new(alloc, "_0.cfs", b"abc")?];
-    assert_eq!(rt; target.files(), wanted.as_slice());
-    Ok(())
-}
-
-/// Calls that fail, which calls are made again, and how many failures the target counts.
-static TARGET_CALLS: [(Call, u64, &str, u64); 5] = [
-    (Call::Create, 1, "create", 1),
-    (Call::Write, 1, "write", 1),
-    (Call::End, 1, "end", 1),
-    (Call::Read, 1, "", 0),
-    (Call::End, 2, "", 0),
-];
-
-#[test]
-fn planned_calls_of_a_target_fail_and_its_files_can_be_read(rt: HostRuntime) -> Result<(), Fail> {
-    for (call, nth, expected, faults) in &TARGET_CALLS {
-        check_target(&rt, rt.alloc(), (*call, *nth), expected, *faults)?;
+fn targets_take_a_file_or_fail(rt: HostRuntime) -> Result<(), Fail> {
+    for (label, fails, number, wanted) in &TARGETS {
+        let got = target_told(rt.alloc(), *fails, *number)?;
+        check_row(&rt, ("target", label, ""), got.as_str(), wanted);
     }
     Ok(())
 }
@@ -239,25 +295,33 @@ struct Broken {
     calls: usize,
 }
 
-impl Read for Broken {
-    fn read(&mut self, buf: &mut [u8]) -> io::Result<usize> {
+impl Broken {
+    fn new(counts: [usize; 2]) -> Broken {
+        Broken { counts, calls: 0 }
+    }
+
+    /// How many of these bytes the next call moves.
+    fn turn(&mut self, length: usize) -> io::Result<usize>
+        ensures { IfOk result (λ count. count ≤ length) }
+    {
         let call = self.calls;
         self.calls = call.saturating_add(1);
         if call >= self.counts.len() {
             return Err(io::Error::from(ErrorKind::Other));
         }
-        Ok(self.counts[call].min(buf.len()))
+        Ok(self.counts[call].min(length))
+    }
+}
+
+impl Read for Broken {
+    fn read(&mut self, buf: &mut [u8]) -> io::Result<usize> {
+        self.turn(buf.len())
     }
 }
 
 impl Write for Broken {
     fn write(&mut self, buf: &[u8]) -> io::Result<usize> {
-        let call = self.calls;
-        self.calls = call.saturating_add(1);
-        if call >= self.counts.len() {
-            return Err(io::Error::from(ErrorKind::Other));
-        }
-        Ok(self.counts[call].min(buf.len()))
+        self.turn(buf.len())
     }
 
     fn flush(&mut self) -> io::Result<()> {
@@ -265,86 +329,93 @@ impl Write for Broken {
     }
 }
 
-fn reads_of<L: Lines>(alloc: Global, lines: &mut L) -> Result<String, Fail> {
-    let mut text = String::new(alloc);
+/// A plan by which that call fails.
+fn plan_of(alloc: Global, fails: (Call, u64)) -> Result<Plan, AllocError> {
+    let (call, nth) = fails;
+    let mut plan = Seq::new(alloc);
+    plan.push(Failing { call, nth })?;
+    Ok(plan)
+}
+
+/// How many bytes a read or a write moves, or that it fails.
+fn say_count(line: &mut String, answer: Result<usize, Failed>) {
+    match answer {
+        Ok(count) => say_number(line, count as u64),
+        Err(Failed) => say(line, "-"),
+    }
+    say(line, " ");
+}
+
+/// That four reads of two bytes answer this.
+fn check_lines<L: Lines>(
+    rt: &impl Abort,
+    alloc: Global,
+    label: &str,
+    mut lines: L,
+    wanted: &str,
+) -> Result<(), Fail> {
+    let mut line = String::with_capacity(alloc, 300)?;
     let mut buf = [0u8; 2];
     for _ in 0..4 {
-        match lines.read(&mut buf) {
-            Ok(count) => text.push_str(&format!(in alloc; "{} ", count)?)?,
-            Err(Failed) => text.push_str("- ")?,
-        }
+        say_count(&mut line, lines.read(&mut buf));
     }
-    text.push_str(&format!(in alloc; "faults {}", lines.fault_count())?)?;
-    Ok(text)
-}
-
-/// What a script of `abc` gives, of which these reads fail.
-fn script_reads(alloc: Global, plan: Plan) -> Result<String, Fail> {
-    let mut lines = MemLines::new(Bytes::from_slice(alloc, b"abc")?, plan);
-    reads_of(alloc, &mut lines)
-}
-
-/// What a stream gives.
-fn stream_reads<R: Read + Drop>(alloc: Global, stream: R) -> Result<String, Fail> {
-    let mut lines = StdLines::new(stream);
-    reads_of(alloc, &mut lines)
+    say_faults(&mut line, lines.fault_count());
+    check_row(rt, (label, "reads", ""), line.as_str(), wanted);
+    Ok(())
 }
 
 #[test]
 fn a_script_is_read_in_pieces(rt: HostRuntime) -> Result<(), Fail> {
-    let alloc = rt.alloc();
-    let none = script_reads(alloc, Seq::new(alloc))?;
-    assert_eq!(rt; none.as_str(), "2 1 0 0 faults 0");
-    let second = script_reads(alloc, plan_of(alloc, Call::Read, 2)?)?;
-    assert_eq!(rt; second.as_str(), "2 - 1 0 faults 1");
-    let whole = stream_reads(alloc, b"abc".as_slice())?;
-    assert_eq!(rt; whole.as_str(), "2 1 0 0 faults 0");
-    let counts = [1, 2];
-    let broken = stream_reads(alloc, Broken { counts, calls: 0 })?;
-    assert_eq!(rt; broken.as_str(), "1 2 - - faults 2");
-    Ok(())
-}
-
-fn writes_of<O: Out>(alloc: Global, out: &mut O) -> Result<String, Fail> {
-    let mut text = String::new(alloc);
-    for piece in [b"abc".as_slice(), b"", b"de", b"f"] {
-        match out.write(piece) {
-            Ok(count) => text.push_str(&format!(in alloc; "{} ", count)?)?,
-            Err(Failed) => text.push_str("- ")?,
-        }
+    for (fails, wanted) in [
+        (NONE, "2 1 0 0 faults 0"),
+        ((Call::Read, 2), "2 - 1 0 faults 1"),
+    ] {
+        let bytes = Bytes::from_slice(rt.alloc(), b"abc")?;
+        let lines = MemLines::new(bytes, plan_of(rt.alloc(), fails)?);
+        check_lines(&rt, rt.alloc(), "in memory", lines, wanted)?;
     }
-    text.push_str(&format!(in alloc; "faults {}", out.fault_count())?)?;
-    Ok(text)
+    let whole = StdLines::new(b"abc".as_slice());
+    check_lines(&rt, rt.alloc(), "a slice", whole, "2 1 0 0 faults 0")?;
+    let broken = StdLines::new(Broken::new([1, 2]));
+    check_lines(&rt, rt.alloc(), "a stream", broken, "1 2 - - faults 2")
 }
 
-/// That an output of that room, of which these writes fail, answers this and holds that.
-fn check_out(
+/// What is written to an output.
+static WRITES: [&str; 4] = ["abc", "", "de", "f"];
+
+/// That these writes answer this.
+fn check_out<O: Out>(
     rt: &impl Abort,
     alloc: Global,
-    room: usize,
-    plan: Plan,
-    wanted: (&str, &str),
+    label: &str,
+    out: &mut O,
+    wanted: &str,
 ) -> Result<(), Fail> {
-    let mut out = MemOut::new(alloc, room, plan)?;
-    assert_eq!(rt; writes_of(alloc, &mut out)?.as_str(), wanted.0);
-    assert_eq!(rt; out.as_slice(), wanted.1.as_bytes());
+    let mut line = String::with_capacity(alloc, 300)?;
+    for piece in &WRITES {
+        say_count(&mut line, out.write(piece.as_bytes()));
+    }
+    say_faults(&mut line, out.fault_count());
+    check_row(rt, (label, "writes", ""), line.as_str(), wanted);
     Ok(())
 }
 
-/// What a stream that takes so many bytes answers.
-fn broken_writes(alloc: Global, counts: [usize; 2]) -> Result<String, Fail> {
-    let mut out = StdOut::new(Broken { counts, calls: 0 });
-    writes_of(alloc, &mut out)
-}
+/// The room of an output in memory, which of its calls fails, what it answers, and what it holds then.
+static OUTPUTS: [(usize, (Call, u64), &str, &str); 2] = [
+    (4, NONE, "3 0 1 - faults 1", "abcd"),
+    (9, (Call::Write, 3), "3 0 - 1 faults 1", "abcf"),
+];
 
 #[test]
 fn an_output_takes_bytes_or_fails(rt: HostRuntime) -> Result<(), Fail> {
-    let alloc = rt.alloc();
-    check_out(&rt, alloc, 4, Seq::new(alloc), ("3 0 1 - faults 1", "abcd"))?;
-    let plan = plan_of(alloc, Call::Write, 3)?;
-    check_out(&rt, alloc, 9, plan, ("3 0 - 1 faults 1", "abcf"))?;
+    for (room, fails, wanted, held) in &OUTPUTS {
+        let mut out = MemOut::new(rt.alloc(), *room, plan_of(rt.alloc(), *fails)?)?;
+        check_out(&rt, rt.alloc(), "in memory", &mut out, wanted)?;
+        assert_eq!(rt; out.as_slice(), held.as_bytes(), "{wanted}");
+    }
     for (counts, wanted) in [([2, 0], "2 0 - - faults 2"), ([0, 2], "- 0 - - faults 3")] {
-        assert_eq!(rt; broken_writes(alloc, counts)?.as_str(), wanted);
+        let mut out = StdOut::new(Broken::new(counts));
+        check_out(&rt, rt.alloc(), "a stream", &mut out, wanted)?;
     }
     Ok(())
 }

@@ -18,6 +18,8 @@ mod reopened;
 #[cfg(test)]
 mod restored;
 #[cfg(test)]
+mod scene;
+#[cfg(test)]
 mod setting;
 #[cfg(test)]
 mod streams;

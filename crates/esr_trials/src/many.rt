@@ -1,44 +1,51 @@
-//! So many open snapshots that the next is refused.
-use crate::setting::{run_over, sources_of};
+//! So many open commands that the next is refused.
+use crate::setting::{calm, repeated, run_shown};
 use esr_memdepot::MemDepot;
 use esr_seq::Seq;
-use esr_source::MemOut;
 use std::alloc::{AllocError, Global};
+use std::sync::Wait;
 use std::test::Fail;
 
-/// The last two lines of the report.
-const LAST: &str =
-    "\n1000 snapshot s999 ok AAAAAAAAAAEAAAAAAAAD5w\n1001 snapshot s1000 refused too-many 1000\n";
+/// What a script of 1001 snapshots shows last.
+const SNAPSHOTS: &str =
+    "\n1000 snapshot s999 ok AAAAAAAAAAEAAAAAAAAD5w\n1001 snapshot s1000 refused too-many 1000\nexit 1\n";
 
-/// A script that asks for so many snapshots of no index.
-fn script_of(alloc: Global, count: u32) -> Result<String, AllocError> {
+/// What one of 1001 restores, from line 3 on, shows before the second of the 1000 shards that were restored.
+const RESTORES: &str =
+    "\n1002 restore s1 ok files 1 bytes 3\n1003 restore s1 refused too-many 1000\nrestored 3 logs 0 _0.cfs=abc\n";
+
+/// A script that asks for 1001 snapshots of no index.
+fn snapshots(alloc: Global) -> Result<String, AllocError> {
     let mut script = String::new(alloc);
-    for number in 0..count {
+    for number in 0..1001u32 {
         script.push_str(format!(in alloc; "snapshot s{number}\n")?.as_str())?;
     }
     Ok(script)
 }
 
+/// What a run of the script shows.
+fn shown(rt: &impl Wait, alloc: Global, words: &str, script: &str) -> Result<String, AllocError> {
+    let depot = MemDepot::new(alloc, Seq::new(alloc));
+    let (_, shown) = run_shown(rt, alloc, depot, words, script, calm(100_000))?;
+    Ok(shown)
+}
+
 #[test]
 fn a_snapshot_beside_a_thousand_open_ones_is_refused(rt: HostRuntime) -> Result<(), Fail> {
-    let alloc = rt.alloc();
-    let script = script_of(alloc, 1001)?;
-    let script = script.as_str();
-    let depot = MemDepot::new(alloc, Seq::new(alloc));
-    let sources = sources_of(alloc, Seq::new(alloc))?;
-    let mut out = MemOut::new(alloc, 100_000, Seq::new(alloc))?;
-    let reads = Seq::new(alloc);
-    let left = run_over(
-        &rt,
-        alloc,
-        depot,
-        &sources,
-        &["run"],
-        script,
-        reads,
-        &mut out,
-    )?;
-    assert_eq!(rt; left.status, 1);
-    assert!(rt; out.as_slice().ends_with(LAST.as_bytes()));
+    let script = snapshots(rt.alloc())?;
+    let text = shown(&rt, rt.alloc(), "run", script.as_str())?;
+    assert!(rt; text.ends_with(SNAPSHOTS));
+    Ok(())
+}
+
+#[test]
+fn a_restore_beside_a_thousand_open_ones_is_refused(rt: HostRuntime) -> Result<(), Fail> {
+    let front = "snapshot s1 logs/1/src\nwait\n";
+    let script = repeated(rt.alloc(), front, "restore s1 out\n", 1001)?;
+    let text = shown(&rt, rt.alloc(), "--chunk-size 4 run", script.as_str())?;
+    assert!(rt; text.contains(RESTORES));
+    assert!(rt; text.ends_with("\nrestored 1002 logs 0 _0.cfs=abc\nexit 1\n"));
+    // The lines of the report, the 1000 shards, and the status.
+    assert_eq!(rt; text.lines().count(), 2004);
     Ok(())
 }

@@ -1,110 +1,54 @@
 //! How the files of a shard are stored: whole or in parts, and shards that have no bytes.
-use crate::first::holds_all;
-use crate::setting::{holds, run_over};
-use esr_depot::{CallError, Depot};
-use esr_memdepot::MemDepot;
-use esr_seq::Seq;
-use esr_source::{Address, MemFile, MemOut, MemSource, MemSources};
-use std::alloc::{AllocError, Global};
-use std::sync::Wait;
+use crate::scene::play_all;
 use std::test::Fail;
 
-/// The one blob of the file, where it is not in parts.
-const WHOLE: &str = "indices/AAAAAAAAAAEAAAAAAAAAAQ/0/__AAAAAAAAAAEAAAAAAAAAAg";
+const SCENARIOS: &str = r#"a file of the size of a part is one blob
+> snapshot s1 logs/1/four
+$ --chunk-size 4 run
+1 snapshot s1 ok AAAAAAAAAAEAAAAAAAAAAA
+exit 0
+? blob indices/AAAAAAAAAAEAAAAAAAAAAQ/0/__AAAAAAAAAAEAAAAAAAAAAg=abcd
+? blobs=8
 
-/// The blobs of a file `abcde` in parts of four bytes: a line each, with its name and its text.
-const FIVE: &str = r#"indices/AAAAAAAAAAEAAAAAAAAAAQ/0/__AAAAAAAAAAEAAAAAAAAAAg.part0 abcd
-indices/AAAAAAAAAAEAAAAAAAAAAQ/0/__AAAAAAAAAAEAAAAAAAAAAg.part1 e
-indices/AAAAAAAAAAEAAAAAAAAAAQ/0/index-AAAAAAAAAAEAAAAAAAAAAw {"files":[{"length":5,"name":"__AAAAAAAAAAEAAAAAAAAAAg","part_size":4,"physical_name":"_0.cfs","sha256":"36bbe50ed96841d10443bcb670d6554f0a34b761be67ec9c4a8ad2c0c44ca42c"}],"snapshots":[{"files":["__AAAAAAAAAAEAAAAAAAAAAg"],"uuid":"AAAAAAAAAAEAAAAAAAAAAA"}]}"#;
+a longer file is in parts
+> snapshot s1 logs/1/five
+$ --chunk-size 4 run
+1 snapshot s1 ok AAAAAAAAAAEAAAAAAAAAAA
+exit 0
+? blob indices/AAAAAAAAAAEAAAAAAAAAAQ/0/__AAAAAAAAAAEAAAAAAAAAAg.part0=abcd
+? blob indices/AAAAAAAAAAEAAAAAAAAAAQ/0/__AAAAAAAAAAEAAAAAAAAAAg.part1=e
+? blob indices/AAAAAAAAAAEAAAAAAAAAAQ/0/index-AAAAAAAAAAEAAAAAAAAAAw={"files":[{"length":5,"name":"__AAAAAAAAAAEAAAAAAAAAAg","part_size":4,"physical_name":"_0.cfs","sha256":"36bbe50ed96841d10443bcb670d6554f0a34b761be67ec9c4a8ad2c0c44ca42c"}],"snapshots":[{"files":["__AAAAAAAAAAEAAAAAAAAAAg"],"uuid":"AAAAAAAAAAEAAAAAAAAAAA"}]}
+? there indices/AAAAAAAAAAEAAAAAAAAAAQ/0/__AAAAAAAAAAEAAAAAAAAAAg=false
+? blobs=9
 
-/// Those of a file of two whole parts.
-const EIGHT: &str = "indices/AAAAAAAAAAEAAAAAAAAAAQ/0/__AAAAAAAAAAEAAAAAAAAAAg.part0 abcd
-indices/AAAAAAAAAAEAAAAAAAAAAQ/0/__AAAAAAAAAAEAAAAAAAAAAg.part1 efgh";
+a file of two whole parts has no third
+> snapshot s1 logs/1/eight
+$ --chunk-size 4 run
+1 snapshot s1 ok AAAAAAAAAAEAAAAAAAAAAA
+exit 0
+? blob indices/AAAAAAAAAAEAAAAAAAAAAQ/0/__AAAAAAAAAAEAAAAAAAAAAg.part0=abcd
+? blob indices/AAAAAAAAAAEAAAAAAAAAAQ/0/__AAAAAAAAAAEAAAAAAAAAAg.part1=efgh
+? there indices/AAAAAAAAAAEAAAAAAAAAAQ/0/__AAAAAAAAAAEAAAAAAAAAAg=false
+? blobs=9
 
-/// The index of a shard that has no file.
-const NO_FILE: &str =
-    r#"indices/AAAAAAAAAAEAAAAAAAAAAQ/0/index-AAAAAAAAAAEAAAAAAAAAAg {"files":[],"snapshots":[{"files":[],"uuid":"AAAAAAAAAAEAAAAAAAAAAA"}]}"#;
+a shard with no file has no data blob
+> snapshot s1 logs/1/none
+$ --chunk-size 4 run
+1 snapshot s1 ok AAAAAAAAAAEAAAAAAAAAAA
+exit 0
+? blob indices/AAAAAAAAAAEAAAAAAAAAAQ/0/index-AAAAAAAAAAEAAAAAAAAAAg={"files":[],"snapshots":[{"files":[],"uuid":"AAAAAAAAAAEAAAAAAAAAAA"}]}
+? blobs=7
 
-/// The index of a shard that has an empty file.
-const EMPTY: &str =
-    r#"indices/AAAAAAAAAAEAAAAAAAAAAQ/0/index-AAAAAAAAAAEAAAAAAAAAAw {"files":[{"length":0,"name":"__AAAAAAAAAAEAAAAAAAAAAg","part_size":4,"physical_name":"_0.cfs","sha256":"e3b0c44298fc1c149afbf4c8996fb92427ae41e4649b934ca495991b7852b855"}],"snapshots":[{"files":["__AAAAAAAAAAEAAAAAAAAAAg"],"uuid":"AAAAAAAAAAEAAAAAAAAAAA"}]}"#;
-
-/// A shard with these files: a line each, with its name and its text.
-fn shard_of(alloc: Global, table: &str) -> Result<MemSource, AllocError> {
-    let mut files = Seq::new(alloc);
-    for line in table.lines() {
-        let (name, text) = line.split_once(' ').unwrap_or((line, ""));
-        files.push(MemFile::new(alloc, name, text.as_bytes())?)?;
-    }
-    let address = Address::new(alloc, "src", "logs", 0)?;
-    Ok(MemSource { address, files })
-}
-
-/// The container after a snapshot of a shard with these files, in parts of four bytes at most.
-fn stored(rt: &impl Wait, alloc: Global, files: &str) -> Result<MemDepot, Fail> {
-    let mut shards = Seq::new(alloc);
-    shards.push(shard_of(alloc, files)?)?;
-    let sources = MemSources::new(shards, Seq::new(alloc));
-    let mut out = MemOut::new(alloc, 100, Seq::new(alloc))?;
-    let depot = MemDepot::new(alloc, Seq::new(alloc));
-    let (words, script) = (["--chunk-size", "4", "run"], "snapshot s1 logs/1/src\n");
-    let reads = Seq::new(alloc);
-    let left = run_over(rt, alloc, depot, &sources, &words, script, reads, &mut out)?;
-    if out.as_slice() != "1 snapshot s1 ok AAAAAAAAAAEAAAAAAAAAAA\n".as_bytes() {
-        return Err(Fail::new("the snapshot wasn't made"));
-    }
-    Ok(left.depot)
-}
-
-/// Whether the file is in parts: its one blob isn't there.
-fn is_in_parts(alloc: Global, depot: &mut MemDepot) -> Result<bool, CallError> {
-    Ok(depot.fetch(alloc, WHOLE)?.is_none())
-}
+an empty file is one blob of no bytes
+> snapshot s1 logs/1/empty
+$ --chunk-size 4 run
+1 snapshot s1 ok AAAAAAAAAAEAAAAAAAAAAA
+exit 0
+? blob indices/AAAAAAAAAAEAAAAAAAAAAQ/0/__AAAAAAAAAAEAAAAAAAAAAg=
+? blob indices/AAAAAAAAAAEAAAAAAAAAAQ/0/index-AAAAAAAAAAEAAAAAAAAAAw={"files":[{"length":0,"name":"__AAAAAAAAAAEAAAAAAAAAAg","part_size":4,"physical_name":"_0.cfs","sha256":"e3b0c44298fc1c149afbf4c8996fb92427ae41e4649b934ca495991b7852b855"}],"snapshots":[{"files":["__AAAAAAAAAAEAAAAAAAAAAg"],"uuid":"AAAAAAAAAAEAAAAAAAAAAA"}]}
+? blobs=8"#;
 
 #[test]
-fn a_file_of_the_size_of_a_part_is_one_blob(rt: HostRuntime) -> Result<(), Fail> {
-    let alloc = rt.alloc();
-    let mut depot = stored(&rt, alloc, "_0.cfs abcd\n")?;
-    assert!(rt; holds(alloc, &mut depot, WHOLE, "abcd")?);
-    assert_eq!(rt; depot.list(alloc)?.len(), 8);
-    Ok(())
-}
-
-#[test]
-fn a_longer_file_is_in_parts(rt: HostRuntime) -> Result<(), Fail> {
-    let alloc = rt.alloc();
-    let mut depot = stored(&rt, alloc, "_0.cfs abcde\n")?;
-    assert!(rt; holds_all(alloc, &mut depot, FIVE)?);
-    assert!(rt; is_in_parts(alloc, &mut depot)?);
-    assert_eq!(rt; depot.list(alloc)?.len(), 9);
-    Ok(())
-}
-
-#[test]
-fn a_file_of_two_whole_parts_has_no_third(rt: HostRuntime) -> Result<(), Fail> {
-    let alloc = rt.alloc();
-    let mut depot = stored(&rt, alloc, "_0.cfs abcdefgh\n")?;
-    assert!(rt; holds_all(alloc, &mut depot, EIGHT)?);
-    assert!(rt; is_in_parts(alloc, &mut depot)?);
-    assert_eq!(rt; depot.list(alloc)?.len(), 9);
-    Ok(())
-}
-
-#[test]
-fn a_shard_with_no_file_has_no_data_blob(rt: HostRuntime) -> Result<(), Fail> {
-    let alloc = rt.alloc();
-    let mut depot = stored(&rt, alloc, "")?;
-    assert!(rt; holds_all(alloc, &mut depot, NO_FILE)?);
-    assert_eq!(rt; depot.list(alloc)?.len(), 7);
-    Ok(())
-}
-
-#[test]
-fn an_empty_file_is_one_blob_of_no_bytes(rt: HostRuntime) -> Result<(), Fail> {
-    let alloc = rt.alloc();
-    let mut depot = stored(&rt, alloc, "_0.cfs \n")?;
-    assert!(rt; holds(alloc, &mut depot, WHOLE, "")?);
-    assert!(rt; holds_all(alloc, &mut depot, EMPTY)?);
-    assert_eq!(rt; depot.list(alloc)?.len(), 8);
-    Ok(())
+fn files_of_one_part_and_of_more(rt: HostRuntime) -> Result<(), Fail> {
+    play_all(&rt, rt.alloc(), SCENARIOS)
 }

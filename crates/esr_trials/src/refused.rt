@@ -1,14 +1,14 @@
 //! Bad words and bad scripts: what is printed, and that no call of the container is made. Scripts that ask for nothing.
-use crate::setting::{SCRIPT, has_record, run_on, run_over, sources_of};
+use crate::scene::{plan_of, play};
+use crate::setting::{calm, repeated, run_shown};
 use esr_depot::Counted;
-use esr_memdepot::{Call, Failing, Leaves, MemDepot};
-use esr_seq::Seq;
-use esr_source::MemOut;
-use std::alloc::{AllocError, Global};
+use esr_memdepot::MemDepot;
+use std::alloc::Global;
+use std::process::Abort;
 use std::sync::Wait;
 use std::test::Fail;
 
-/// Lines that break the grammar, each after the first thing that is wrong with it.
+/// Lines that break the grammar, or whose commands are not there yet, each after the first thing that is wrong with it.
 const LINES: &str = "byte list\t
 byte # caf\u{e9}
 byte list\r .
@@ -36,15 +36,13 @@ number snapshot s1 a/1/ b/x/src
 place snapshot s1 logs/1/
 place snapshot s1 logs/1
 place snapshot s1 a/1/x a/1/y b/1
-repeat snapshot s1 a/1/x b/1/x a/2/y";
-
-/// Good lines whose commands are not there yet.
-const LATER: &str = "clone s1 c1
-clone s1 c1 logs
-delete s1
-cleanup
-failover
-check";
+repeat snapshot s1 a/1/x b/1/x a/2/y
+later clone s1 c1
+later clone s1 c1 logs
+later delete s1
+later cleanup
+later failover
+later check";
 
 /// Words that ask for nothing; the first line has none.
 const WORDS: &str = "
@@ -74,125 +72,92 @@ snapshot
 snapshot S1
 snapshot s1 logs/0/src
 snapshot s1 a/1/x a/1/y
-snapshot -s a/1/x";
+snapshot -s a/1/x
+failover";
 
-/// A container of which the first call of each kind fails, so that its count of faults tells whether it was called.
-fn watched(alloc: Global) -> Result<MemDepot, AllocError> {
-    let calls = [
-        Call::Begin,
-        Call::Commit,
-        Call::Replace,
-        Call::Fetch,
-        Call::List,
-        Call::Remove,
-        Call::ReadRecord,
-        Call::SwapRecord,
-    ];
-    let mut plan = Seq::new(alloc);
-    for call in calls {
-        plan.push(Failing {
-            call,
-            nth: 1,
-            leaves: Leaves::New,
-        })?;
-    }
-    Ok(MemDepot::new(alloc, plan))
-}
+/// Words of commands that are not there yet.
+const LATER: &str = "clone s1 c1
+clone s1 c1 logs
+delete s1
+cleanup
+check";
 
-/// Whether a run ends with status 2 and that line, and calls no container.
-fn is_refused(
-    rt: &impl Wait,
+/// Lets the first call of each kind of the container fail, so that its count of faults tells whether it was called.
+const WATCHED: &str = "! container begin 1 new
+! container commit 1 new
+! container replace 1 new
+! container fetch 1 new
+! container list 1 new
+! container remove 1 new
+! container read-record 1 new
+! container swap-record 1 new";
+
+/// A script, as lines of a scenario.
+const SCRIPT: &str = "> snapshot s1 logs/1/src\n> wait\n> list";
+
+/// That a run of these lines of a scenario ends with status 2 and that line, and calls no container.
+fn refused(
+    rt: &(impl Wait + Abort),
     alloc: Global,
-    words: &[&str],
+    title: &str,
     script: &str,
+    words: &str,
     printed: &str,
-) -> Result<bool, AllocError> {
-    let depot = watched(alloc)?;
-    let sources = sources_of(alloc, Seq::new(alloc))?;
-    let mut out = MemOut::new(alloc, 100, Seq::new(alloc))?;
-    let reads = Seq::new(alloc);
-    let left = run_over(rt, alloc, depot, &sources, words, script, reads, &mut out)?;
-    let is_untouched = left.depot.fault_count() == 0;
-    Ok(left.status == 2 && is_untouched && out.as_slice() == printed.as_bytes())
-}
-
-/// Whether a script in which that line is the fourth is refused for it.
-fn is_bad_line(rt: &impl Wait, alloc: Global, line: &str) -> Result<bool, AllocError> {
-    let script = format!(in alloc; "list\n\n# the fourth\n{line}\nwait\n")?;
-    is_refused(rt, alloc, &["run"], script.as_str(), "bad line 4\n")
-}
-
-/// Whether these words, which spaces part, are refused, and that is printed.
-fn are_refused(
-    rt: &impl Wait,
-    alloc: Global,
-    line: &str,
-    printed: &str,
-) -> Result<bool, AllocError> {
-    let mut words = Vec::new(alloc);
-    for word in line.split_whitespace() {
-        words.push(word)?;
-    }
-    is_refused(rt, alloc, &words, SCRIPT, printed)
+) -> Result<(), Fail> {
+    let scenario = format!(in alloc;
+        "{title}\n{WATCHED}\n{script}\n$ {words}\n{printed}\nexit 2\n? faults=0"
+    )?;
+    play(rt, alloc, scenario.as_str())
 }
 
 #[test]
 fn a_run_that_calls_a_watched_container_shows_it(rt: HostRuntime) -> Result<(), Fail> {
     let alloc = rt.alloc();
-    let (left, out) = run_on(&rt, alloc, watched(alloc)?, "")?;
-    assert_eq!(rt; left.depot.fault_count(), 1);
-    assert_eq!(rt; out.as_slice(), "depot fault at opening\n".as_bytes());
-    Ok(())
+    let scenario = format!(in alloc;
+        "watched\n{WATCHED}\n$ run\ndepot fault at opening\nexit 3\n? faults=1"
+    )?;
+    play(&rt, alloc, scenario.as_str())
 }
 
 #[test]
-fn lines_that_break_the_grammar(rt: HostRuntime) -> Result<(), Fail> {
+fn lines_that_are_bad(rt: HostRuntime) -> Result<(), Fail> {
+    let alloc = rt.alloc();
     for line in LINES.lines() {
         let (_, bad) = line.split_once(' ').unwrap_or(("", line));
-        assert!(rt; is_bad_line(&rt, rt.alloc(), bad)?, "{line}");
+        let script = format!(in alloc; "> list\n>\n> # the fourth\n> {bad}\n> wait")?;
+        refused(&rt, alloc, line, script.as_str(), "run", "bad line 4")?;
     }
     Ok(())
 }
 
 #[test]
-fn lines_whose_commands_are_not_there_yet(rt: HostRuntime) -> Result<(), Fail> {
-    for line in LATER.lines() {
-        assert!(rt; is_bad_line(&rt, rt.alloc(), line)?, "{line}");
-        let is_command = line != "failover";
-        let printed = if is_command {
-            "bad line 1\n"
-        } else {
-            "bad words\n"
-        };
-        assert!(rt; are_refused(&rt, rt.alloc(), line, printed)?, "{line}");
-    }
-    Ok(())
-}
-
-#[test]
-fn words_that_ask_for_nothing(rt: HostRuntime) -> Result<(), Fail> {
-    for line in WORDS.lines() {
-        assert!(rt;
-            are_refused(&rt, rt.alloc(), line, "bad words\n")?,
-            "{line}"
-        );
+fn words_that_are_bad(rt: HostRuntime) -> Result<(), Fail> {
+    for (table, printed) in [(WORDS, "bad words"), (LATER, "bad line 1")] {
+        for words in table.lines() {
+            refused(&rt, rt.alloc(), words, SCRIPT, words, printed)?;
+        }
     }
     Ok(())
 }
 
 #[test]
 fn the_first_bad_line_decides(rt: HostRuntime) -> Result<(), Fail> {
-    let cases = [
-        ("snapshot s1 logs/0/src", "bad line 1\n"),
-        ("wait\nwhat\nsnapshot\n", "bad line 2\n"),
-        ("\r\n\r\nsnapshot\nwhat \u{1}", "bad line 3\n"),
-        ("wait\ncleanup\ncheck\n", "bad line 2\n"),
+    let rows = [
+        (
+            "one without an end",
+            "| snapshot s1 logs/0/src",
+            "bad line 1",
+        ),
+        ("two", "> wait\n> what\n> snapshot", "bad line 2"),
+        (
+            "after two",
+            "> \r\n> \r\n> snapshot\n| what \u{1}",
+            "bad line 3",
+        ),
+        ("two of later", "> wait\n> cleanup\n> check", "bad line 2"),
     ];
-    for (script, printed) in cases {
-        assert!(rt;
-            is_refused(&rt, rt.alloc(), &["run"], script, printed)?,
-            "{script}"
-        );
+    for (title, script, printed) in rows {
+        refused(&rt, rt.alloc(), title, script, "run", printed)?;
     }
     Ok(())
 }
@@ -200,32 +165,41 @@ fn the_first_bad_line_decides(rt: HostRuntime) -> Result<(), Fail> {
 #[test]
 fn a_script_that_asks_for_nothing_begins_a_term(rt: HostRuntime) -> Result<(), Fail> {
     let alloc = rt.alloc();
-    for script in ["", "\n\n", "# wait", "   \r\n  # wait\n"] {
-        let depot = MemDepot::new(alloc, Seq::new(alloc));
-        let (mut left, out) = run_on(&rt, alloc, depot, script)?;
-        assert_eq!(rt; (left.status, out.as_slice().len()), (0, 0));
-        let record = r#"{"ops":[],"pending":-1,"safe":-1,"term":1}"#;
-        assert!(rt; has_record(alloc, &mut left.depot, record)?);
+    let record = r#"{"ops":[],"pending":-1,"safe":-1,"term":1}"#;
+    let rows = [
+        ("no byte", ""),
+        ("two empty lines", ">\n>\n"),
+        ("a comment", "| # wait\n"),
+        ("blanks and a comment", ">    \r\n>   # wait\n"),
+    ];
+    for (title, script) in rows {
+        let scenario = format!(in alloc; "{title}\n{script}$ run\nexit 0\n? record={record}")?;
+        play(&rt, alloc, scenario.as_str())?;
     }
     Ok(())
 }
 
-/// A script of 4,194,304 blanks.
-fn blanks(alloc: Global) -> Result<String, AllocError> {
-    let mut script = String::new(alloc);
-    for _ in 0..131_072 {
-        script.push_str("                                ")?;
-    }
-    Ok(script)
+/// 32 blanks; 131,072 times that is 4 MiB.
+const BLANKS: &str = "                                ";
+
+/// Whether the script is refused for its length, where that read of it would fail, and no container is called.
+fn is_too_long(rt: &impl Wait, alloc: Global, script: &str, read: u64) -> Result<bool, Fail> {
+    let depot = MemDepot::new(alloc, plan_of(alloc, WATCHED)?);
+    let mut mishaps = calm(1000);
+    mishaps.read = read;
+    let (depot, shown) = run_shown(rt, alloc, depot, "run", script, mishaps)?;
+    Ok(shown.as_str() == "bad script\nexit 2\n" && depot.fault_count() == 0)
 }
 
-// It is refused before its bad byte is looked at.
 #[test]
 fn a_script_of_more_than_4_mebibytes_is_refused(rt: HostRuntime) -> Result<(), Fail> {
-    let alloc = rt.alloc();
-    let mut script = blanks(alloc)?;
+    let mut script = repeated(rt.alloc(), "", BLANKS, 131_072)?;
+    // It is refused before its bad byte is looked at.
     script.push_str("\t")?;
     assert_eq!(rt; script.len(), 4_194_305);
-    assert!(rt; is_refused(&rt, alloc, &["run"], script.as_str(), "bad script\n")?);
+    assert!(rt; is_too_long(&rt, rt.alloc(), script.as_str(), 0)?);
+    // 64 pieces of 65,536 bytes and one byte are read; a read after that would fail.
+    let script = repeated(rt.alloc(), "", BLANKS, 131_073)?;
+    assert!(rt; is_too_long(&rt, rt.alloc(), script.as_str(), 66)?);
     Ok(())
 }

@@ -1,129 +1,204 @@
-//! What the runs share: sources, scripts, and what is looked for in a container in memory.
-use esr_depot::{CallError, Depot, Fetch, Stage};
-use esr_memdepot::MemDepot;
+//! What the runs share: the sources, a run, and what it shows.
+use esr_depot::Counted;
+use esr_desk::{FailedObject, Fault};
+use esr_memdepot::{MemDepot, MemFetch, MemStage};
 use esr_run::{Ended, run};
 use esr_script::Words;
 use esr_seq::{Bytes, Seq, Text};
 use esr_source::{
-    Address, FailingAt, MemFile, MemLines, MemOut, MemShard, MemSource, MemSources, MemTarget,
-    MemTargets, NoGate, Plan,
+    Address, Call, Failing, FailingAt, MemFile, MemLines, MemOut, MemShard, MemSource, MemSources,
+    MemTarget, MemTargets, NoGate, Plan,
 };
+use esr_targets::Restored;
 use std::alloc::{AllocError, Global};
 use std::sync::Wait;
-
-/// What a run over a container in memory leaves.
-pub(crate) type Left = Ended<MemDepot, MemShard, MemTarget>;
 
 pub(crate) const SCRIPT: &str = "snapshot s1 logs/1/src\nwait\nlist\n";
 
 /// The record after the script.
 pub(crate) const RECORD: &str = r#"{"ops":[],"pending":0,"safe":0,"term":1}"#;
 
-/// The root after the script.
-pub(crate) const ROOT: &str =
-    r#"{"indices":{"logs":{"id":"AAAAAAAAAAEAAAAAAAAAAQ","shard_generations":["AAAAAAAAAAEAAAAAAAAAAw"],"snapshots":["AAAAAAAAAAEAAAAAAAAAAA"]}},"snapshots":[{"name":"s1","state":1,"uuid":"AAAAAAAAAAEAAAAAAAAAAA"}]}"#;
+/// What a run over a container in memory leaves.
+pub(crate) type Left = Ended<MemDepot, MemShard, MemTarget>;
 
-fn words_of(alloc: Global, texts: &[&str]) -> Result<Words, AllocError> {
-    let mut words = Seq::new(alloc);
-    for text in texts {
-        words.push(Text::from_str(alloc, text)?)?;
-    }
-    Ok(words)
+/// An object that failed in such a run.
+type Failed = Fault<MemStage, MemFetch, MemShard, MemTarget>;
+
+/// The places, indices and files of the sources: a line each, with place, index, and names with texts.
+const SHARDS: &str = "src logs _0.cfs=abc
+new logs _0.cfs=xyz
+none logs
+empty logs _0.cfs=
+four logs _0.cfs=abcd
+five logs _0.cfs=abcde
+eight logs _0.cfs=abcdefgh
+long logs _0.cfs=abcdefghi _1.cfs=
+b other _0.cfs=abc";
+
+/// Which call of the source `src`, which read of the script and which write of the output fails, each counted from 1, and how
+/// many bytes the output takes.
+#[derive(Clone, Copy)]
+pub(crate) struct Mishaps {
+    pub source: Failing,
+    pub read: u64,
+    pub write: u64,
+    pub room: usize,
 }
 
-/// A shard with one file.
-fn source_of(alloc: Global, place: &str, index: &str) -> Result<MemSource, AllocError> {
+/// No call fails, and the output has room for that many bytes.
+pub(crate) fn calm(room: usize) -> Mishaps {
+    Mishaps {
+        source: Failing {
+            call: Call::List,
+            nth: 0,
+        },
+        read: 0,
+        write: 0,
+        room,
+    }
+}
+
+/// A text, and a line so many times after it.
+pub(crate) fn repeated(
+    alloc: Global,
+    front: &str,
+    line: &str,
+    count: u32,
+) -> Result<String, AllocError> {
+    let mut text = String::from_str(alloc, front)?;
+    for _ in 0..count {
+        text.push_str(line)?;
+    }
+    Ok(text)
+}
+
+/// The plan of that call.
+fn plan_of(alloc: Global, call: Call, nth: u64) -> Result<Plan, AllocError> {
+    let mut plan = Seq::new(alloc);
+    plan.push(Failing { call, nth })?;
+    Ok(plan)
+}
+
+/// The files of a shard, from names and texts.
+fn files_of(alloc: Global, texts: &str) -> Result<Seq<MemFile>, AllocError> {
     let mut files = Seq::new(alloc);
-    files.push(MemFile::new(alloc, "_0.cfs", "abc".as_bytes())?)?;
+    for text in texts.split_whitespace() {
+        let (name, bytes) = text.split_once('=').unwrap_or((text, ""));
+        files.push(MemFile::new(alloc, name, bytes.as_bytes())?)?;
+    }
+    Ok(files)
+}
+
+/// The shard of a line of the table.
+fn shard_of(alloc: Global, line: &str) -> Result<MemSource, AllocError> {
+    let (place, rest) = line.split_once(' ').unwrap_or((line, ""));
+    let (index, texts) = rest.split_once(' ').unwrap_or((rest, ""));
+    let files = files_of(alloc, texts)?;
     let address = Address::new(alloc, place, index, 0)?;
     Ok(MemSource { address, files })
 }
 
-/// Two shards with one file each.
-pub(crate) fn sources_of(alloc: Global, plan: Seq<FailingAt>) -> Result<MemSources, AllocError> {
-    let mut sources = Seq::new(alloc);
-    sources.push(source_of(alloc, "src", "logs")?)?;
-    sources.push(source_of(alloc, "b", "other")?)?;
-    Ok(MemSources::new(sources, plan))
+/// The shards of the table, of which that call of `src` fails.
+fn sources_of(alloc: Global, failing: Failing) -> Result<MemSources, AllocError> {
+    let mut shards = Seq::new(alloc);
+    for line in SHARDS.lines() {
+        shards.push(shard_of(alloc, line)?)?;
+    }
+    let Failing { call, nth } = failing;
+    let address = Address::new(alloc, "src", "logs", 0)?;
+    let mut plan = Seq::new(alloc);
+    plan.push(FailingAt { address, call, nth })?;
+    Ok(MemSources::new(shards, plan))
 }
 
-/// A run over that container and these sources, whose reads of the script fail by the plan.
+/// The words of a line.
+fn words_of(alloc: Global, line: &str) -> Result<Words, AllocError> {
+    let mut words = Seq::new(alloc);
+    for word in line.split_whitespace() {
+        words.push(Text::from_str(alloc, word)?)?;
+    }
+    Ok(words)
+}
+
+/// A run of a script over that container, by these words.
 pub(crate) fn run_over(
     rt: &impl Wait,
     alloc: Global,
     depot: MemDepot,
-    sources: &MemSources,
-    words: &[&str],
+    words: &str,
     script: &str,
-    reads: Plan,
+    mishaps: Mishaps,
     out: &mut MemOut,
 ) -> Result<Left, AllocError> {
     let words = words_of(alloc, words)?;
-    let mut lines = MemLines::new(Bytes::from_slice(alloc, script.as_bytes())?, reads);
+    let sources = sources_of(alloc, mishaps.source)?;
+    let bytes = Bytes::from_slice(alloc, script.as_bytes())?;
+    let mut lines = MemLines::new(bytes, plan_of(alloc, Call::Read, mishaps.read)?);
     let targets = MemTargets::new(Seq::new(alloc));
     Ok(run(
-        rt, alloc, &words, &mut lines, depot, sources, &targets, &NoGate, 0, out,
+        rt, alloc, &words, &mut lines, depot, &sources, &targets, &NoGate, 0, out,
     ))
 }
 
-/// A run of a script over that container, and what it printed.
-pub(crate) fn run_on(
+/// The container that such a run leaves, and what the run shows.
+pub(crate) fn run_shown(
     rt: &impl Wait,
     alloc: Global,
     depot: MemDepot,
+    words: &str,
     script: &str,
-) -> Result<(Left, MemOut), AllocError> {
-    let mut out = MemOut::new(alloc, 1000, Seq::new(alloc))?;
-    let sources = sources_of(alloc, Seq::new(alloc))?;
-    let reads = Seq::new(alloc);
-    let left = run_over(
-        rt,
-        alloc,
-        depot,
-        &sources,
-        &["run"],
-        script,
-        reads,
-        &mut out,
-    )?;
-    Ok((left, out))
+    mishaps: Mishaps,
+) -> Result<(MemDepot, String), AllocError> {
+    let writes = plan_of(alloc, Call::Write, mishaps.write)?;
+    let mut out = MemOut::new(alloc, mishaps.room, writes)?;
+    let left = run_over(rt, alloc, depot, words, script, mishaps, &mut out)?;
+    let shown = shown_by(alloc, out.as_slice(), &left)?;
+    Ok((left.depot, shown))
 }
 
-/// Puts a blob.
-pub(crate) fn put(
-    alloc: Global,
-    depot: &mut MemDepot,
-    name: &str,
-    text: &str,
-) -> Result<(), CallError> {
-    let mut stage = depot.begin(alloc, name, text.len())?;
-    stage.write(text.as_bytes())?;
-    depot.replace(alloc, stage)
-}
-
-/// Whether the blob of that name has that text.
-pub(crate) fn holds(
-    alloc: Global,
-    depot: &mut MemDepot,
-    name: &str,
-    text: &str,
-) -> Result<bool, CallError> {
-    let Some(mut fetch) = depot.fetch(alloc, name)? else {
-        return Ok(false);
-    };
-    let mut buf = [0; 512];
-    let count = fetch.read(&mut buf)?;
-    Ok(&buf[..count] == text.as_bytes())
-}
-
-/// Whether the record has that text.
-pub(crate) fn has_record(
-    alloc: Global,
-    depot: &mut MemDepot,
-    text: &str,
-) -> Result<bool, CallError> {
-    match depot.read_record(alloc)? {
-        Some(record) => Ok(record.as_slice() == text.as_bytes()),
-        None => Ok(false),
+/// What a run shows: its report, the objects that failed, the shards that it restored, and its exit status.
+fn shown_by(alloc: Global, report: &[u8], left: &Left) -> Result<String, AllocError> {
+    let mut text = String::from_str(alloc, str::from_utf8(report).unwrap_or("?"))?;
+    for fault in left.faults.as_slice() {
+        push_failed(alloc, &mut text, fault)?;
     }
+    for restored in left.targets.as_slice() {
+        push_restored(alloc, &mut text, restored)?;
+    }
+    let status = left.status;
+    text.push_str(format!(in alloc; "exit {status}\n")?.as_str())?;
+    Ok(text)
+}
+
+/// A line with what an object is that failed, and how often it did.
+fn push_failed(alloc: Global, text: &mut String, fault: &Failed) -> Result<(), AllocError> {
+    let (object, count) = match &fault.object {
+        FailedObject::Stage { stage } => ("stage", stage.fault_count()),
+        FailedObject::Fetch { fetch } => ("fetch", fetch.fault_count()),
+        FailedObject::Shard { shard } => ("shard", shard.fault_count()),
+        FailedObject::Target { target } => ("target", target.fault_count()),
+    };
+    let place = if fault.entry.is_none() {
+        " of the opening"
+    } else {
+        ""
+    };
+    text.push_str(format!(in alloc; "failed {object}{place} {count}\n")?.as_str())
+}
+
+/// A line with the number of the script's line, index, shard and files of a target.
+fn push_restored(
+    alloc: Global,
+    text: &mut String,
+    restored: &Restored<MemTarget>,
+) -> Result<(), AllocError> {
+    let (line, shard) = (restored.line, restored.shard);
+    let index = restored.index.as_str();
+    text.push_str(format!(in alloc; "restored {line} {index} {shard}")?.as_str())?;
+    for file in restored.target.files() {
+        let bytes = str::from_utf8(file.bytes.as_slice()).unwrap_or("?");
+        let name = file.name.as_str();
+        text.push_str(format!(in alloc; " {name}={bytes}")?.as_str())?;
+    }
+    text.push_str("\n")
 }

@@ -1,4 +1,4 @@
-use Rattle.std.proofs.Common.{◌≡◌, ℕ, suc, ◌+◌, ◌<◌, [], false, None, Some, option_map, map, refl, sym, ap, subst, ◌∙◌, arith, nat_cmp}
+use Rattle.std.proofs.Common.{◌≡◌, ℕ, suc, ◌+◌, ◌^◌, ◌<◌, [], false, None, Some, option_map, map, refl, sym, ap, subst, ◌∙◌, arith, nat_cmp}
 use Rattle.std.specs.FinMap as fin
 use Rattle.esr_model.specs.Values.{RootData}
 use Rattle.esr_model.specs.Kept.{first_id}
@@ -132,18 +132,20 @@ op_more p new next accepted commands.Cleanup askable is = absurd askable
 pub loop-number-init : goal.loop-number-init
 loop-number-init c =
     let at_start = c.new-list.ensures in
+    let first = c.new-first.result.number in
+    let below : first < 2 ^ 65 = omega (arith, c.new-first.ensures, c.ranges.counter) in
     record {
-      named = subst (λ (p : Plan). Named no_root p.ops c.args.first.number) (sym at_start) (nothing_named c.args.first.number);
+      named = subst (λ (p : Plan). Named no_root p.ops first) (sym at_start) (nothing_named first);
       seats = λ k. subst (λ (p : Plan). fin.get p.seats k ≡ None) (sym at_start) (fin.get-empty nat_cmp k);
       op = ap (λ (p : Plan). p.next_op) at_start;
-      in_term = c.requires;
+      in_term = below;
       restores = λ o. subst (λ (p : Plan). fin.get p.restores o ≡ None) (sym at_start) (fin.get-empty nat_cmp o);
       restore_count = subst (λ (p : Plan). fin.len p.restores ≡ 0) (sym at_start) (fin.len-empty nat_cmp RestorePlan);
       readers = λ k. subst (λ (p : Plan). fin.get p.readers k ≡ None) (sym at_start) (fin.get-empty nat_cmp k);
     }
 
 pub accept-requires-clause-named : goal.accept-requires-clause-named
-accept-requires-clause-named c = subst (λ (r : RootData). Named r c.loop-number.list.ops c.loop-number.next.number) (sym (ap root_of c.new-root.ensures)) c.loop-number.invariant.named
+accept-requires-clause-named c = subst (λ (r : RootData). Named r c.loop-number.list.ops c.loop-number.next.number) (sym (ap root_of c.requires)) c.loop-number.invariant.named
 
 pub accept-requires-clause-in_term : goal.accept-requires-clause-in_term
 accept-requires-clause-in_term c = c.loop-number.invariant.in_term
@@ -155,7 +157,7 @@ pub overflow_add-next : goal.overflow_add-next
 overflow_add-next c =
     let list = c.loop-number.list in
     let next = c.loop-number.next.number in
-    let h = c.in-Ok.ensures (world_with list next) (subst (λ (r : RootData). IsAskedIn list r 1 next (world_with list next)) (sym (ap root_of c.new-root.ensures)) (asked_in list next c.loop-number.invariant.seats (record { restores = c.loop-number.invariant.restores; count = c.loop-number.invariant.restore_count; readers = c.loop-number.invariant.readers }))) in
+    let h = c.in-Ok.ensures (world_with list next) (subst (λ (r : RootData). IsAskedIn list r 1 next (world_with list next)) (sym (ap root_of c.requires)) (asked_in list next c.loop-number.invariant.seats (record { restores = c.loop-number.invariant.restores; count = c.loop-number.invariant.restore_count; readers = c.loop-number.invariant.readers }))) in
     let fits : next + c.in-Ok.accepted.drawn < first_id 2 = h.1.fits in
     omega (arith, fits, c.from.ensures)
 
@@ -164,7 +166,7 @@ loop-number-preserved c =
     let list = c.loop-number.list in
     let next = c.loop-number.next.number in
     let command = c.in_ok-command.command in
-    let h = c.in-Ok.ensures (world_with list next) (subst (λ (r : RootData). IsAskedIn list r 1 next (world_with list next)) (sym (ap root_of c.new-root.ensures)) (asked_in list next c.loop-number.invariant.seats (record { restores = c.loop-number.invariant.restores; count = c.loop-number.invariant.restore_count; readers = c.loop-number.invariant.readers }))) in
+    let h = c.in-Ok.ensures (world_with list next) (subst (λ (r : RootData). IsAskedIn list r 1 next (world_with list next)) (sym (ap root_of c.requires)) (asked_in list next c.loop-number.invariant.seats (record { restores = c.loop-number.invariant.restores; count = c.loop-number.invariant.restore_count; readers = c.loop-number.invariant.readers }))) in
     let fits : next + c.in-Ok.accepted.drawn < first_id 2 = h.1.fits in
     let op : c.in-Ok.new.next_op ≡ suc list.next_op = op_more list c.in-Ok.new next c.in-Ok.accepted command c.in_ok-command.ensures h.1 in
     let was : list.next_op ≡ c.loop-number.number-counter + 1 = c.loop-number.invariant.op in
