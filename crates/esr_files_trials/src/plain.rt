@@ -140,6 +140,7 @@ const DATA_0: &str = "indices/AAAAAAAAAAEAAAAAAAAAAQ/0/__AAAAAAAAAAEAAAAAAAAAAg.
 
 const DATA_1: &str = "indices/AAAAAAAAAAEAAAAAAAAAAQ/0/__AAAAAAAAAAEAAAAAAAAAAg.part1";
 
+// A table is proved anew in each function that names it, so these two alone name the images.
 fn one() -> &'static [Blob] {
     &ONE
 }

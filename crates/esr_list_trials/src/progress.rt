@@ -27,8 +27,8 @@ fn logs_command(alloc: Global, name: &str) -> Result<Command, Fail>
     })
 }
 
-/// What so many commands on an empty list are answered in term 1 over an empty root, whose ids are drawn from this counter on, up to the first
-/// that is refused: the last that was accepted, and the refusal.
+/// What so many commands on an empty list are answered in term 1, whose ids are drawn from this counter on, up to the first
+/// that is refused: the last that was accepted, and the refusal. The root is empty.
 fn answers(
     alloc: Global,
     root: &RootData,
