@@ -1,11 +1,17 @@
 #!/usr/bin/env bash
-# Measures snapshots of a tree of SHARDS shards, MB megabytes in all, in a folder below ROOM: a first one, and a second without
-# any change, and a restore of it, whose files are compared with the sources; beside the kit's own sha2, sha256sum and cp -r over the same bytes, in one run. Where strace is there, the system
-# calls that sync are counted too, in one more first and second snapshot.
+# Measures, on a tree of SHARDS shards, MB megabytes in all, in a folder below ROOM: a first snapshot, a second without any change, a
+# check, a third after a change, and restores of the first and the third, each compared with its tree byte by byte; beside the kit's own
+# sha2, sha256sum and cp -r over as many bytes, in one run. The shares are of the rates of the kit's sha2: by the clock, and by processor
+# second. Then a byte of a blob is changed, and the check must name that blob. Where strace is there, the system calls that sync are
+# counted too, in one more first and second snapshot. One thread works.
 # The program must be built (`./esrepo help` builds nothing; `./esrepo list` does).
 set -euo pipefail
+export LC_ALL=C
 here=$(cd "$(dirname "$0")" && pwd)
-program=$here/../../crates/esr_cli/out/esr_cli
+program=$(cd "$here/../.." && pwd)/crates/esr_cli/out/esr_cli
+[ -x "$program" ] || { echo "not built: $program" >&2; exit 1; }
+# python itself, since what a wrapper of it takes would count too
+python=$(python3 -c 'import sys; print(sys.executable)')
 megabytes=${MB:-1024} shards=${SHARDS:-8}
 room=$(mktemp -d "${ROOM:-/tmp}/esr_folders_bench.XXXXXX")
 trap 'rm -rf "$room"' EXIT
@@ -29,16 +35,29 @@ done
 total=$((each * 4 * shards))
 sync
 
-row() { # name, command
-    python3 - "$total" "$@" <<'PY'
-import os, resource, subprocess, sys, time
-total, name, command = int(sys.argv[1]), sys.argv[2], sys.argv[3]
-start = time.monotonic()
-child = subprocess.Popen(["sh", "-c", command])
-_, status, used = os.wait4(child.pid, 0)
-wall, busy = time.monotonic() - start, used.ru_utime + used.ru_stime
-print(f"| {name} | {wall:.2f} | {total / wall:.0f} | {busy:.2f} | {total / busy:.0f} | {used.ru_maxrss / 1024:.1f} | {os.waitstatus_to_exitcode(status)} |", flush=True)
+row() { # name, command: what the command took, by the clock of the shell that ran it and the system's count of its children
+    (
+        start=$EPOCHREALTIME status=0
+        eval "$2" > said || status=$?
+        exec "$python" - "$total" "$1" "$start" "$EPOCHREALTIME" "$status" <<'PY'
+import os, resource, sys
+total, name, wall, status = int(sys.argv[1]), sys.argv[2], float(sys.argv[4]) - float(sys.argv[3]), sys.argv[5]
+used = resource.getrusage(resource.RUSAGE_CHILDREN)
+busy = max(used.ru_utime + used.ru_stime, 1e-6)
+if not os.path.exists("rates"): # those of the first row
+    print(total / wall, total / busy, file=open("rates", "w"))
+wall_rate, busy_rate = map(float, open("rates").read().split())
+print(f"| {name} | {wall:.2f} | {total / wall:.0f} | {total / wall / wall_rate:.2f} | {busy:.2f} | {total / busy:.0f} | {total / busy / busy_rate:.2f} | {used.ru_maxrss / 1024:.1f} | {status} |", flush=True)
 PY
+    )
+}
+
+says() { # a line, which the last command must have printed
+    grep -qx -- "$1" said || { echo "it didn't say: $1" >&2; cat said >&2; exit 1; }
+}
+
+change() { # file, place: another byte at that place
+    printf '%b' "$(printf '\\x%02x' $(($(od -An -tu1 -j "$2" -N 1 "$1") ^ 1)))" | dd of="$1" bs=1 seek="$2" conv=notrunc status=none
 }
 
 cd "$room"
@@ -46,17 +65,38 @@ echo "$(uname -m), $(nproc) processors, $(sed -n 's/^model name[^:]*: //p' /proc
 rt version | head -1
 echo "$total MB in $shards shards of 4 files"
 echo
-echo '| job | s | MB/s | processor s | MB / processor s | MB of memory | status |'
-echo '|---|---|---|---|---|---|---|'
-row 'sha2 of the kit' "cat src/*/* | exec $hash > /dev/null"
-row 'sha256sum' 'exec sha256sum src/*/* > /dev/null'
+echo '| job | s | MB/s | share | processor s | MB / processor s | share | MB of memory | status |'
+echo '|---|---|---|---|---|---|---|---|---|'
+row 'sha2 of the kit' "for file in src/*/*; do $hash < \$file; done"
+row 'sha256sum' 'sha256sum src/*/*'
 row 'cp -r' 'cp -r src copy && sync copy'
-row 'first snapshot' "exec $program snapshot s1 logs/$shards/src > /dev/null"
-row 'second snapshot, no change' "exec $program snapshot s2 logs/$shards/src > /dev/null"
-row 'restore' "exec $program restore s2 out > /dev/null"
-diff -r src out/logs
-row 'list' "exec $program list > /dev/null"
-row 'start-up: words that are bad' "exec $program list more > /dev/null"
+row 'first snapshot' "$program snapshot s1 logs/$shards/src"
+row 'second snapshot, no change' "$program snapshot s2 logs/$shards/src"
+row 'check of both' "$program check"
+says '1 check ok snapshots 2 blobs [0-9]*'
+
+change src/0/_0.cfs $((each * 524288))
+rm src/0/_1.cfs
+head -c "$((each * 1048576))" /dev/urandom > src/0/_4.cfs
+row 'third snapshot, a file changed, one less, one more' "$program snapshot s3 logs/$shards/src"
+row 'restore of the first' "$program restore s1 old"
+diff -r copy old/logs
+rm -r copy old
+row 'restore of the third' "$program restore s3 new"
+diff -r src new/logs
+rm -r new
+row 'list' "$program list"
+row 'start-up: words that are bad' "$program list more"
+echo
+echo 'both restores are as their trees were, byte by byte'
+
+blob=$(find repo/blobs -name '__*' | sort | sed -n 1p)
+change "$blob" $((each * 1024))
+name=${blob#repo/blobs/} status=0
+"$program" check > said || status=$?
+says "1 check failed damaged ${name%.part*}"
+[ "$status" = 4 ] || { echo "its status is $status, not 4" >&2; exit 1; }
+echo "a byte of $name was changed: $(sed -n 1p said)"
 
 syncs() { # name of the snapshot: how often the program syncs, by system call
     strace -f -qq -c -o trace -e trace=fsync,fdatasync,syncfs,sync,sync_file_range,msync "$program" --repo traced snapshot "$1" "logs/$shards/src" > /dev/null

@@ -1,6 +1,6 @@
 -- What a step of a verification needs, by what who 0 has done.
 use Rattle.std.specs.Prelude.{◌≡◌, ◌⊎◌, ℕ, ◌≤◌, true, false, List, length, Option, Some, None}
-use Rattle.esr_model.specs.Names.{BlobName}
+use Rattle.esr_model.specs.Names.{BlobName, TestMaster}
 use Rattle.esr_model.specs.Values.{Bytes, Has}
 use Rattle.esr_core.specs.World.{Caller}
 use Rattle.esr_core.specs.Restores.{IsTestOf}
@@ -44,8 +44,9 @@ pub record CanRemove (c : Caller) (names : List BlobName) : Type 0 where
   pub few : length names ≤ 1000
   pub committed : (name : BlobName) → Has names name → Has c.committed name
 
--- all was well: each test blob was there, and then was removed
+-- all was well: the master's test blob was committed, and each one was there, and then was removed
 pub record CanEnd (c : Caller) : Type 0 where
   pub drawn : c.drawn ≡ None → ⊥
+  pub master : (id : ℕ) → c.drawn ≡ Some id → Has c.committed (TestMaster id)
   pub found : (name : BlobName) → Has c.committed name → Has c.found name
   pub removed : (name : BlobName) → Has c.committed name → Has c.removed name

@@ -1,5 +1,5 @@
 -- What shows why a verification failed.
-use Rattle.std.specs.Prelude.{◌≡◌, ◌⊎◌, ◌≤◌, ◌^◌, ℕ, true, List, ◌∷◌, ◌++◌, length, Some}
+use Rattle.std.specs.Prelude.{◌≡◌, ◌⊎◌, ◌≤◌, ◌^◌, ℕ, true, false, List, ◌∷◌, ◌++◌, length, Some}
 use Rattle.esr_model.specs.Names.{BlobName}
 use Rattle.esr_model.specs.Values.{Bytes, Has}
 use Rattle.esr_core.specs.World.{Caller}
@@ -49,13 +49,13 @@ pub record HadNoId (log : List Moment) (c : Caller) (next : ℕ) : Type 0 where
 abbrev pub HadFault : List Moment → Caller → Type 0
 HadFault log c = (step : Step) × HadReply log c step (Refused DepotFault)
 
--- a stage or a fetch has failed, or the container did in a step
+-- a stage or a fetch has failed, or the container did in a step, which it can't where it is quiet
 abbrev pub DepotShown : {S F H T : Type 0} → Counts S F → Start → List Moment → Caller → By S F H T → Type 0
 DepotShown c s log caller (by.Object (objects.Stage stage)) = Faulty s (c.stage stage)
 DepotShown c s log caller (by.Object (objects.Fetch fetch)) = Faulty s (c.fetch fetch)
 DepotShown c s log caller (by.Object (objects.Shard shard)) = ⊥
 DepotShown c s log caller (by.Object (objects.Target target)) = ⊥
-DepotShown c s log caller by.Entry = HadFault log caller
+DepotShown c s log caller by.Entry = HadFault log caller × (s.quiet ≡ false)
 DepotShown c s log caller by.Nothing = ⊥
 
 -- a test blob that was committed and not removed is absent
@@ -64,11 +64,12 @@ pub record IsAbsent (log : List Moment) (c : Caller) (name : BlobName) : Type 0 
   pub unremoved : Has c.removed name → ⊥
   pub missing : HadReply log c (ReadStep (ReadBlob name)) WasAbsent
 
--- what was read of a test blob isn't the text of its id, though it has its print, or is too much to have one
+-- what was read of a test blob that was fetched, and there, isn't the text of its id, though it has its print, or is too much to have one
 pub record IsOther (s : Start) (c : Caller) (name : BlobName) : Type 0 where
   pub id : ℕ
   pub drawn : c.drawn ≡ Some id
   pub committed : Has c.committed name
+  pub there : Has c.found name
   pub bytes : Bytes
   pub read : s.tells ≡ true → WasRead c.read name bytes
   pub differ : bytes ≡ id_text id → ⊥
@@ -78,11 +79,12 @@ pub record IsOther (s : Start) (c : Caller) (name : BlobName) : Type 0 where
 abbrev pub IsDamaged : Start → List Moment → Caller → BlobName → Type 0
 IsDamaged s log c name = IsAbsent log c name ⊎ IsOther s c name
 
--- what was read of a test blob has another print than the text of its id
+-- what was read of a test blob that was fetched, and there, has another print than the text of its id
 pub record IsMisprinted (s : Start) (c : Caller) (name : BlobName) (stated_len : ℕ) (stated_digest : Bytes) (found_len : ℕ) (found_digest : Bytes) : Type 0 where
   pub id : ℕ
   pub drawn : c.drawn ≡ Some id
   pub committed : Has c.committed name
+  pub there : Has c.found name
   pub bytes : Bytes
   pub read : s.tells ≡ true → WasRead c.read name bytes
   pub stated_len_is : stated_len ≡ length (id_text id)

@@ -6,7 +6,7 @@ use Rattle.esr_core.specs.Entry.{Asked, Restore, DrawTest, VerifiedAll, Step, As
 use Rattle.esr_script.specs.declared.item.Item.{Item}
 use Rattle.esr_script.specs.declared.item.Item.TheVariants as items
 use Rattle.esr_script.specs.declared.item.ScriptLine.{ScriptLine}
-use Rattle.esr_report.specs.Replies.{Reply, fails_swap, answer_at, is_of_line, from_line, falls_before, falls_first, line_reply, wait_reply, is_wait, and_more, replies_from, replies}
+use Rattle.esr_report.specs.Replies.{Reply, fails_swap, answer_at, is_of_line, from_line, falls_before, falls_first, is_check, past_look, from_item, check_answer, line_answer, line_reply, wait_reply, is_wait, and_more, replies_from, replies}
 use Rattle.esr_quiet.specs.Asked.{is_asked, asked_steps}
 use Rattle.esr_complete.specs.Lines.{index_of_line, command_of_line, steps_of_item, steps_of, IsKnown, AreKnown, entries_of}
 use Rattle.esr_complete.specs.Answers.{IsAnswer, AreAnswered}
@@ -141,42 +141,53 @@ answered_next : (item : Item) (lines : List ScriptLine) (answer : Option Reply) 
 answered_next item lines None es more is rest = absurd is
 answered_next item lines (Some reply) es more is rest = (is, rest)
 
+-- a line that is no check is answered by the first entry that belongs to a line
+no_look : (checks : Bool) (es : List Entry) → checks ≡ false → past_look checks es ≡ es
+no_look false [] none = refl
+no_look false (e ∷ es) none = refl
+no_look true es none = absurd cc
+
+answer_other : (checks : Bool) (one two : Option Reply) → checks ≡ false → (if checks then one else two) ≡ two
+answer_other false one two none = refl
+answer_other true one two none = absurd cc
+
 -- an entry of the line, with the answer that it tells
-by_entry : (all rest : List Entry) (item : Item) (lines : List ScriptLine) (P : Entry → Type 0) (more : List Step) → ((x : Entry) → Has rest x → Fact all x) → (n : Next all rest P more) → IsAnswerOf item (answer_at all n.e.step n.e.reply)
+by_entry : (all rest : List Entry) (item : Item) (lines : List ScriptLine) (P : Entry → Type 0) (more : List Step) → is_check item ≡ false → ((x : Entry) → Has rest x → Fact all x) → (n : Next all rest P more) → IsAnswerOf item (answer_at all n.e.step n.e.reply)
     → AreAnswered lines (replies_from all lines false n.es)
-    → IsFirst item lines (and_more (line_reply all (from_line rest)) (replies_from all lines (false || (falls_before rest || falls_first (from_line rest)))))
-by_entry all rest item lines P more facts n answer after =
-    subst (λ (es : List Entry). IsFirst item lines (and_more (line_reply all es) (replies_from all lines (false || (falls_before rest || falls_first es))))) (sym n.is)
-    (subst (λ (b : Bool). IsFirst item lines (and_more (line_reply all (n.e ∷ n.es)) (replies_from all lines (false || b))))
+    → IsFirst item lines (and_more (line_reply item all (from_item item rest)) (replies_from all lines (false || (falls_before rest || falls_first (from_item item rest)))))
+by_entry all rest item lines P more other facts n answer after =
+    subst (λ (es : List Entry). IsFirst item lines (and_more (line_reply item all es) (replies_from all lines (false || (falls_before rest || falls_first es))))) (sym (no_look (is_check item) (from_line rest) other ∙ n.is))
+    (subst (λ (b : Bool). IsFirst item lines (and_more (line_reply item all (n.e ∷ n.es)) (replies_from all lines (false || b))))
     (sym (neither (falls_before rest) (fails_swap n.e.step n.e.reply) (unfallen_before all rest facts) n.fact.unfallen))
-    (answered_next item lines (answer_at all n.e.step n.e.reply) n.es (replies_from all lines false) answer after))
+    (answered_next item lines (line_answer item all n.e.step n.e.reply) n.es (replies_from all lines false)
+    (subst (λ (o : Option Reply). IsAnswerOf item o) (sym (answer_other (is_check item) (check_answer n.e.step n.e.reply) (answer_at all n.e.step n.e.reply) other)) answer) after))
 
 walk_item : (all rest : List Entry) (moment : ℕ) (item : Item) (lines : List ScriptLine) → ((x : Entry) → Has rest x → Fact all x) → IsKnown item → InTurn false rest → steps_asked rest ≡ steps_of_item moment item ++ steps_of moment lines
     → ((es : List Entry) → ((x : Entry) → Has es x → Fact all x) → InTurn false es → steps_asked es ≡ steps_of moment lines → AreAnswered lines (replies_from all lines false es))
     → IsFirst item lines
-    (if is_wait item then wait_reply (false || falls_before rest) ∷ replies_from all lines false rest else and_more (line_reply all (from_line rest)) (replies_from all lines (false || (falls_before rest || falls_first (from_line rest)))))
+    (if is_wait item then wait_reply (false || falls_before rest) ∷ replies_from all lines false rest else and_more (line_reply item all (from_item item rest)) (replies_from all lines (false || (falls_before rest || falls_first (from_item item rest)))))
 walk_item all rest moment (items.Snapshot name indices) lines facts known turn e on =
     let step : Step = AskStep (command_of_line name indices moment) in
     let n = next_line all step (steps_of moment lines) rest facts (ask_no_read (command_of_line name indices moment)) turn e in
-    by_entry all rest (items.Snapshot name indices) lines (λ x. x.step ≡ step) (steps_of moment lines) facts n
+    by_entry all rest (items.Snapshot name indices) lines (λ x. x.step ≡ step) (steps_of moment lines) refl facts n
     (subst (λ (x : Step). IsAnswerOf (items.Snapshot name indices) (answer_at all x n.e.reply)) (sym n.own) (n.fact.asked name (map index_of_line indices) moment n.own name indices))
     (on n.es n.facts n.turn n.more_is)
 walk_item all rest moment (items.Restore name place) lines facts known turn e on =
     let step : Step = AskStep (Restore name place) in
     let n = next_line all step (steps_of moment lines) rest facts (ask_no_read (Restore name place)) turn e in
-    by_entry all rest (items.Restore name place) lines (λ x. x.step ≡ step) (steps_of moment lines) facts n
+    by_entry all rest (items.Restore name place) lines (λ x. x.step ≡ step) (steps_of moment lines) refl facts n
     (subst (λ (x : Step). IsAnswerOf (items.Restore name place) (answer_at all x n.e.reply)) (sym n.own) (n.fact.restored name place n.own name place))
     (on n.es n.facts n.turn n.more_is)
 walk_item all rest moment items.Wait lines facts known turn e on =
     subst (λ (b : Bool). IsFirst items.Wait lines (wait_reply (false || b) ∷ replies_from all lines false rest)) (sym (unfallen_before all rest facts)) (tt, on rest facts turn e)
 walk_item all rest moment items.List lines facts known turn e on =
     let n = next_line all LookStep (steps_of moment lines) rest facts look_no_read turn e in
-    by_entry all rest items.List lines (λ x. x.step ≡ LookStep) (steps_of moment lines) facts n
+    by_entry all rest items.List lines (λ x. x.step ≡ LookStep) (steps_of moment lines) refl facts n
     (subst (λ (x : Step). IsAnswerOf items.List (answer_at all x n.e.reply)) (sym n.own) (n.fact.looked n.own))
     (on n.es n.facts n.turn n.more_is)
 walk_item all rest moment items.Verify lines facts known turn e on =
     let n = next_verified all (steps_of moment lines) rest facts turn e in
-    by_entry all rest items.Verify lines IsVerified (steps_of moment lines) facts n
+    by_entry all rest items.Verify lines IsVerified (steps_of moment lines) refl facts n
     (subst (λ (x : Step). IsAnswerOf items.Verify (answer_at all x n.e.reply)) (sym n.own.0) (subst (λ (r : entry.Reply). IsAnswerOf items.Verify (answer_at all (ReadStep VerifiedAll) r)) (sym n.own.1) tt))
     (on n.es n.facts n.turn n.more_is)
 walk_item all rest moment item lines facts known turn e on = absurd known

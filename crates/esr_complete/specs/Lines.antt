@@ -14,7 +14,8 @@ index_of_line a = record { name = a.name; shards = a.shards; place = a.place }
 abbrev pub command_of_line : Bytes → List LineIndex → ℕ → Asked
 command_of_line name indices moment = Snapshot name (map index_of_line indices) moment
 
--- the step that a line asks for: a verification begins with its draw; a wait asks for none, nor does a command that is not there yet
+-- the step that a line asks for: a check begins with its look, a verification with its draw; a wait asks for none, nor does a command
+-- that is not there yet
 abbrev pub steps_of_item : ℕ → Item → List Step
 steps_of_item moment (items.Snapshot name indices) = AskStep (command_of_line name indices moment) ∷ []
 steps_of_item moment (items.Clone source name indices) = []
@@ -24,7 +25,7 @@ steps_of_item moment items.Cleanup = []
 steps_of_item moment items.Failover = []
 steps_of_item moment items.Wait = []
 steps_of_item moment items.List = LookStep ∷ []
-steps_of_item moment items.Check = []
+steps_of_item moment items.Check = LookStep ∷ []
 steps_of_item moment items.Verify = ReadStep DrawTest ∷ []
 
 -- the steps that lines ask for, in order

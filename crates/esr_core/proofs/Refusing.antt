@@ -19,9 +19,9 @@ use Rattle.esr_core.specs.Refusing.{MayRefuse, InCleanup, InUse, InFull, NoIdFor
 
 module _ (f : Formats) (size : ℕ) (w : World) where
   restore_refused : (name place : Bytes) (refusal : Refusal) (image : Option Image) → RestoreAllows f w name (Refused refusal) image → MayRefuse (AskStep (Restore name place)) refusal
-  restore_refused name place refusal image (allowed.NotListed im none) = NotListed name place 0
+  restore_refused name place refusal image (allowed.NotListed im none) = NotListed name place
   restore_refused name place refusal image (allowed.NamedByDelete uuid d im listed named) = NamedByDelete name place d
-  restore_refused name place refusal image (allowed.FullOfRestores uuid im listed spared full) = FullOfRestores name place 1000
+  restore_refused name place refusal image (allowed.FullOfRestores uuid im listed spared full) = FullOfRestores name place
 
   read_refused : (k : ℕ) (read : Read) (refusal : Refusal) (image : Option Image) → ReadAllows f w k read (Refused refusal) image → MayRefuse (ReadStep read) refusal
   read_refused k read refusal image (allowed.ReadFault j name im stored by) = ReadFault name
@@ -37,9 +37,9 @@ module _ (f : Formats) (size : ℕ) (w : World) where
   refused_by who step refusal image (allowed.AskingRestore name place rep im h same) = restore_refused name place refusal image h
   refused_by who step refusal image (allowed.Verifying read rep im h) = verify_refused read refusal image h
   refused_by who step refusal image (allowed.Reading k read rep im h same) = read_refused k read refusal image h
-  refused_by who step refusal image (allowed.Cleaning command d x im recorded there clean same) = InCleanup command d
+  refused_by who step refusal image (allowed.Cleaning command d x im recorded there clean same) = InCleanup command d recorded
   refused_by who step refusal image (allowed.Used name indices moment uuid im clear is same) = InUse name indices moment uuid
-  refused_by who step refusal image (allowed.Full name indices moment im clear unused full same) = InFull name indices moment 1000
+  refused_by who step refusal image (allowed.Full name indices moment im clear unused full same) = InFull name indices moment
   refused_by who step refusal image (allowed.AskSpent name indices moment im clear unused room spent same) = NoIdForAsk name indices moment w.next_id
   refused_by who step refusal image (allowed.DrawSpent k n im may spent same) = NoIds n w.next_id
   refused_by who step refusal image (allowed.RaiseStale k im may apart same) = RaiseStale may.t.term w.term

@@ -1,12 +1,13 @@
 -- What each step asks of the world before it, by its answer.
 use Rattle.std.specs.Prelude.{◌≡◌, ◌≢◌, ◌⊎◌, ℕ, zero, suc, ◌+◌, ◌-◌, ◌^◌, ◌<◌, ◌≤◌, true, false, List, [], ◌∷◌, length, sum_by, min, Option, Some, None}
 use Rattle.std.specs.FinMap as fin
-use Rattle.esr_model.specs.Names.{BlobName, Root, Latest, Snap, ShardSnap, ShardIndex}
+use Rattle.esr_model.specs.Names.{BlobName, Root, Latest, Snap, ShardSnap, ShardIndex, TestMaster}
 use Rattle.esr_model.specs.Values.{Bytes, Has, IndexRef, RootSnap, RootIndex, RootData, SnapInfo, ShardSnapshot, ShardFiles, ShardResult, ReadsBack, Formats}
 use Rattle.esr_model.specs.Shelf.{Shelved, names_uuid}
 use Rattle.esr_model.specs.Kept.{first_id}
 use Rattle.esr_model.specs.Finalize.{finalized_root}
-use Rattle.esr_model.specs.Image.{Blobs, Image, AllPairs, IsStored, At, Present, Reads, FileStands, Generation, Whole}
+use Rattle.esr_model.specs.Image.{Blobs, Image, AllPairs, IsStored, At, Present, Reads, FileStands, Generation}
+use Rattle.esr_model.specs.Agreement.{RootAgrees}
 use Rattle.esr_model.specs.Reach.{Reached}
 use Rattle.esr_model.specs.Uploads.{entries_from, id_after, shard_blobs, with_snap, no_files}
 use Rattle.esr_core.specs.World.{World, Op, Deletion, ShardWork, Out, Unread, RestoreShard, Restoring, Reader, Shard, Finalize, Drop, Ticket, Swap, swap, info_of, metadata, record_of}
@@ -197,10 +198,11 @@ pub record Commits (f : Formats) (w : World) (k : ℕ) (name : BlobName) : Type 
   pub named : IsStored f name
   pub may : MayCommit f t name bytes
 
--- a finalization's name may be there already
+-- a finalization's name may be there already, before its settle
 pub record Refinds (f : Formats) (w : World) (k : ℕ) (name : BlobName) : Type 0 where
   pub t : Ticket
   pub out : IsOut w k t
+  pub unsettled : t.settled ≡ false
   pub info : SnapInfo
   pub results : List ShardResult
   pub made : Shelved
@@ -332,14 +334,21 @@ IsMetadata name = (u : ℕ) × IsMetaOf u name
 abbrev pub MayRead : Formats → Reader → BlobName → Option Image → Type 0
 MayRead f q name image = (name ≡ ShardSnap q.index q.number q.uuid) ⊎ (IsPiece q.index q.number name × Told image (λ blobs. ListsPiece f q name))
 
--- the safe root, or what it reaches
+-- a check is open: a look has begun it, and no verification is open
+pub record IsChecking (w : World) : Type 0 where
+  pub looked : w.caller.looked ≡ true
+  pub undrawn : w.caller.drawn ≡ None
+  pub unspent : w.caller.spent ≡ false
+
+-- what the safe root reaches, its own name with it: by the root that is read under that name, and by the indices of its shards as
+-- they are read
 abbrev pub InReach : Formats → World → BlobName → Type 0
-InReach f w name = ((n : ℕ) × (w.safe ≡ suc n) × (name ≡ Root n)) ⊎ Reached f (At f w.blobs) w.root name
+InReach f w name =
+    (n : ℕ) × (w.safe ≡ suc n) × ((name ≡ Root n) ⊎ ((root : RootData) × Reads (At f w.blobs) (Root n) f.root root × Reached f (At f w.blobs) root name))
 
 -- a check fetches each of these once
 pub record MayCheck (f : Formats) (w : World) (name : BlobName) (image : Option Image) : Type 0 where
-  pub looked : w.caller.looked ≡ true
-  pub idle : w.caller.drawn ≡ None
+  pub is_open : IsChecking w
   pub unfetched : Has w.caller.fetched name → ⊥
   pub reached : Told image (λ blobs. InReach f w name)
 
@@ -366,19 +375,20 @@ pub record RestoredBy (f : Formats) (q : Reader) (files bytes : ℕ) : Type 0 wh
 -- the safe root is whole, where there is one
 abbrev pub IsWhole : Formats → Blobs → ℕ → Type 0
 IsWhole f blobs zero = Unit {0}
-IsWhole f blobs (suc n) = Whole f (At f blobs) n
+IsWhole f blobs (suc n) = RootAgrees f (At f blobs) n
 
--- a check has read the safe root and all that it reaches, and nothing else
+-- a check has read the safe root and all that it reaches, and nothing else; what it read is whole
 pub record CheckedBy (f : Formats) (w : World) : Type 0 where
   pub whole : IsWhole f w.blobs w.safe
-  pub all : (name : BlobName) → InReach f w name → (bytes : Bytes) × WasRead w.caller.read name bytes
+  pub all : (name : BlobName) → InReach f w name → Has w.caller.found name × ((bytes : Bytes) × WasRead w.caller.read name bytes)
   pub only : (name : BlobName) → Has w.caller.fetched name → InReach f w name
 
+-- so many snapshots are listed, and it fetched so many blobs, each of which was there
 pub record Checks (f : Formats) (w : World) (snapshots blobs : ℕ) (image : Option Image) : Type 0 where
-  pub looked : w.caller.looked ≡ true
-  pub idle : w.caller.drawn ≡ None
+  pub is_open : IsChecking w
   pub snapshots_is : snapshots ≡ length w.root.snapshots
   pub blobs_is : blobs ≡ length w.caller.found
+  pub present : (name : BlobName) → Has w.caller.fetched name → Has w.caller.found name
   pub told : Told image (λ now. CheckedBy f w)
 
 -- Who may answer a step that reads so. Each leaves the blobs.
@@ -389,7 +399,7 @@ pub data ReadAllows (f : Formats) (w : World) : ℕ → Read → Reply → Optio
   RestoringShard : (k files bytes : ℕ) (image : Option Image) (q : Reader) → IsReading w k q → Told image (λ blobs. RestoredBy f q files bytes) → ReadAllows f w k (RestoredShard files bytes) HasEnded image
   ReaderFailing : (k : ℕ) (why : Why) (image : Option Image) (q : Reader) → IsReading w k q → ReadAllows f w k (ReadFails why) HasEnded image
   CheckingAll : (snapshots blobs : ℕ) (image : Option Image) → Checks f w snapshots blobs image → ReadAllows f w 0 (CheckedAll snapshots blobs) HasEnded image
-  CheckFailing : (why : Why) (image : Option Image) → w.caller.looked ≡ true → ReadAllows f w 0 (ReadFails why) HasEnded image
+  CheckFailing : (why : Why) (image : Option Image) → IsChecking w → ReadAllows f w 0 (ReadFails why) HasEnded image
 
 -- the blobs are as they were
 abbrev pub SameBlobs : World → Option Image → Type 0
@@ -424,10 +434,11 @@ pub record MayRemoveTests (w : World) (names : List BlobName) : Type 0 where
   pub committed : (name : BlobName) → Has names name → Has w.caller.committed name
   pub doomed : (name : BlobName) → Has names name → Has w.doomed name
 
--- each test blob was fetched, was there, and then was removed
+-- the master's test blob was committed, and each one was fetched, was there, and then was removed
 pub record Verifies (w : World) : Type 0 where
   pub id : ℕ
   pub drawn : w.caller.drawn ≡ Some id
+  pub master : Has w.caller.committed (TestMaster id)
   pub found : (name : BlobName) → Has w.caller.committed name → Has w.caller.found name
   pub removed : (name : BlobName) → Has w.caller.committed name → Has w.caller.removed name
 

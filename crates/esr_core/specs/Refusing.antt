@@ -3,21 +3,21 @@ use Rattle.std.specs.Prelude.{◌≡◌, ◌⊎◌, ℕ, true, List}
 use Rattle.esr_model.specs.Names.{BlobName}
 use Rattle.esr_model.specs.Values.{Bytes, Has}
 use Rattle.esr_core.specs.World.{World}
-use Rattle.esr_core.specs.Entry.{AskedIndex, Asked, Snapshot, Restore, ReadBlob, DrawTest, BeginTest, CommitTest, RemoveTests, Step, AskStep, DrawStep, BeginStep, CommitStep, LatestStep, FetchStep, ListStep, RaiseStep, SettleStep, DroppedStep, ElectStep, ReadStep, Refusal, CleanupRunning, NameInUse, TooMany, DeposedAt, StaleTerm, GenerationsSpent, TermsSpent, IdsSpent, NameTaken, DepotFault, NoSnapshot, BeingDeleted, Refused, Moment}
+use Rattle.esr_core.specs.Entry.{AskedIndex, Asked, Snapshot, Restore, is_recorded, ReadBlob, DrawTest, BeginTest, CommitTest, RemoveTests, Step, AskStep, DrawStep, BeginStep, CommitStep, LatestStep, FetchStep, ListStep, RaiseStep, SettleStep, DroppedStep, ElectStep, ReadStep, Refusal, CleanupRunning, NameInUse, TooMany, DeposedAt, StaleTerm, GenerationsSpent, TermsSpent, IdsSpent, NameTaken, DepotFault, NoSnapshot, BeingDeleted, Refused, Moment}
 use Rattle.esr_core.specs.After.{swaps_record}
 
--- A step may be refused so: a command by a rule, or since its ids are spent; a step that draws ids or begins a generation or a term,
--- since these are spent; a record swap of a ticket, as its term is over; a commit, as its name is taken; and a call of the container,
--- as it failed. A step that is none of these isn't refused.
+-- A step may be refused so: a command by a rule of its kind, with the place or the limit that this has, or since its ids are spent; a
+-- step that draws ids or begins a generation or a term, since these are spent; a record swap of a ticket, as its term is over; a
+-- commit, as its name is taken; and a call of the container, as it failed. A step that is none of these isn't refused.
 pub data MayRefuse : Step → Refusal → Type 0 where
-  InCleanup : (command : Asked) (op : ℕ) → MayRefuse (AskStep command) (CleanupRunning op)
+  InCleanup : (command : Asked) (op : ℕ) → is_recorded command ≡ true → MayRefuse (AskStep command) (CleanupRunning op)
   InUse : (name : Bytes) (indices : List AskedIndex) (moment uuid : ℕ) → MayRefuse (AskStep (Snapshot name indices moment)) (NameInUse uuid)
-  InFull : (name : Bytes) (indices : List AskedIndex) (moment limit : ℕ) → MayRefuse (AskStep (Snapshot name indices moment)) (TooMany limit)
+  InFull : (name : Bytes) (indices : List AskedIndex) (moment : ℕ) → MayRefuse (AskStep (Snapshot name indices moment)) (TooMany 1000)
   NoIdForAsk : (name : Bytes) (indices : List AskedIndex) (moment next : ℕ) → MayRefuse (AskStep (Snapshot name indices moment)) (IdsSpent next)
   AskFault : (name : Bytes) (indices : List AskedIndex) (moment : ℕ) → MayRefuse (AskStep (Snapshot name indices moment)) DepotFault
-  NotListed : (name place : Bytes) (at : ℕ) → MayRefuse (AskStep (Restore name place)) (NoSnapshot at)
+  NotListed : (name place : Bytes) → MayRefuse (AskStep (Restore name place)) (NoSnapshot 0)
   NamedByDelete : (name place : Bytes) (op : ℕ) → MayRefuse (AskStep (Restore name place)) (BeingDeleted op)
-  FullOfRestores : (name place : Bytes) (limit : ℕ) → MayRefuse (AskStep (Restore name place)) (TooMany limit)
+  FullOfRestores : (name place : Bytes) → MayRefuse (AskStep (Restore name place)) (TooMany 1000)
   NoIds : (count next : ℕ) → MayRefuse (DrawStep count) (IdsSpent next)
   BeginFault : (name : BlobName) → MayRefuse (BeginStep name) DepotFault
   CommitFault : (name : BlobName) → MayRefuse (CommitStep name) DepotFault

@@ -14,3 +14,4 @@ pub mod Halts
 pub mod Grew
 pub mod Damage
 pub mod Shown
+pub mod Unquiet

@@ -3,9 +3,10 @@ use Rattle.std.specs.Prelude.{◌≡◌, ◌<◌, ℕ, false, true, List, [], Op
 use Rattle.std.specs.FinMap as fin
 use Rattle.esr_model.specs.Names.{BlobName}
 use Rattle.esr_model.specs.Values.{Bytes}
-use Rattle.esr_core.specs.World.{Reader}
+use Rattle.esr_core.specs.World.{World, Reader}
 use Rattle.esr_core.specs.Restores.{read_more}
 use Rattle.esr_core.specs.Entry.{Moment}
+use Rattle.esr_progress.specs.Units.{IsCopyOf}
 use Rattle.esr_progress.specs.declared.unit.Work.{Work}
 use Rattle.esr_progress.specs.declared.unit.Work.TheVariants as works
 use Rattle.esr_desk.specs.declared.unit.Unit.{Unit as Given}
@@ -44,6 +45,16 @@ ByWork work of_restore of_other = of_other
 -- the ticket of a unit is out, and has done nothing yet
 abbrev pub TookUnit : Start → List Moment → Given → Type 0
 TookUnit s log u = ByWork u.ready.work (TookRestore s log u) (Took s log u)
+
+-- a unit with no root to write and no base, which copies the safe root
+pub record IsBareIn (w : World) (u : Given) : Type 0 where
+  pub new_root : u.new_root ≡ None
+  pub base : u.ready.copy.base ≡ None
+  pub copy : IsCopyOf w u.ready.copy
+
+-- so is that of a restore, as it is taken
+abbrev pub IsBare : Start → List Moment → Given → Type 0
+IsBare s log u = ByWork u.ready.work (IsBareIn (world_of s log) u) (Unit {0})
 
 -- ---- what a step makes of the ticket
 

@@ -70,17 +70,21 @@ IsUntold s t = (index : ℕ) × (number : ℕ) × (t.work ≡ Shard index number
 abbrev pub Faulty : Start → ℕ → Type 0
 Faulty s count = (0 < count) × (s.quiet ≡ false)
 
+-- no entry tells that the container failed
+abbrev pub NeverFailed : List Moment → Type 0
+NeverFailed log = (m : Moment) → Has log m → m.entry.reply ≡ Refused DepotFault → ⊥
+
 -- the shard of this address has failed so often, which it can't where its sources are quiet
 abbrev pub FaultyShard : Start → ℕ → Address → Type 0
 FaultyShard s count address = (0 < count) × (s.steady address.place address.index address.number ≡ false)
 
--- a stage or a fetch has failed, or the container did in a step of the ticket
+-- a stage or a fetch has failed, or the container did in a step of the ticket, which it can't where it is quiet
 abbrev pub DepotShown : {S F H T : Type 0} → Counts S F H T → Start → List Moment → ℕ → By S F H T → Type 0
 DepotShown c s log who (by.Object (objects.Stage stage)) = Faulty s (c.stage stage)
 DepotShown c s log who (by.Object (objects.Fetch fetch)) = Faulty s (c.fetch fetch)
 DepotShown c s log who (by.Object (objects.Shard shard)) = ⊥
 DepotShown c s log who (by.Object (objects.Target target)) = ⊥
-DepotShown c s log who by.Entry = HadFault s log who
+DepotShown c s log who by.Entry = HadFault s log who × (s.quiet ≡ false)
 DepotShown c s log who by.Nothing = ⊥
 
 -- the shard of the unit has failed

@@ -1,5 +1,5 @@
 //! One call for each step of a repository.
-ghost use Rattle.std.specs.Prelude.{◌≡◌, ◌+◌, ◌<◌, ◌^◌, ℕ, List, [], map, Option, Some, None, true, false, IsTrue, IfOk, IfSome, OnOk, OnErr};
+ghost use Rattle.std.specs.Prelude.{◌≡◌, ◌+◌, ◌<◌, ◌^◌, ◌≤ℤ◌, negsuc, ℕ, List, [], map, Option, Some, None, true, false, IsTrue, IfOk, IfSome, OnOk, OnErr};
 ghost use Rattle.esr_model.specs.Names.{Latest};
 ghost use Rattle.esr_model.specs.Values.{Bytes};
 ghost use Rattle.esr_core.specs.Entry.{Moment, AskStep, TakeStep, DrawStep, BeginStep, CommitStep, LatestStep, FetchStep, RaiseStep, SettleStep, DoneStep, FailedStep, FinishStep, DroppedStep, LookStep, Accepted, DrawnFrom, WasBegun, WasReplaced, RaisedTo, WasSettled, HasEnded, Looked};
@@ -14,10 +14,10 @@ ghost use Rattle.esr_progress.specs.Asked.{asked_of, IsAskable};
 ghost use Rattle.esr_desk.specs.Entries.{why_of};
 ghost use Rattle.esr_desk.specs.Start.{Start, ticket_of, told_bytes};
 ghost use Rattle.esr_desk.specs.Once.{IsNew, HasMadeNone};
-ghost use Rattle.esr_desk.specs.Shown.{IsShown};
+ghost use Rattle.esr_desk.specs.Shown.{IsShown, NeverFailed};
 ghost use Rattle.esr_desk.specs.Outcome.{Outcome, commit_reply, fetch_reply, take_reply};
 ghost use Rattle.esr_desk.specs.Conditions.{CanDraw, CanCommit, CanPut, CanBegin, Holds, CanFetch, CanRaise, CanSettle, CanEnd, CanFail, CanFinish, CanDrop};
-ghost use Rattle.esr_desk.specs.Readers.{TookUnit};
+ghost use Rattle.esr_desk.specs.Readers.{TookUnit, IsBare};
 ghost use Rattle.esr_desk.specs.Taken.{committed_by, begun_by, tried_by, fetched_by, LeftBy, HasRaised, IsSettled, HasEndedAs};
 ghost use Rattle.esr_desk.specs.declared.refusal.StepRefusal.{StepRefusal};
 
@@ -52,6 +52,10 @@ pub trait Desk {
     /// The ticket is this desk's: nobody else steps for it.
     ghost holds: { Self → ℕ → Type 0 };
 
+    /// Where the container is quiet, it has failed in no step that the history tells.
+    fn never_fails(&self)
+        ensures { start.quiet ≡ true → NeverFailed (seen self.now) };
+
     /// Asks for a command, which is accepted as the op that is answered.
     fn ask(&mut self, alloc: Global, command: &Command) -> Result<u64, StepRefusal>
         requires { IsAskable (asked_of command.now) }
@@ -61,6 +65,7 @@ pub trait Desk {
     fn take(&mut self, alloc: Global) -> Result<Option<Unit>, StepRefusal>
         ensures step { Outcome start (seen self.old) (seen self.new) 0 TakeStep take_reply result }
         ensures took { IfOk result (λ o. IfSome o (λ u. TookUnit start (seen self.new) u)) }
+        ensures bare { IfOk result (λ o. IfSome o (λ u. IsBare start (seen self.new) u)) }
         ensures new { IfOk result (λ o. IfSome o (λ u. HasMadeNone (seen self.new) u.ready.ticket)) }
         ensures holds { IfOk result (λ o. IfSome o (λ u. holds self.new u.ready.ticket)) };
 
@@ -230,7 +235,8 @@ pub trait Desk {
         ensures kept { OnErr result (ticket_of start (seen self.new) ticket ≡ ticket_of start (seen self.old) ticket) }
         ensures holds { holds self.new ticket };
 
-    /// The snapshots of the safe root.
+    /// The snapshots of the safe root, and its generation, which is -1 exactly where there is none.
     fn look(&mut self, alloc: Global) -> Result<Look, StepRefusal>
-        ensures { Outcome start (seen self.old) (seen self.new) 0 LookStep (λ l. Looked (map root_snap_of l.listing) (count_of l.safe)) result };
+        ensures step { Outcome start (seen self.old) (seen self.new) 0 LookStep (λ l. Looked (map root_snap_of l.listing) (count_of l.safe)) result }
+        ensures least { IfOk result (λ l. negsuc 0 ≤ℤ l.safe) };
 }

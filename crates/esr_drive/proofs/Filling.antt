@@ -1,5 +1,5 @@
 -- The unit of a restore's shard: what its answer says of the targets.
-use Rattle.std.proofs.Common.{◌≡◌, ◌≢◌, true, List, [], ◌∷◌, IsSome, ap, subst}
+use Rattle.std.proofs.Common.{◌≡◌, ◌≢◌, true, List, [], ◌∷◌, None, IsSome, ap, subst}
 use Rattle.esr_core.specs.World.{Reader}
 use Rattle.esr_core.specs.Entry.{Moment}
 use Rattle.esr_core.specs.Tracked.{Tracked}
@@ -36,9 +36,9 @@ module _ (laws : Laws) (s : Start) (tracked : ReadTracked s.world) (ops : Tracke
     pub filled_over : NothingOut s new unit.ticket
     filled_over = once.nothing
 
-    pub filled_target : (r : RestoredTarget T) → IsFilled unit target r → (c.are_told ≡ true → IsSome (c.files target)) → (c.are_quiet ≡ true → c.is_sure target ≡ true) → AreTargetsOf c s old new (r ∷ [])
-    filled_target r filled told sure =
-        one_target c s old new unit.ticket g (record { before = h.last.front; ticket = unit.ticket; files = h.count; bytes = h.bytes }) r once.are (is_target c s old new unit r target filled fresh h once.reader_is told sure)
+    pub filled_target : (r : RestoredTarget T) → IsFilled unit target r → (c.are_told ≡ true → IsSome (c.files target)) → (c.are_quiet ≡ true → c.is_sure target ≡ true) → c.begun target ≡ None → c.faults target ≡ 0 → AreTargetsOf c s old new (r ∷ [])
+    filled_target r filled told sure begun failed =
+        one_target c s old new unit.ticket g (record { before = h.last.front; ticket = unit.ticket; files = h.count; bytes = h.bytes }) r once.are (is_target c s old new unit r target filled fresh h once.reader_is told sure begun failed)
 
   module _ {F T : Type 0} (c : Counts F T) (e : UnitRefusal) (refused : IsUnitRefused c s old new unit.ticket e) where
     failed_by : (why : Why) → IsUnitRefused c s old new unit.ticket (units.Failed why) → RestoresNone old new × NothingOut s new unit.ticket

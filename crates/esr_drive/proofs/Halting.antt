@@ -35,7 +35,7 @@ IsTake step = ⊥
 
 -- no take is refused so
 none_taking : (step : Step) (refusal : Refusal) → IsTake step → MayRefuse step refusal → StopsWork step refusal
-none_taking step refusal takes (InCleanup command op) = absurd takes
+none_taking step refusal takes (InCleanup command op recorded) = absurd takes
 none_taking step refusal takes may = absurd takes
 
 dropping_stops : StopsEach DroppedStep

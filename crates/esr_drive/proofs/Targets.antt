@@ -58,8 +58,8 @@ items_on was room now more is same = is ∙ ap (λ l. l ++ more) same
 
 module _ {T : Type 0} (c : Telling T) (s : Start) where
   target_by : (e : Restoration) (r : RestoredTarget T) (target : T) (op : ℕ) (q : Reader) → reader_of s e.before e.ticket ≡ q → r.op ≡ op → r.target ≡ target → Listed op r.index r.shard q → IsOf q (c.made_for target)
-      → ((held : List (Bytes × Bytes)) → c.files target ≡ Some held → s.tells ≡ true → AreRestored (formats_of s) q held e.files e.bytes) → (c.are_told ≡ true → IsSome (c.files target)) → (c.are_quiet ≡ true → c.is_sure target ≡ true) → IsTargetOf c s e r
-  target_by e r target op q q_is op_is target_is l of restored told sure = record {
+      → ((held : List (Bytes × Bytes)) → c.files target ≡ Some held → s.tells ≡ true → AreRestored (formats_of s) q held e.files e.bytes) → (c.are_told ≡ true → IsSome (c.files target)) → (c.are_quiet ≡ true → c.is_sure target ≡ true) → c.begun target ≡ None → c.faults target ≡ 0 → IsTargetOf c s e r
+  target_by e r target op q q_is op_is target_is l of restored told sure begun failed = record {
     op_is = op_is ∙ l.op_is ∙ sym (ap (λ (x : Reader). x.op) q_is);
     index_is = l.index_is ∙ sym (ap (λ (x : Reader). x.name) q_is);
     shard_is = l.shard_is ∙ sym (ap (λ (x : Reader). x.number) q_is);
@@ -67,13 +67,15 @@ module _ {T : Type 0} (c : Telling T) (s : Start) where
     restored = λ held files tells. subst (λ (x : Reader). AreRestored (formats_of s) x held e.files e.bytes) (sym q_is) (restored held (ap c.files (sym target_is) ∙ files) tells);
     told = λ all. subst (λ (t : T). IsSome (c.files t)) (sym target_is) (told all);
     sure = λ all. ap c.is_sure target_is ∙ sure all;
+    none_begun = ap c.begun target_is ∙ begun;
+    none_failed = ap c.faults target_is ∙ failed;
   }
 
   pub is_target : (old new : List Moment) (unit : ReadyUnit) (r : RestoredTarget T) (target : T) → IsFilled unit target r → TookWork unit.work unit.op (reader_of s old unit.ticket) → (h : HasRestored s old new unit.ticket (c.made_for target) (c.files target)) → reader_of s h.last.front unit.ticket ≡ h.q
-      → (c.are_told ≡ true → IsSome (c.files target)) → (c.are_quiet ≡ true → c.is_sure target ≡ true) → IsTargetOf c s (record { before = h.last.front; ticket = unit.ticket; files = h.count; bytes = h.bytes }) r
-  is_target old new unit r target filled took h q_is told sure =
+      → (c.are_told ≡ true → IsSome (c.files target)) → (c.are_quiet ≡ true → c.is_sure target ≡ true) → c.begun target ≡ None → c.faults target ≡ 0 → IsTargetOf c s (record { before = h.last.front; ticket = unit.ticket; files = h.count; bytes = h.bytes }) r
+  is_target old new unit r target filled took h q_is told sure begun failed =
       let first : Listed unit.op r.index r.shard (reader_of s old unit.ticket) = listed unit.work unit.op (reader_of s old unit.ticket) r.index r.shard took filled.shard in
-      target_by (record { before = h.last.front; ticket = unit.ticket; files = h.count; bytes = h.bytes }) r target unit.op h.q q_is filled.op_is filled.target_is (worked_listed unit.op r.index r.shard (reader_of s old unit.ticket) h.q h.worked first) h.target h.restored told sure
+      target_by (record { before = h.last.front; ticket = unit.ticket; files = h.count; bytes = h.bytes }) r target unit.op h.q q_is filled.op_is filled.target_is (worked_listed unit.op r.index r.shard (reader_of s old unit.ticket) h.q h.worked first) h.target h.restored told sure begun failed
 
   -- ---- the targets of several
 

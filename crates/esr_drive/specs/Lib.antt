@@ -3,4 +3,5 @@ pub mod Restored
 pub mod Filled
 pub mod Over
 pub mod Works
+pub mod Takes
 pub mod Laws

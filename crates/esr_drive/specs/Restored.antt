@@ -1,9 +1,10 @@
 -- The targets that hold the files of the shards that were restored.
-use Rattle.std.specs.Prelude.{◌≡◌, ℕ, Bool, true, List, [], ◌∷◌, ◌++◌, Option, Some, IsSome}
+use Rattle.std.specs.Prelude.{◌≡◌, ℕ, Bool, true, List, [], ◌∷◌, ◌++◌, Option, Some, None, IsSome}
 use Rattle.esr_model.specs.Values.{Bytes}
 use Rattle.esr_model.specs.Image.{AllPairs}
 use Rattle.esr_core.specs.Entry.{RestoredShard, Step, ReadStep, Reply, HasEnded, Moment}
 use Rattle.esr_source.specs.declared.address.Address.{Address}
+use Rattle.esr_source.specs.Begun.{Begun}
 use Rattle.esr_desk.specs.Start.{Start, formats_of}
 use Rattle.esr_desk.specs.Readers.{reader_of}
 use Rattle.esr_reading.specs.Shown.{IsOf}
@@ -27,17 +28,19 @@ abbrev pub restorations_in : List Moment → List Moment → List Restoration
 restorations_in before [] = []
 restorations_in before (m ∷ more) = restorations_by before m.entry.who m.entry.reply m.entry.step ++ restorations_in (before ++ m ∷ []) more
 
--- What targets tell: for which address one was made, the files that were ended in it, and whether it fails; and of all, whether
--- they tell their files, and that none fails.
+-- What targets tell: for which address one was made, the files that were ended in it, whether it fails, the file that is begun in it,
+-- and how often it has failed; and of all, whether they tell their files, and that none fails.
 pub record Telling (T : Type 0) : Type 0 where
   pub made_for : T → Address
   pub files : T → Option (List (Bytes × Bytes))
   pub is_sure : T → Bool
+  pub begun : T → Option Begun
+  pub faults : T → ℕ
   pub are_told : Bool
   pub are_quiet : Bool
 
 -- The target is that of the restored shard, listed under its op, the name of its index and its number. Where it tells its files,
--- and the container tells too, these are exactly those that the ticket read.
+-- and the container tells too, these are exactly those that the ticket read. No file is begun in it, and no call of it has failed.
 pub record IsTargetOf {T : Type 0} (c : Telling T) (s : Start) (e : Restoration) (r : RestoredTarget T) : Type 0 where
   pub op_is : r.op ≡ (reader_of s e.before e.ticket).op
   pub index_is : r.index ≡ (reader_of s e.before e.ticket).name
@@ -46,6 +49,8 @@ pub record IsTargetOf {T : Type 0} (c : Telling T) (s : Start) (e : Restoration)
   pub restored : (held : List (Bytes × Bytes)) → c.files r.target ≡ Some held → s.tells ≡ true → AreRestored (formats_of s) (reader_of s e.before e.ticket) held e.files e.bytes
   pub told : c.are_told ≡ true → IsSome (c.files r.target)
   pub sure : c.are_quiet ≡ true → c.is_sure r.target ≡ true
+  pub none_begun : c.begun r.target ≡ None
+  pub none_failed : c.faults r.target ≡ 0
 
 -- these are the targets of the restorations from one history to a longer one, one each, in their order
 pub record AreTargetsOf {T : Type 0} (c : Telling T) (s : Start) (old new : List Moment) (targets : List (RestoredTarget T)) : Type 0 where

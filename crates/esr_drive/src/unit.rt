@@ -129,7 +129,7 @@ fn do_restore<Q: RestoreDesk, T: Targets<Target = Q::Target>>(
     requires ops { Tracked Q.start.world }
     ensures stopped { IfErr result (IsHalted Q.start (Q.seen desk.new) unit.ready.ticket) }
     ensures over { OnOk result (Q.start.alone ≡ true → NothingOut Q.start (Q.seen desk.new) unit.ready.ticket) }
-    ensures restored { Q.start.alone ≡ true → AreTargetsOf (record { made_for = Q.Target.made_for; files = Q.Target.files; is_sure = Q.Target.is_sure; are_told = T.is_told targets.now; are_quiet = T.is_quiet targets.now })
+    ensures restored { Q.start.alone ≡ true → AreTargetsOf (record { made_for = Q.Target.made_for; files = Q.Target.files; is_sure = Q.Target.is_sure; begun = Q.Target.begun; faults = Q.Target.faults; are_told = T.is_told targets.now; are_quiet = T.is_quiet targets.now })
         Q.start (Q.seen desk.old) (Q.seen desk.new) (filled_by result) }
     ensures grew { GrewBy Q.start unit.ready.ticket (Q.seen desk.old) (Q.seen desk.new) }
 {
@@ -169,7 +169,7 @@ pub fn do_next<
     requires ops { Tracked Q.start.world }
     ensures stopped { IfErr result (IsHalted Q.start (Q.seen desk.new) unit.ready.ticket) }
     ensures over { OnOk result (Q.start.alone ≡ true → NothingOut Q.start (Q.seen desk.new) unit.ready.ticket) }
-    ensures restored { Q.start.alone ≡ true → AreTargetsOf (record { made_for = T.Target.made_for; files = T.Target.files; is_sure = T.Target.is_sure; are_told = T.is_told targets.now; are_quiet = T.is_quiet targets.now })
+    ensures restored { Q.start.alone ≡ true → AreTargetsOf (record { made_for = T.Target.made_for; files = T.Target.files; is_sure = T.Target.is_sure; begun = T.Target.begun; faults = T.Target.faults; are_told = T.is_told targets.now; are_quiet = T.is_quiet targets.now })
         Q.start (Q.seen desk.old) (Q.seen desk.new) (filled_by result) }
     ensures grew { GrewBy Q.start unit.ready.ticket (Q.seen desk.old) (Q.seen desk.new) }
 {

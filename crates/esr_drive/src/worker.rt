@@ -1,5 +1,5 @@
 //! All units that are ready.
-ghost use Rattle.std.specs.Prelude.{◌≡◌, ◌<◌, ◌≤◌, ◌^◌, ◌++◌, true, [], None, IfErr, IfSome, OnOk, vec_len, vec_capacity};
+ghost use Rattle.std.specs.Prelude.{◌≡◌, ◌+◌, ◌<◌, ◌≤◌, ◌^◌, ◌++◌, true, [], None, IfErr, IfSome, OnOk, vec_len, vec_capacity};
 ghost use Rattle.esr_core.specs.Entry.{TakeStep, NothingReady};
 ghost use Rattle.esr_core.specs.Tracked.{Tracked};
 ghost use Rattle.esr_core.specs.ReadTracked.{ReadTracked};
@@ -11,6 +11,7 @@ ghost use Rattle.esr_quiet.specs.Numbers.{HasNoTickets};
 ghost use Rattle.esr_drive.specs.Stopped.{IsStopped};
 ghost use Rattle.esr_drive.specs.Over.{NoReaderOut};
 ghost use Rattle.esr_drive.specs.Works.{WorksOnly};
+ghost use Rattle.esr_drive.specs.Takes.{idle_takes};
 ghost use Rattle.esr_drive.specs.Restored.{Telling, AreTargetsOf};
 ghost use Rattle.esr_drive.specs.Filled.{filled_of};
 
@@ -56,10 +57,11 @@ fn work_all<Q: RestoreDesk<Shard = S::Shard, Target = T::Target>, S: Sources, T:
     ensures stopped { IfErr result (IsStopped Q.start (Q.seen desk.new)) }
     ensures rest { OnOk result (Q.start.alone ≡ true → NoneOut Q.start (Q.seen desk.old) → NoneOut Q.start (Q.seen desk.new)) }
     ensures readers { OnOk result (Q.start.alone ≡ true → NoReaderOut Q.start (Q.seen desk.old) → NoReaderOut Q.start (Q.seen desk.new)) }
-    ensures restored { Q.start.alone ≡ true → AreTargetsOf (record { made_for = T.Target.made_for; files = T.Target.files; is_sure = T.Target.is_sure; are_told = T.is_told targets.now; are_quiet = T.is_quiet targets.now })
+    ensures restored { Q.start.alone ≡ true → AreTargetsOf (record { made_for = T.Target.made_for; files = T.Target.files; is_sure = T.Target.is_sure; begun = T.Target.begun; faults = T.Target.faults; are_told = T.is_told targets.now; are_quiet = T.is_quiet targets.now })
         Q.start (Q.seen desk.old) (Q.seen desk.new) restored.new.items }
     ensures grew { GrewAsking Q.start [] (Q.seen desk.old) (Q.seen desk.new) }
     ensures only { Q.start.alone ≡ true → WorksOnly (Q.seen desk.old) (Q.seen desk.new) }
+    ensures takes { Q.start.alone ≡ true → idle_takes (Q.seen desk.new) ≤ idle_takes (Q.seen desk.old) + 1 }
 {
     laws();
     for _round in 0..u64::MAX {
@@ -101,10 +103,11 @@ pub fn work<Q: RestoreDesk<Shard = S::Shard, Target = T::Target>, S: Sources, T:
     ensures stopped { IfSome result.stop (IsStopped Q.start (Q.seen desk.new)) }
     ensures rest { result.stop ≡ None → Q.start.alone ≡ true → NoneOut Q.start (Q.seen desk.old) → NoneOut Q.start (Q.seen desk.new) }
     ensures readers { result.stop ≡ None → Q.start.alone ≡ true → NoReaderOut Q.start (Q.seen desk.old) → NoReaderOut Q.start (Q.seen desk.new) }
-    ensures restored { Q.start.alone ≡ true → AreTargetsOf (record { made_for = T.Target.made_for; files = T.Target.files; is_sure = T.Target.is_sure; are_told = T.is_told targets.now; are_quiet = T.is_quiet targets.now })
+    ensures restored { Q.start.alone ≡ true → AreTargetsOf (record { made_for = T.Target.made_for; files = T.Target.files; is_sure = T.Target.is_sure; begun = T.Target.begun; faults = T.Target.faults; are_told = T.is_told targets.now; are_quiet = T.is_quiet targets.now })
         Q.start (Q.seen desk.old) (Q.seen desk.new) result.restored }
     ensures grew { GrewAsking Q.start [] (Q.seen desk.old) (Q.seen desk.new) }
     ensures only { Q.start.alone ≡ true → WorksOnly (Q.seen desk.old) (Q.seen desk.new) }
+    ensures takes { Q.start.alone ≡ true → idle_takes (Q.seen desk.new) ≤ idle_takes (Q.seen desk.old) + 1 }
 {
     let mut restored = Vec::new(alloc);
     match work_all(

@@ -13,7 +13,8 @@ use Rattle.esr_desk.specs.declared.entry.Why.{Why}
 use Rattle.esr_desk.specs.declared.entry.Why.TheVariants as whys
 use Rattle.esr_desk.specs.declared.fault.By.TheVariants as shows
 use Rattle.esr_desk.specs.Entries.{why_of}
-use Rattle.esr_desk.specs.Shown.{Counts, Matters, HadRefusal, IsShown, is_of_latest}
+use Rattle.esr_desk.specs.Unquiet.{unquiet_last}
+use Rattle.esr_desk.specs.Shown.{Counts, Matters, NeverFailed, HadRefusal, IsShown, is_of_latest}
 use Rattle.esr_desk.specs.Last.{IsLast}
 use Rattle.esr_desk.specs.Refusals.{told_refusal}
 use Rattle.esr_desk.specs.Start.{Start, formats_of, ticket_of}
@@ -116,34 +117,34 @@ had_refusal s mid log who step refusal last waited =
     }
 
 -- it is the cause
-pub by_step : {S : Type 0} (s : Start) (faults : S → ℕ) (mid : List Moment) (who : ℕ) (refusal : StepRefusal) (why : Why) → failed_by refusal ≡ Some why → WasPutRefused s mid who (told_refusal refusal)
+pub by_step : {S : Type 0} (s : Start) (faults : S → ℕ) (mid : List Moment) (who : ℕ) (refusal : StepRefusal) (why : Why) → failed_by refusal ≡ Some why → WasPutRefused s mid who (told_refusal refusal) → (s.quiet ≡ true → NeverFailed mid)
     → (log : List Moment) → Waited s mid log who → HadCause s faults log who why
-by_step s faults mid who steps.Memory why is was log waited = cc
-by_step s faults mid who steps.TurnsSpent why is was log waited = cc
-by_step {S = S} s faults mid who (steps.Refused refusals.DepotFault) why is was log waited =
+by_step s faults mid who steps.Memory why is was never log waited = cc
+by_step s faults mid who steps.TurnsSpent why is was never log waited = cc
+by_step {S = S} s faults mid who (steps.Refused refusals.DepotFault) why is was never log waited =
     let same : whys.Depot ≡ why = cc in
-    subst (HadCause {S = S} s faults log who) same (inr (record { front = mid; step = was.0; refused = was.1; matters = was.2 refl; waited = waited }))
-by_step {S = S} s faults mid who (steps.Refused (refusals.NameTaken name)) why is was log waited =
+    subst (HadCause {S = S} s faults log who) same (inr (record { front = mid; step = was.0; refused = was.1; matters = was.2 refl; unquiet = unquiet_last s.quiet mid who was.0 never was.1; waited = waited }))
+by_step {S = S} s faults mid who (steps.Refused (refusals.NameTaken name)) why is was never log waited =
     let same : whys.NameTaken name ≡ why = cc in
     subst (HadCause {S = S} s faults log who) same (had_refusal s mid log who was.0 (NameTaken (name_of name)) was.1 waited)
-by_step {S = S} s faults mid who (steps.Refused (refusals.GenerationsSpent number)) why is was log waited =
+by_step {S = S} s faults mid who (steps.Refused (refusals.GenerationsSpent number)) why is was never log waited =
     let same : whys.GenerationsSpent number ≡ why = cc in
     subst (HadCause {S = S} s faults log who) same (had_refusal s mid log who was.0 (GenerationsSpent (count_of number)) was.1 waited)
-by_step s faults mid who (steps.Refused (refusals.CleanupRunning op)) why is was log waited = cc
-by_step s faults mid who (steps.Refused (refusals.NameInUse uuid)) why is was log waited = cc
-by_step s faults mid who (steps.Refused (refusals.TooMany limit)) why is was log waited = cc
-by_step s faults mid who (steps.Refused (refusals.Deposed entry)) why is was log waited = cc
-by_step s faults mid who (steps.Refused (refusals.Aborted by)) why is was log waited = cc
-by_step s faults mid who (steps.Refused (refusals.StaleTerm own now)) why is was log waited = cc
-by_step s faults mid who (steps.Refused (refusals.TermsSpent spent)) why is was log waited = cc
-by_step s faults mid who (steps.Refused (refusals.IdsSpent next)) why is was log waited = cc
-by_step s faults mid who (steps.Refused (refusals.NoSnapshot at)) why is was log waited = cc
-by_step s faults mid who (steps.Refused (refusals.BeingDeleted op)) why is was log waited = cc
-by_step s faults mid who (steps.Refused (refusals.NoIndex place)) why is was log waited = cc
-by_step s faults mid who (steps.Refused (refusals.CloneRunning op)) why is was log waited = cc
-by_step s faults mid who (steps.Refused (refusals.RestoreRunning op)) why is was log waited = cc
-by_step s faults mid who (steps.Refused (refusals.BusyOp op)) why is was log waited = cc
-by_step s faults mid who (steps.Refused (refusals.BusyTicket ticket)) why is was log waited = cc
+by_step s faults mid who (steps.Refused (refusals.CleanupRunning op)) why is was never log waited = cc
+by_step s faults mid who (steps.Refused (refusals.NameInUse uuid)) why is was never log waited = cc
+by_step s faults mid who (steps.Refused (refusals.TooMany limit)) why is was never log waited = cc
+by_step s faults mid who (steps.Refused (refusals.Deposed entry)) why is was never log waited = cc
+by_step s faults mid who (steps.Refused (refusals.Aborted by)) why is was never log waited = cc
+by_step s faults mid who (steps.Refused (refusals.StaleTerm own now)) why is was never log waited = cc
+by_step s faults mid who (steps.Refused (refusals.TermsSpent spent)) why is was never log waited = cc
+by_step s faults mid who (steps.Refused (refusals.IdsSpent next)) why is was never log waited = cc
+by_step s faults mid who (steps.Refused (refusals.NoSnapshot at)) why is was never log waited = cc
+by_step s faults mid who (steps.Refused (refusals.BeingDeleted op)) why is was never log waited = cc
+by_step s faults mid who (steps.Refused (refusals.NoIndex place)) why is was never log waited = cc
+by_step s faults mid who (steps.Refused (refusals.CloneRunning op)) why is was never log waited = cc
+by_step s faults mid who (steps.Refused (refusals.RestoreRunning op)) why is was never log waited = cc
+by_step s faults mid who (steps.Refused (refusals.BusyOp op)) why is was never log waited = cc
+by_step s faults mid who (steps.Refused (refusals.BusyTicket ticket)) why is was never log waited = cc
 
 matters_any : (work : Work) (step : Step) → is_of_latest step ≡ false → Matters work step
 matters_any (Shard index number) step other = tt
@@ -162,44 +163,45 @@ had_last log who step refusal last = record {
 }
 
 -- it shows the failure
-pub step_shown : {S F H T : Type 0} (c : Counts S F H T) (s : Start) (log : List Moment) (who : ℕ) (refusal : StepRefusal) (why : Why) → failed_by refusal ≡ Some why → WasPutRefused s log who (told_refusal refusal)
+pub step_shown : {S F H T : Type 0} (c : Counts S F H T) (s : Start) (log : List Moment) (who : ℕ) (refusal : StepRefusal) (why : Why) → failed_by refusal ≡ Some why → WasPutRefused s log who (told_refusal refusal) → (s.quiet ≡ true → NeverFailed log)
     → IsShown c s log who (why_of why) shows.Entry
-step_shown c s log who steps.Memory why is was = cc
-step_shown c s log who steps.TurnsSpent why is was = cc
-step_shown {S = S} {F = F} {H = H} {T = T} c s log who (steps.Refused refusals.DepotFault) why is was =
+step_shown c s log who steps.Memory why is was never = cc
+step_shown c s log who steps.TurnsSpent why is was never = cc
+step_shown {S = S} {F = F} {H = H} {T = T} c s log who (steps.Refused refusals.DepotFault) why is was never =
     let same : whys.Depot ≡ why = cc in
     subst (λ (w : Why). IsShown {S = S} {F = F} {H = H} {T = T} c s log who (why_of w) shows.Entry) same (
-    record {
-      front = was.1.front;
-      moment = record { entry = record { who = who; step = was.0; reply = Refused DepotFault }; image = was.1.image };
-      back = [];
-      is = was.1.is;
-      of = refl;
-      reply = refl;
-      matters = matters_any (ticket_of s log who).work was.0 (was.2 refl);
-    }
+      record {
+        front = was.1.front;
+        moment = record { entry = record { who = who; step = was.0; reply = Refused DepotFault }; image = was.1.image };
+        back = [];
+        is = was.1.is;
+        of = refl;
+        reply = refl;
+        matters = matters_any (ticket_of s log who).work was.0 (was.2 refl);
+      },
+      unquiet_last s.quiet log who was.0 never was.1,
     )
-step_shown {S = S} {F = F} {H = H} {T = T} c s log who (steps.Refused (refusals.NameTaken name)) why is was =
+step_shown {S = S} {F = F} {H = H} {T = T} c s log who (steps.Refused (refusals.NameTaken name)) why is was never =
     let same : whys.NameTaken name ≡ why = cc in
     subst (λ (w : Why). IsShown {S = S} {F = F} {H = H} {T = T} c s log who (why_of w) shows.Entry) same (had_last log who was.0 (NameTaken (name_of name)) was.1)
-step_shown {S = S} {F = F} {H = H} {T = T} c s log who (steps.Refused (refusals.GenerationsSpent number)) why is was =
+step_shown {S = S} {F = F} {H = H} {T = T} c s log who (steps.Refused (refusals.GenerationsSpent number)) why is was never =
     let same : whys.GenerationsSpent number ≡ why = cc in
     subst (λ (w : Why). IsShown {S = S} {F = F} {H = H} {T = T} c s log who (why_of w) shows.Entry) same (had_last log who was.0 (GenerationsSpent (count_of number)) was.1)
-step_shown c s log who (steps.Refused (refusals.CleanupRunning op)) why is was = cc
-step_shown c s log who (steps.Refused (refusals.NameInUse uuid)) why is was = cc
-step_shown c s log who (steps.Refused (refusals.TooMany limit)) why is was = cc
-step_shown c s log who (steps.Refused (refusals.Deposed entry)) why is was = cc
-step_shown c s log who (steps.Refused (refusals.Aborted by)) why is was = cc
-step_shown c s log who (steps.Refused (refusals.StaleTerm own now)) why is was = cc
-step_shown c s log who (steps.Refused (refusals.TermsSpent spent)) why is was = cc
-step_shown c s log who (steps.Refused (refusals.IdsSpent next)) why is was = cc
-step_shown c s log who (steps.Refused (refusals.NoSnapshot at)) why is was = cc
-step_shown c s log who (steps.Refused (refusals.BeingDeleted op)) why is was = cc
-step_shown c s log who (steps.Refused (refusals.NoIndex place)) why is was = cc
-step_shown c s log who (steps.Refused (refusals.CloneRunning op)) why is was = cc
-step_shown c s log who (steps.Refused (refusals.RestoreRunning op)) why is was = cc
-step_shown c s log who (steps.Refused (refusals.BusyOp op)) why is was = cc
-step_shown c s log who (steps.Refused (refusals.BusyTicket ticket)) why is was = cc
+step_shown c s log who (steps.Refused (refusals.CleanupRunning op)) why is was never = cc
+step_shown c s log who (steps.Refused (refusals.NameInUse uuid)) why is was never = cc
+step_shown c s log who (steps.Refused (refusals.TooMany limit)) why is was never = cc
+step_shown c s log who (steps.Refused (refusals.Deposed entry)) why is was never = cc
+step_shown c s log who (steps.Refused (refusals.Aborted by)) why is was never = cc
+step_shown c s log who (steps.Refused (refusals.StaleTerm own now)) why is was never = cc
+step_shown c s log who (steps.Refused (refusals.TermsSpent spent)) why is was never = cc
+step_shown c s log who (steps.Refused (refusals.IdsSpent next)) why is was never = cc
+step_shown c s log who (steps.Refused (refusals.NoSnapshot at)) why is was never = cc
+step_shown c s log who (steps.Refused (refusals.BeingDeleted op)) why is was never = cc
+step_shown c s log who (steps.Refused (refusals.NoIndex place)) why is was never = cc
+step_shown c s log who (steps.Refused (refusals.CloneRunning op)) why is was never = cc
+step_shown c s log who (steps.Refused (refusals.RestoreRunning op)) why is was never = cc
+step_shown c s log who (steps.Refused (refusals.BusyOp op)) why is was never = cc
+step_shown c s log who (steps.Refused (refusals.BusyTicket ticket)) why is was never = cc
 
 -- ---- a refusal that leaves the ticket out
 

@@ -62,7 +62,7 @@ settling_stops refusal SettleFault = refl
 settling_stops refusal (SettleStale own now) = inr refl
 
 ending_stops : (step : Step) (refusal : Refusal) → IsEnding step → MayRefuse step refusal → MayStop step refusal
-ending_stops step refusal ends (InCleanup command op) = absurd ends
+ending_stops step refusal ends (InCleanup command op recorded) = absurd ends
 ending_stops step refusal ends may = absurd ends
 
 -- ---- the unit stops

@@ -63,12 +63,14 @@ pub record HasFailed (old new : Ticket) : Type 0 where
   pub is : new ≡ record worked { out = false }
   pub unsettled : new.settled ≡ false
 
--- a step of the ticket, none on `index.latest`, was refused as the container failed in it, and the ticket has made none since
+-- a step of the ticket, none on `index.latest`, was refused as the container failed in it, which isn't quiet, and the ticket has
+-- made none since
 pub record HadFault (s : Start) (log : List Moment) (who : ℕ) : Type 0 where
   pub front : List Moment
   pub step : Step
   pub refused : IsLast front who step (Refused DepotFault)
   pub matters : is_of_latest step ≡ false
+  pub unquiet : s.quiet ≡ false
   pub waited : Waited s front log who
 
 -- what failed before the ticket ended so: a stage of the desk, or a step

@@ -47,7 +47,10 @@ pub fn run_unit<Q: Desk>(alloc: Global, desk: &mut Q, unit: &Unit) -> Result<(),
             Err(fail(alloc, desk, ticket, Why::Depot, By::Object { object }))
         }
         Err(PutRefusal::Step(refusal)) => match failed_by(refusal) {
-            Some(why) => Err(fail(alloc, desk, ticket, why, By::Entry)),
+            Some(why) => {
+                desk.never_fails();
+                Err(fail(alloc, desk, ticket, why, By::Entry))
+            }
             None => Err(UnitRefusal::Stopped(refusal)),
         },
     }

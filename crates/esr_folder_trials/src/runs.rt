@@ -1,4 +1,4 @@
-//! Runs over a folder that are killed between any two calls of their container.
+//! Runs over a folder that are killed between any two calls of their container, and a check of a folder in which a byte changed.
 use crate::killed::Killed;
 use esr_depot::{Counted, Depot};
 use esr_dirdepot::DirDepot;
@@ -94,13 +94,20 @@ fn killed(rt: &HostRuntime, waits: &impl Wait, calls: u64) -> Result<(String, u6
     Ok((listing_of(alloc, report)?, left.depot.fault_count()))
 }
 
-/// Whether a new run in the folder lists that.
-fn lists(rt: &HostRuntime, waits: &impl Wait, listing: &str) -> Result<bool, AllocError> {
+/// Whether a new run of a script in a folder ends with that status, and prints that.
+fn prints(
+    rt: &HostRuntime,
+    waits: &impl Wait,
+    dir: &str,
+    script: &str,
+    status: u8,
+    report: &str,
+) -> Result<bool, AllocError> {
     let alloc = rt.alloc();
     let mut out = MemOut::new(alloc, 1000, Seq::new(alloc))?;
-    let depot = DirDepot::new(rt, alloc, DIR)?;
-    let left = run_on(waits, alloc, depot, "list\n", &mut out)?;
-    Ok(left.status == 0 && out.as_slice() == listing.as_bytes())
+    let depot = DirDepot::new(rt, alloc, dir)?;
+    let left = run_on(waits, alloc, depot, script, &mut out)?;
+    Ok(left.status == status && out.as_slice() == report.as_bytes())
 }
 
 #[test]
@@ -110,7 +117,10 @@ fn a_run_that_is_killed_keeps_what_it_told(rt: HostRuntime) -> Result<(), Fail> 
     for calls in 0..CALLS {
         let _ = fs::remove_dir_all(&rt, DIR);
         let (listing, faults) = killed(&rt, &rt, calls)?;
-        assert!(rt; lists(&rt, &rt, listing.as_str())?, "{calls}: {listing}");
+        assert!(rt;
+            prints(&rt, &rt, DIR, "list\n", 0, listing.as_str())?,
+            "{calls}: {listing}"
+        );
         if faults == 0 {
             assert_eq!(rt; listing.lines().count(), 3);
             break;
@@ -119,5 +129,37 @@ fn a_run_that_is_killed_keeps_what_it_told(rt: HostRuntime) -> Result<(), Fail> 
     }
     // Each of the two snapshots takes more than ten calls.
     assert!(rt; 20 < most && most < 999, "{most}");
+    Ok(())
+}
+
+/// The folder, and the file of a data blob in it.
+const CHECKED: &str = "esr_folder_checked";
+
+const DATA: &str =
+    "esr_folder_checked/blobs/indices/AAAAAAAAAAEAAAAAAAAAAQ/0/__AAAAAAAAAAEAAAAAAAAAAg";
+
+/// Scripts, and what is printed.
+const CHECKS: [(&str, &str); 2] = [
+    (
+        "snapshot s1 logs/1/src\n",
+        "1 snapshot s1 ok AAAAAAAAAAEAAAAAAAAAAA\n",
+    ),
+    ("check\n", "1 check ok snapshots 1 blobs 7\n"),
+];
+
+/// What a check prints where a byte of that file changed.
+const DAMAGED: &str =
+    "1 check failed damaged indices/AAAAAAAAAAEAAAAAAAAAAQ/0/__AAAAAAAAAAEAAAAAAAAAAg
+damaged indices/AAAAAAAAAAEAAAAAAAAAAQ/0/__AAAAAAAAAAEAAAAAAAAAAg
+";
+
+#[test]
+fn a_byte_that_changed_is_found(rt: HostRuntime) -> Result<(), Fail> {
+    let _ = fs::remove_dir_all(&rt, CHECKED);
+    for (script, report) in &CHECKS {
+        assert!(rt; prints(&rt, &rt, CHECKED, script, 0, report)?, "{report}");
+    }
+    fs::write(&rt, DATA, "abd")?;
+    assert!(rt; prints(&rt, &rt, CHECKED, "check\n", 4, DAMAGED)?);
     Ok(())
 }

@@ -36,8 +36,11 @@ enum Does {
     Raise,
     /// A shard is restored: so many files, of so many bytes.
     EndShard(u64, u64),
-    /// A restore of a shard or a verification fails.
+    /// A restore of a shard, a verification or a check fails.
     EndRead(Why),
+    /// A check fetches a blob, or has read all: so many snapshots and blobs.
+    Reach,
+    EndCheck(u64, u64),
     /// The steps of a verification with one test blob.
     DrawTest,
     BeginTest,
@@ -488,6 +491,115 @@ const VERIFICATIONS: [Case; 4] = [
     ),
 ];
 
+/// A check looks, and then fetches a blob.
+const LOOKED: [Told; 2] = [
+    (0, Does::Look, Gets::Snaps(ROOT, 7)),
+    (0, Does::Reach, Gets::Fetched),
+];
+
+/// A check ends well.
+const CHECKED: [Told; 1] = [(0, Does::EndCheck(3, 12), Gets::Ended)];
+
+/// A check is answered by its end, or by its look where that is refused.
+const CHECKS: [Case; 9] = [
+    (
+        "a check that ends well",
+        "list\ncheck\nlist\n",
+        &[&LISTED, &LOOKED, &CHECKED, &LISTED],
+        3,
+        "1 list 0\n2 check ok snapshots 3 blobs 12\n3 list 0\n",
+        0,
+    ),
+    (
+        "one after another",
+        "check\ncheck\n",
+        &[&LOOKED, &CHECKED, &LOOKED, &CHECKED],
+        2,
+        "1 check ok snapshots 3 blobs 12\n2 check ok snapshots 3 blobs 12\n",
+        0,
+    ),
+    (
+        "a call that failed",
+        "check\nlist\n",
+        &[
+            &LOOKED,
+            &[(0, Does::EndRead(Why::Depot), Gets::Ended)],
+            &LISTED,
+        ],
+        2,
+        "1 check failed depot\n2 list 0\n",
+        1,
+    ),
+    (
+        "a blob that is damaged",
+        "check\nlist\n",
+        &[
+            &LOOKED,
+            &[(
+                0,
+                Does::EndRead(Why::Damaged {
+                    name: BlobName::Root(7),
+                }),
+                Gets::Ended,
+            )],
+            &LISTED,
+        ],
+        2,
+        "1 check failed damaged index-7\n2 list 0\ndamaged index-7\n",
+        4,
+    ),
+    (
+        "two blobs at odds",
+        "check\n",
+        &[
+            &LOOKED,
+            &[(
+                0,
+                Does::EndRead(Why::Disagreeing {
+                    name: BlobName::Snap(INDEX),
+                    other: BlobName::Root(7),
+                }),
+                Gets::Ended,
+            )],
+        ],
+        1,
+        "1 check failed damaged snap-AAAAAAAAAAEAAAAAAAAAAQ.dat\ndamaged snap-AAAAAAAAAAEAAAAAAAAAAQ.dat\n",
+        4,
+    ),
+    (
+        "a look that is deposed",
+        "check\ncheck\n",
+        &[&DEPOSED, &DEPOSED],
+        2,
+        "1 check deposed\n2 check deposed\ndeposed\n",
+        3,
+    ),
+    (
+        "no end",
+        "list\ncheck\nwait\n",
+        &[&LISTED, &LOOKED],
+        1,
+        "1 list 0\nnumbers spent\n",
+        7,
+    ),
+    (
+        "a look of another line in place of the end",
+        "check\nlist\n",
+        &[&LOOKED, &LISTED],
+        0,
+        "numbers spent\n",
+        7,
+    ),
+    (
+        "an ask of another line in place of the end",
+        "check\nsnapshot s1 logs/1/src\n",
+        &[&LOOKED, &MAKES],
+        0,
+        "numbers spent\n",
+        7,
+    ),
+];
+
 /// The command `snapshot s1`, or `restore s1 out`.
 fn create(alloc: Global) -> Result<Step, Fail> {
     let command = Command::Create {
@@ -517,13 +629,17 @@ fn read_of(alloc: Global, does: Does) -> Result<Read, Fail> {
     match does {
         Does::EndShard(files, bytes) => Ok(Read::Restored { files, bytes }),
         Does::EndRead(why) => Ok(Read::Failed { why }),
+        Does::Reach => Ok(Read::Blob {
+            name: BlobName::Root(7),
+        }),
+        Does::EndCheck(snapshots, blobs) => Ok(Read::Checked { snapshots, blobs }),
         Does::DrawTest => Ok(Read::DrawTest),
         Does::BeginTest => Ok(Read::BeginTest { name }),
         Does::CommitTest => Ok(Read::CommitTest { name }),
         Does::FetchTest => Ok(Read::Blob { name }),
         Does::RemoveTests => Ok(remove_tests(alloc)?),
         Does::EndTests => Ok(Read::Verified),
-        _ => Err(Fail::new("no step of a restore or a verification")),
+        _ => Err(Fail::new("no step of a restore, a verification or a check")),
     }
 }
 
@@ -665,6 +781,11 @@ fn a_restore_is_answered_by_the_ends_of_its_shards(rt: HostRuntime) -> Result<()
 #[test]
 fn a_verification_is_answered_by_its_end(rt: HostRuntime) -> Result<(), Fail> {
     assert_each_is_reported(&rt, rt.alloc(), &VERIFICATIONS)
+}
+
+#[test]
+fn a_check_is_answered_by_its_end(rt: HostRuntime) -> Result<(), Fail> {
+    assert_each_is_reported(&rt, rt.alloc(), &CHECKS)
 }
 
 /// The exit status of a restore whose first shard failed, and whose second ended well.

@@ -4,6 +4,7 @@ pub mod Shelf
 pub mod Parts
 pub mod Places
 pub mod Image
+pub mod Agreement
 pub mod Kept
 pub mod Reach
 pub mod Finalize

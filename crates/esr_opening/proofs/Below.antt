@@ -14,7 +14,7 @@ use Rattle.esr_root.specs.Root.{Root}
 use Rattle.esr_formats.specs.Roots.{root_of, root_snap_of, root_index_of}
 use Rattle.esr_opening.specs.Foreign.{generation_ids, index_ids, snapshot_ids, root_ids, first_from}
 use Rattle.esr_opening.proofs.Members.{in_left, in_right, in_either}
-use Rattle.esr_opening.proofs.Served.{index_found}
+use Rattle.esr_agreement.proofs.Served.{index_found}
 
 -- ---- none is at the bound or above it
 

@@ -25,7 +25,7 @@ use Rattle.esr_formats.specs.OneEach.{root_one_each}
 use Rattle.esr_formats.specs.Roots.{root_of, root_snap_of, root_kind}
 use Rattle.esr_formats.specs.Infos.{info_of_code, info_kind}
 use Rattle.esr_formats.specs.Clusters.{count_of, cluster_of, cluster_kind}
-use Rattle.esr_opening.specs.Agreement.{agrees, Agrees}
+use Rattle.esr_agreement.specs.Agreement.{agrees, Agrees}
 use Rattle.esr_opening.specs.Foreign.{root_ids, first_from}
 use Rattle.esr_opening.specs.Found.{Obstacle, Damage, LastTerm, ◌>>=◌, readable, read_as, empty_record, without_record, record_in, root_name, safe_number, info_name, agreed, info_in, infos_in, known_by, known_ids, is_delete, no_delete, has_term, found}
 use Rattle.esr_opening.specs.Hindrances.{IsNoDamage}
@@ -36,7 +36,7 @@ use Rattle.esr_opening.specs.declared.refusal.Why.TheVariants.{OpenDelete, Disag
 use Rattle.esr_names.specs.declared.blob.BlobName.TheVariants as code
 use Rattle.esr_opening.proofs.Below.{none_foreign}
 use Rattle.esr_opening.proofs.Fitting.{entries_none}
-use Rattle.esr_opening.proofs.Served.{holds_test}
+use Rattle.esr_agreement.proofs.Served.{holds_test}
 use Rattle.esr_opening.proofs.Shards.{standing_agrees}
 use Rattle.esr_opening.proofs.Steps.{record_there, record_absent, then_ok, whole_there, both_of, found_root}
 

@@ -1,7 +1,6 @@
 pub mod Looking
 pub mod Answering
 pub mod Reading
-pub mod Served
 pub mod Members
 pub mod Below
 pub mod Fitting

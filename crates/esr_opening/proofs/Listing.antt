@@ -26,12 +26,12 @@ use Rattle.esr_formats.specs.Infos.{info_of_code, info_kind}
 use Rattle.esr_formats.specs.Formats.{formats}
 use Rattle.esr_results.proofs.Refs.{one_id, ids_distinct, other_later}
 use Rattle.esr_progress.specs.Infos.{AreInfosOf}
-use Rattle.esr_opening.specs.Agreement.{agrees, Agrees}
+use Rattle.esr_agreement.specs.Agreement.{agrees, Agrees}
 use Rattle.esr_opening.specs.Found.{Obstacle, read_as, info_name, agreed}
 use Rattle.esr_opening.specs.Listed.{IsInfoOf, AreListed, AreInfosIn}
 use Rattle.esr_opening.specs.Opening.{world_in, is_told}
 use Rattle.esr_opening.proofs.Members.{mapped, has_map}
-use Rattle.esr_opening.proofs.Served.{test_holds}
+use Rattle.esr_agreement.proofs.Served.{test_holds}
 use Rattle.esr_opening.proofs.Opens.{read_some}
 use Rattle.esr_opening.proofs.Steps.{ok_same}
 

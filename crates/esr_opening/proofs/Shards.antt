@@ -7,7 +7,7 @@ use Rattle.esr_model.specs.Values.{Bytes, Has, IndexRef, RootSnap, RootData, For
 use Rattle.esr_model.specs.Shelf.{ShelfShard, Shelved}
 use Rattle.esr_model.specs.Places.{numbered, places, comes_first, put_by, sorted_by, shelf_places}
 use Rattle.esr_model.specs.Image.{AllPairs, Generation, ShardStands, SnapStands}
-use Rattle.esr_opening.specs.Agreement.{Agrees}
+use Rattle.esr_agreement.specs.Agreement.{Agrees}
 use Rattle.esr_opening.proofs.Members.{in_left, in_right}
 
 -- ---- places

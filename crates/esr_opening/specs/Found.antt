@@ -24,7 +24,7 @@ use Rattle.esr_formats.specs.Roots.{root_of, root_snap_of}
 use Rattle.esr_formats.specs.Infos.{info_of_code}
 use Rattle.esr_opening.specs.declared.refusal.Why.{Why}
 use Rattle.esr_opening.specs.declared.refusal.Why.TheVariants.{NoRecord, Absent, Unreadable, Disagrees, ForeignId, OpenDelete}
-use Rattle.esr_opening.specs.Agreement.{agrees}
+use Rattle.esr_agreement.specs.Agreement.{agrees}
 use Rattle.esr_opening.specs.Foreign.{root_ids, first_from}
 
 -- why an image can't be opened: what is wrong with a blob, or the term is the last one

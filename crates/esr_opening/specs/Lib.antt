@@ -1,4 +1,3 @@
-pub mod Agreement
 pub mod Foreign
 pub mod Found
 pub mod Hindrances

@@ -13,7 +13,7 @@ use Rattle.esr_formats.specs.Refs.{ref_of_code}
 use Rattle.esr_formats.specs.Roots.{root_of, root_snap_of}
 use Rattle.esr_formats.specs.Infos.{info_of_code}
 use Rattle.esr_formats.specs.Formats.{formats}
-use Rattle.esr_opening.specs.Agreement.{Agrees}
+use Rattle.esr_agreement.specs.Agreement.{Agrees}
 
 -- this is the info of a snapshot that the root lists
 pub record IsInfoOf (held : Option Held) (root : Root) (s : RootSnap) (info : Info) : Type 0 where

@@ -10,9 +10,9 @@ ghost use Rattle.esr_opening.specs.Looked.{Looked, Answers, Says};
 ghost use Rattle.esr_opening.specs.Part.{part};
 ghost use Rattle.esr_opening.specs.Spent.{has_fault, Spends};
 
-use crate::agreement::agrees;
 use crate::blob::{fetch_blob, unread};
 use crate::{OpenRefusal, Why};
+use esr_agreement::agrees;
 use esr_depot::Depot;
 use esr_formats::{read_info, write_name};
 use esr_meta::SnapInfo;

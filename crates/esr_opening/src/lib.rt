@@ -1,7 +1,6 @@
 //! The opening of a container: what an earlier run left is read, and the record gets the next term.
 #![tactic(auto)]
 
-mod agreement;
 mod blob;
 mod ids;
 mod infos;
@@ -14,6 +13,6 @@ mod root;
 mod term;
 
 pub use infos::SnapInfos;
-pub use laws::{agreement_is, kept_images_open};
+pub use laws::kept_images_open;
 pub use opening::{Opening, open_container};
 pub use refusal::{OpenRefusal, Why};

@@ -1,5 +1,5 @@
 //! A stored file is read back: to its end, or to one byte past its size.
-ghost use Rattle.std.specs.Prelude.{◌≡◌, ◌+◌, ◌<◌, ◌≤◌, ◌^◌, [], false, IsTrue, IsErr, IfOk, IsSomeAnd, OnErr, is_err, length};
+ghost use Rattle.std.specs.Prelude.{◌≡◌, ◌+◌, ◌<◌, ◌≤◌, ◌^◌, [], false, IsTrue, IsErr, IfOk, IsSomeAnd, OnOk, OnErr, is_err, length};
 ghost use Rattle.esr_depot.specs.Calls.{HasCause};
 ghost use Rattle.esr_hash.specs.Fed.{fed_count};
 ghost use Rattle.esr_source.specs.Sure.{ServesAll};
@@ -108,6 +108,7 @@ pub fn read_back<F: Fetch, T: Target>(
     ensures buffer { length buf.new ≡ length buf.old }
     ensures fetch { HasCause (F.faults fetch.old) (F.faults fetch.new) (is_of_fetch result) }
     ensures target { HasCause (T.faults target.old) (T.faults target.new) (is_of_target result) }
+    ensures steady { OnOk result (T.faults target.new ≡ T.faults target.old) }
     ensures fetch_sure { F.is_sure fetch.new ≡ F.is_sure fetch.old }
     ensures target_sure { T.is_sure target.new ≡ T.is_sure target.old }
     ensures sure_ok { IsTrue (F.is_sure fetch.old) → is_of_fetch result ≡ false }

@@ -88,7 +88,7 @@ module _ (s : Start) (log : List Moment) (smooth : IsSmooth s log) (prefixes : P
   depot c front who within (by.Object (objects.Fetch fetch)) h = true≢false (sym smooth.quiet ∙ h.1)
   depot c front who within (by.Object (objects.Shard shard)) h = h
   depot c front who within (by.Object (objects.Target target)) h = h
-  depot c front who within by.Entry h = no_fault front who within h
+  depot c front who within by.Entry h = no_fault front who within h.0
   depot c front who within by.Nothing h = h
 
   -- nor a shard

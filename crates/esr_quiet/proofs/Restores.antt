@@ -187,7 +187,7 @@ module _ (s : Start) (log : List Moment) (smooth : IsSmooth s log) (all_serve : 
   depot c front back who is (by.Object (objects.Fetch fetch)) h = true≢false (sym smooth.quiet ∙ h.1)
   depot c front back who is (by.Object (objects.Shard shard)) h = h
   depot c front back who is (by.Object (objects.Target target)) h = h
-  depot c front back who is by.Entry h = no_fault front back who is h
+  depot c front back who is by.Entry h = no_fault front back who is h.0
   depot c front back who is by.Nothing h = h
 
   -- nor a target

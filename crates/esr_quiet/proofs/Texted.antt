@@ -6,7 +6,7 @@ use Rattle.esr_model.specs.Names.{BlobName, Root, Latest, Snap, Meta, IndexMeta,
 use Rattle.esr_model.specs.Values.{Bytes, Has, FileEntry, RootData, Formats}
 use Rattle.esr_model.specs.Parts.{part_names}
 use Rattle.esr_model.specs.Reach.{Reached, ReachSnap, ReachMeta, ReachIndexMeta, ReachIndex, ReachShardSnap, ReachPart}
-use Rattle.esr_model.specs.Image.{Blobs, Image}
+use Rattle.esr_model.specs.Image.{Blobs, Image, At}
 use Rattle.esr_core.specs.World.{World, Reader, Caller, no_caller, Opened, OpenedEmpty, OpenedRecord}
 use Rattle.esr_core.specs.Restores.{IsTestOf, IsPiece}
 use Rattle.esr_core.specs.Entry.{Why, Read, ReadBlob, RestoredShard, CommitTest, ReadFails, Step, AskStep, LookStep, ReadStep, Reply, WasDone, WasFetched, WasAbsent, HasEnded, DepotFault, Refused, Moment}
@@ -55,7 +55,7 @@ reader_no_test : (f : Formats) (q : Reader) (name : BlobName) (image : Image) (v
 reader_no_test f q name image v may test = elim may [ inl is ↦ subst (IsTestOf v) is test | inr piece ↦ piece_no_test q.index q.number v name piece.0 test ]
 
 reach_no_test : (f : Formats) (w : World) (name : BlobName) (v : ℕ) → InReach f w name → IsTestOf v name → ⊥
-reach_no_test f w name v reach test = elim reach [ inl root ↦ subst (IsTestOf v) root.2 test | inr reached ↦ reached_no_test f _ w.root v name reached test ]
+reach_no_test f w name v reach test = elim reach.2 [ inl root ↦ subst (IsTestOf v) root test | inr reached ↦ reached_no_test f (At f w.blobs) reached.0 v name reached.2 test ]
 
 -- a verification alone does
 pub by_verify : (f : Formats) (w : World) (name : BlobName) (image : Image) (v who : ℕ) → IsTestOf v name → Fetcher f w name (Some image) who → MayVerify w name

@@ -64,7 +64,7 @@ module _ (s : Start) (log : List Moment) (smooth : IsSmooth s log) (prefixes : P
   depot c front back caller is (by.Object (objects.Fetch fetch)) h = true≢false (sym smooth.quiet ∙ h.1)
   depot c front back caller is (by.Object (objects.Shard shard)) h = h
   depot c front back caller is (by.Object (objects.Target target)) h = h
-  depot c front back caller is by.Entry h = no_fault front back caller is h
+  depot c front back caller is by.Entry h = no_fault front back caller is h.0
   depot c front back caller is by.Nothing h = h
 
   -- each test blob that was committed and not removed is there

@@ -36,12 +36,12 @@ second_false false y h = h
 tests_apart : (m n : ℕ) → (m == n) ≡ false → m ≡ n → ⊥
 tests_apart m n apart same = true≢false (sym (eq-eqb m n same) ∙ apart)
 
-snaps_once : (ss : List CodeSnap) → AreSnaps ss → AreOnce (map (λ (s : RootSnap). s.uuid) (map root_snap_of ss))
+pub snaps_once : (ss : List CodeSnap) → AreSnaps ss → AreOnce (map (λ (s : RootSnap). s.uuid) (map root_snap_of ss))
 snaps_once ss rule =
     subst AreOnce (sym (map-map (λ (s : RootSnap). s.uuid) root_snap_of ss))
     (once_distinct clashes (λ (s : CodeSnap). s.uuid.number) (λ s t apart. tests_apart s.uuid.number t.uuid.number (second_false (bytes_eq s.name t.name) (same_id s.uuid t.uuid) apart)) ss rule.distinct)
 
-indices_once : (is : List CodeIndex) → AreIndices is → AreOnce (map (λ (x : RootIndex). x.id) (map root_index_of is))
+pub indices_once : (is : List CodeIndex) → AreIndices is → AreOnce (map (λ (x : RootIndex). x.id) (map root_index_of is))
 indices_once is rule =
     subst AreOnce (sym (map-map (λ (x : RootIndex). x.id) root_index_of is)) (once_distinct same_index (λ (i : CodeIndex). i.id.number) (λ i j apart. tests_apart i.id.number j.id.number apart) is rule.distinct)
 

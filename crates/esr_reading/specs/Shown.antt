@@ -50,13 +50,13 @@ pub record IsOf (q : Reader) (address : Address) : Type 0 where
   pub index : address.index ≡ q.name
   pub number : address.number ≡ q.number
 
--- a fetch has failed, or the container did in a step of the ticket
+-- a fetch has failed, or the container did in a step of the ticket, which it can't where it is quiet
 abbrev pub DepotShown : {S F H T : Type 0} → Counts F T → Start → List Moment → ℕ → By S F H T → Type 0
 DepotShown c s log who (by.Object (objects.Stage stage)) = ⊥
 DepotShown c s log who (by.Object (objects.Fetch fetch)) = Faulty s (c.fetch fetch)
 DepotShown c s log who (by.Object (objects.Shard shard)) = ⊥
 DepotShown c s log who (by.Object (objects.Target target)) = ⊥
-DepotShown c s log who by.Entry = HadFault log who
+DepotShown c s log who by.Entry = HadFault log who × (s.quiet ≡ false)
 DepotShown c s log who by.Nothing = ⊥
 
 -- the target of the unit has failed, which it can't where targets are sure
@@ -100,11 +100,13 @@ pub record IsMisprinted (s : Start) (q : Reader) (name : BlobName) (stated_len :
   pub found_digest_is : found_digest ≡ (formats_of s).digest (concat fronts)
   pub differ : stated_len ≡ found_len → stated_digest ≡ found_digest → ⊥
 
--- the parts of a file aren't cut as the snapshot of the shard says
+-- the print of what was read of a file is the stated one, but its parts aren't cut as the snapshot of the shard says
 pub record IsMiscut (s : Start) (q : Reader) (name other : BlobName) : Type 0 where
   pub fronts : List Bytes
   pub file : HasReadFile s q name fronts
   pub other_is : other ≡ ShardSnap q.index q.number q.uuid
+  pub len_is : length (concat fronts) ≡ file.e.len
+  pub digest_is : (formats_of s).digest (concat fronts) ≡ file.e.digest
   pub cut : AreExact q.index q.number file.e fronts → ⊥
 
 -- By its cause: an object that failed, or a step; or what was read is absent or no snapshot of a shard, or isn't what that states.

@@ -1,11 +1,15 @@
 -- Where the container tells that no call of it fails, after a step.
-use Rattle.std.proofs.Common.{◌≡◌, ℕ, ◌+◌, ◌^◌, ◌<◌, ◌≤◌, Bool, true, false, true≢false, List, [], ◌∷◌, ◌++◌, length, Option, Some, IfSome, IsTrue, Err, refl, sym, ap, ◌∙◌, subst, arith, length-append}
-use Rattle.esr_core.specs.Entry.{Entry, Moment}
+use Rattle.std.proofs.Common.{◌≡◌, ℕ, ◌+◌, ◌^◌, ◌<◌, ◌≤◌, Bool, true, false, true≢false, List, [], ◌∷◌, ◌++◌, length, Option, Some, IfSome, IsTrue, Err, cond, refl, sym, ap, ◌∙◌, subst, inl, inr, arith, length-append}
+use Rattle.std.proofs.lemmas.List.Sums.{sum_by-cons}
+use Rattle.esr_model.specs.Values.{Has}
+use Rattle.esr_model.specs.Image.{Image}
+use Rattle.esr_core.specs.Entry.{Refused, DepotFault, Entry, Moment}
 use Rattle.esr_depot.specs.declared.error.CallError.{CallError}
 use Rattle.esr_depot.specs.declared.error.CallError.TheVariants.{Memory}
 use Rattle.esr_depot.specs.Look.{Look}
 use Rattle.esr_depot.specs.Calls.{Change, Serves, Called}
-use Rattle.esr_repo.specs.Log.{image_at, log_of}
+use Rattle.esr_desk.specs.Shown.{NeverFailed}
+use Rattle.esr_repo.specs.Log.{image_at, tick, log_from, log_of}
 use Rattle.esr_repo.specs.Counted.{is_fault, fault_entries}
 use Rattle.esr_repo.specs.Calm.{IsCalm}
 use Rattle.esr_repo.proofs.Logs.{length-log}
@@ -99,3 +103,39 @@ sure_now quiet l clock es seen h view is_quiet below =
 -- so is what a call found
 pub found_sure : {F : Type 0} (sure : ℕ) (is_sure : F → Bool) (o : Option F) (fetch : F) → o ≡ Some fetch → IfSome o (λ f. 0 < sure → IsTrue (is_sure f)) → 0 < sure → IsTrue (is_sure fetch)
 found_sure {F} sure is_sure o fetch is h = subst (λ (x : Option F). IfSome x (λ f. 0 < sure → IsTrue (is_sure f))) is h
+
+-- ---- failures
+
+counted_more : (x : Entry) (es : List Entry) → fault_entries (x ∷ es) ≡ cond (is_fault x.reply) 1 0 + fault_entries es
+counted_more x es = sum_by-cons (λ (y : Entry). cond (is_fault y.reply) 1 0) x es
+
+one_counted : (b : Bool) (n : ℕ) → b ≡ true → 1 ≤ cond b 1 0 + n
+one_counted true n e = let is : 1 ≤ 1 + n = omega arith in is
+one_counted false n e = absurd cc
+
+rest_counted : (b : Bool) (n : ℕ) → 1 ≤ n → 1 ≤ cond b 1 0 + n
+rest_counted true n h = let is : 1 ≤ 1 + n = omega arith in is
+rest_counted false n h = let rest : 1 ≤ n = h in let is : 1 ≤ 0 + n = omega (arith, rest) in is
+
+counted_one : (es : List Entry) (e : Entry) → Has es e → is_fault e.reply ≡ true → 1 ≤ fault_entries es
+counted_one [] e h fault = absurd h
+counted_one (x ∷ es) e (inl is) fault = subst (λ (n : ℕ). 1 ≤ n) (sym (counted_more x es)) (one_counted (is_fault x.reply) (fault_entries es) (ap (λ (y : Entry). is_fault y.reply) is ∙ fault))
+counted_one (x ∷ es) e (inr h) fault = subst (λ (n : ℕ). 1 ≤ n) (sym (counted_more x es)) (rest_counted (is_fault x.reply) (fault_entries es) (counted_one es e h fault))
+
+none_counted : (es : List Entry) (e : Entry) → fault_entries es ≡ 0 → Has es e → e.reply ≡ Refused DepotFault → ⊥
+none_counted es e none h is =
+    let one : 1 ≤ fault_entries es = counted_one es e h (ap is_fault is) in
+    let zeros : fault_entries es ≡ 0 = none in
+    omega (arith, one, zeros)
+
+in_history : (at : ℕ → Option Image) (t : ℕ) (es : List Entry) (m : Moment) → Has (log_from at t es) m → Has es m.entry
+in_history at t [] m h = absurd h
+in_history at t (e ∷ es) m (inl here) = inl (ap (λ (x : Moment). x.entry) here)
+in_history at t (e ∷ es) m (inr h) = inr (in_history at (tick t e) es m h)
+
+-- where the container is taken for quiet no entry tells one
+pub never_failed : (quiet : Bool) (l : Look) (clock : ℕ) (es : List Entry) (seen : List Moment) → IsCalm quiet l.sure es → log_of l clock es ≡ seen → quiet ≡ true → length seen ≤ 2 ^ 41 → NeverFailed seen
+never_failed quiet l clock es seen h view is_quiet short m has failed =
+    let same : length seen ≡ length es = sym (ap length view) ∙ length-log (image_at l) clock es in
+    let few : length es ≤ 2 ^ 41 = subst (λ (n : ℕ). n ≤ 2 ^ 41) same short in
+    none_counted es m.entry (h is_quiet few).0 (in_history (image_at l) clock es m (subst (λ (log : List Moment). Has log m) (sym view) has)) failed

@@ -18,6 +18,7 @@ pub mod Doing
 pub mod Taken
 pub mod Reading
 pub mod Verifying
+pub mod Checks
 pub mod Restores
 pub mod Failing
 pub mod Calms

@@ -29,12 +29,12 @@ use Rattle.esr_progress.specs.Plan.{Plan, IsPlanOf, IsGivenIn}
 use Rattle.esr_progress.specs.Units.{given_by, given_of, GivesWork, GivesUnit}
 use Rattle.esr_desk.specs.Start.{Start, formats_of, world_of, or_no_ticket, ticket_of}
 use Rattle.esr_desk.specs.Taken.{fresh, NewRoot, TookWork}
-use Rattle.esr_desk.specs.Readers.{or_no_reader, reader_of, fresh_reader, ByWork, TookUnit}
+use Rattle.esr_desk.specs.Readers.{or_no_reader, reader_of, fresh_reader, ByWork, TookUnit, IsBareIn, IsBare}
 use Rattle.esr_desk.specs.Readers.{TookWork as TookReading}
-use Rattle.esr_repo.specs.Given.{base_for, based, IsBased, IsRootable, HasRoot}
+use Rattle.esr_repo.specs.Given.{base_for, based, IsBased, IsRootable, HasRoot, HasNoRoot}
 use Rattle.esr_repo.specs.Next.{Added}
 use Rattle.esr_repo.specs.May.{MayNote}
-use Rattle.esr_repo.specs.Grown.{put_there, reader_there, added_ticket, added_reader}
+use Rattle.esr_repo.specs.Grown.{put_there, reader_there, added_world, added_ticket, added_reader}
 
 -- ---- no unit is ready
 
@@ -156,6 +156,15 @@ may_give s log u made given p next gives has given_is plan next_is =
       plan_is = λ image old h. plan (formats_of s);
       next_is = λ image. next_is ∙ sym (next_taken (formats_of s) (world_of s log) u.op (given_of u) (fin.get (world_of s log).ops u.op));
     })
+
+-- a take of a restore's shard leaves the safe root
+rooted_restore : (w : World) (o index number : ℕ) (r : Option Restoring) → ((taken_restore w o index number r).safe ≡ w.safe) × ((taken_restore w o index number r).root ≡ w.root)
+rooted_restore w o index number None = (refl, refl)
+rooted_restore w o index number (Some r) = go (restore_shard r.shards index number)
+  where
+    go : (s : Option RestoreShard) → ((taken_restore_shard w o r s).safe ≡ w.safe) × ((taken_restore_shard w o r s).root ≡ w.root)
+    go None = (refl, refl)
+    go (Some s) = (refl, refl)
 
 -- ---- its ticket
 
@@ -340,3 +349,19 @@ module _ (s : Start) (old new : List Moment) (u : ReadyUnit) (made : Option Root
       took_by u.work (ticket_of s new u.ticket) (reader_of s new u.ticket) refl gives.gives base
       (added_ticket s old new 0 TakeStep (Gave u.ticket u.op given) a u.ticket ∙ ap (λ (x : Given). ticket_by x (fin.get w.ops u.op)) given_is)
       (added_reader s old new 0 TakeStep (Gave u.ticket u.op given) a u.ticket ∙ ap (λ (x : Given). reader_by x (fin.get w.ops u.op)) given_is)
+
+  -- the rest of a restore's unit
+  bare_by : HasNoRoot u made → (given : Given) → given ≡ given_of u → Added s old new 0 TakeStep (Gave u.ticket u.op given) → (work : Work) → u.work ≡ work → u.copy.base ≡ base_for work u.copy.base
+      → ByWork work (IsBareIn (world_of s new) (record { ready = u; new_root = made })) (Unit {0})
+  bare_by none given given_is a (works.RestoreShard uuid shard index place) is base =
+      let told : given ≡ GivenRestore shard.index.number shard.number uuid.number = given_is ∙ ap (λ (x : Work). given_by x u.copy) is in
+      let same : taken_by f w u.op given (fin.get w.ops u.op) ≡ taken_restore w u.op shard.index.number shard.number (fin.get w.restores u.op) = ap (λ (x : Given). taken_by f w u.op x (fin.get w.ops u.op)) told in
+      let world = added_world s old new 0 TakeStep (Gave u.ticket u.op given) a in
+      let stays = rooted_restore w u.op shard.index.number shard.number (fin.get w.restores u.op) in
+      let safe : (world_of s new).safe ≡ w.safe = ap (λ (x : World). x.safe) world ∙ ap (λ (x : World). x.safe) same ∙ stays.0 in
+      let root : (world_of s new).root ≡ w.root = ap (λ (x : World). x.root) world ∙ ap (λ (x : World). x.root) same ∙ stays.1 in
+      record { new_root = none uuid shard index place is; base = base; copy = record { safe = gives.copy.safe ∙ sym safe; root = gives.copy.root ∙ sym root } }
+  bare_by none given given_is a work is base = tt
+
+  pub bare : HasNoRoot u made → (given : Given) → IsBased u → given ≡ given_of u → Added s old new 0 TakeStep (Gave u.ticket u.op given) → IsBare s new (record { ready = u; new_root = made })
+  bare none given base given_is a = bare_by none given given_is a u.work refl base

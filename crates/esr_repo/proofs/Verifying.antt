@@ -198,7 +198,7 @@ removed_caller s old new names a = added_caller s old new 0 (ReadStep (RemoveTes
 -- ---- it ends
 
 verifies : (w : World) → CanEnd w.caller → Verifies w
-verifies w can = let drew = drawn_is w.caller can.drawn in record { id = drew.0; drawn = drew.1; found = can.found; removed = can.removed }
+verifies w can = let drew = drawn_is w.caller can.drawn in record { id = drew.0; drawn = drew.1; master = can.master drew.0 drew.1; found = can.found; removed = can.removed }
 
 pub may_note_verified : (s : Start) (old log : List Moment) (next : ℕ) → log ≡ old → CanEnd (caller_of s old) → next ≡ (world_of s log).next_id → MayNote s log 0 (ReadStep VerifiedAll) HasEnded None next
 may_note_verified s old log next e before next_is =

@@ -166,8 +166,8 @@ abbrev CommitsSo : Start → List Moment → ℕ → BlobName → Option Bytes �
 CommitsSo s log k name contents = (bytes : Bytes) × Holds s contents bytes × CanCommit s (ticket_of s log k) name bytes
 
 -- a finalization's metadata may be there already
-refinding : (f : Formats) (w : World) (k : ℕ) (t : Ticket) (name : BlobName) (bytes : Bytes) → NoDeleting w → IsOut w k t → MayCommit f t name bytes → IsMetadata name → Refinds f w k name
-refinding f w k t name bytes no_deleting out may meta = go may
+refinding : (f : Formats) (w : World) (k : ℕ) (t : Ticket) (name : BlobName) (bytes : Bytes) → NoDeleting w → IsOut w k t → t.settled ≡ false → MayCommit f t name bytes → IsMetadata name → Refinds f w k name
+refinding f w k t name bytes no_deleting out unsettled may meta = go may
   where
     no_shard : (n : BlobName) → IsMetaOf meta.0 n → ShardCommits t n → ⊥
     no_shard n (inl e) h = subst (ShardCommits t) e h
@@ -191,7 +191,7 @@ refinding f w k t name bytes no_deleting out may meta = go may
     own : (change : Swap) (work : Work) → t.work ≡ work → swap_of f work t.root ≡ Some change → Has change.own (name, bytes) → Refinds f w k name
     own change (Finalize info results made) is e h =
         let same : metadata f info ≡ change.own = ap (λ (x : Swap). x.own) (some_same _ change e) in
-        record { t = t; out = out; info = info; results = results; made = made; work = is; bytes = bytes; own = subst (λ (x : List (BlobName × Bytes)). Has x (name, bytes)) (sym same) h }
+        record { t = t; out = out; unsettled = unsettled; info = info; results = results; made = made; work = is; bytes = bytes; own = subst (λ (x : List (BlobName × Bytes)). Has x (name, bytes)) (sym same) h }
     own change (Deleting uuids plan) is e h = absurd (no_deleting k t uuids plan out.there is)
     own change (Shard index number) is e h = absurd (none_some change e)
     own change Drop is e h = absurd (none_some change e)
@@ -209,7 +209,7 @@ commit_by s log k name bytes no_deleting can = record {
   is = refl;
   stored = can.stored;
   commits = λ named image tells adds. Committing k name image (committable s log k name bytes can named) adds;
-  finds = λ named meta image tells there. Finding k name image (refinding (formats_of s) (world_of s log) k (ticket_of s log k) name bytes no_deleting (out_is s log k can.out) can.may meta) there;
+  finds = λ named meta image tells there. Finding k name image (refinding (formats_of s) (world_of s log) k (ticket_of s log k) name bytes no_deleting (out_is s log k can.out) can.unsettled can.may meta) there;
   taken = λ named no_meta image tells there. Taken k name image (committable s log k name bytes can named) no_meta there;
   fails = λ named image tells left. CommitFails k name image (committable s log k name bytes can named) left;
 }

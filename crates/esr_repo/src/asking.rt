@@ -1,5 +1,5 @@
 //! The steps that ask, take and look.
-ghost use Rattle.std.specs.Prelude.{length, ◌≡◌, ◌+◌, ◌<◌, ◌^◌, ℕ, List, [], map, Option, Some, None, true, false, IfOk, IfSome, OnOk, OnErr};
+ghost use Rattle.std.specs.Prelude.{length, ◌≡◌, ◌+◌, ◌<◌, ◌^◌, ◌≤ℤ◌, negsuc, ℕ, List, [], map, Option, Some, None, true, false, IfOk, IfSome, OnOk, OnErr};
 ghost use Rattle.esr_model.specs.Names.{Latest};
 ghost use Rattle.esr_model.specs.Values.{Bytes};
 ghost use Rattle.esr_core.specs.Entry.{Moment, AskStep, TakeStep, DrawStep, BeginStep, CommitStep, LatestStep, FetchStep, RaiseStep, SettleStep, DoneStep, FailedStep, FinishStep, DroppedStep, LookStep, Accepted, DrawnFrom, WasBegun, WasReplaced, RaisedTo, WasSettled, HasEnded, Looked};
@@ -15,7 +15,7 @@ ghost use Rattle.esr_desk.specs.Entries.{why_of};
 ghost use Rattle.esr_desk.specs.Start.{Start, ticket_of, told_bytes};
 ghost use Rattle.esr_desk.specs.Outcome.{commit_reply, fetch_reply, take_reply};
 ghost use Rattle.esr_desk.specs.Conditions.{CanDraw, CanCommit, CanPut, CanBegin, Holds, CanFetch, CanRaise, CanSettle, CanEnd, CanFail, CanFinish, CanDrop};
-ghost use Rattle.esr_desk.specs.Readers.{TookUnit};
+ghost use Rattle.esr_desk.specs.Readers.{TookUnit, IsBare};
 ghost use Rattle.esr_desk.specs.declared.refusal.StepRefusal.{StepRefusal};
 ghost use Rattle.esr_repo.specs.Next.{Did};
 
@@ -54,6 +54,7 @@ impl<D: Depot, K: Told> Repo<D, K> {
         requires room { length self.old < 2 ^ 41 }
         ensures step { Did K.start self.old self.new 0 TakeStep take_reply result }
         ensures took { IfOk result (λ o. IfSome o (λ u. TookUnit K.start self.new u)) }
+        ensures bare { IfOk result (λ o. IfSome o (λ u. IsBare K.start self.new u)) }
     {
         self.check(0, Step::Take)?;
         if let Some((progress, ready)) = self.ready(alloc)? {
@@ -66,7 +67,8 @@ impl<D: Depot, K: Told> Repo<D, K> {
 
     /// The snapshots of the safe root.
     pub fn look(&mut self, alloc: Global) -> Result<Look, StepRefusal>
-        ensures { Did K.start self.old self.new 0 LookStep (λ l. Looked (map root_snap_of l.listing) (count_of l.safe)) result }
+        ensures step { Did K.start self.old self.new 0 LookStep (λ l. Looked (map root_snap_of l.listing) (count_of l.safe)) result }
+        ensures least { IfOk result (λ l. negsuc 0 ≤ℤ l.safe) }
     {
         self.check(0, Step::Look)?;
         let safe = self.safe();

@@ -1,5 +1,5 @@
 //! What is kept of the world, as the steps read it.
-ghost use Rattle.std.specs.Prelude.{◌≡◌, ◌+◌, ◌^◌, ◌<◌, ◌≤◌, ℕ, suc, true, length, MatchOption};
+ghost use Rattle.std.specs.Prelude.{◌≡◌, ◌+◌, ◌^◌, ◌<◌, ◌≤◌, ◌≤ℤ◌, negsuc, ℕ, suc, true, length, MatchOption};
 ghost use Rattle.std.specs.FinMap as fin;
 ghost use Rattle.esr_model.specs.Kept.{first_id};
 ghost use Rattle.esr_model.specs.Values.{ReadsBack};
@@ -12,6 +12,7 @@ ghost use Rattle.esr_formats.specs.Clusters.{count_of, cluster_of, cluster_kind}
 ghost use Rattle.esr_record.specs.Record.{AreNumbers};
 ghost use Rattle.esr_progress.specs.Plan.{IsPlanOf, seat_of, seat_of_code};
 ghost use Rattle.esr_desk.specs.Numbered.{Numbered};
+ghost use Rattle.esr_desk.specs.Shown.{NeverFailed};
 ghost use Rattle.esr_desk.specs.Start.{world_of, ticket_of};
 ghost use Rattle.esr_repo.specs.Repo.{NoDeleting, AreTests, HasInfos};
 ghost use Rattle.esr_repo.specs.Next.{IsLive};
@@ -44,6 +45,13 @@ impl<D: Depot, K: Told> Repo<D, K> {
         ensures { Numbered 1 (world_of K.start self.now) }
     {
         self.rules();
+    }
+
+    /// A container that is taken for quiet has failed in none of the first 2^41 entries.
+    pub fn never_fails(&self)
+        ensures { K.start.quiet ≡ true → length self.now ≤ 2 ^ 41 → NeverFailed self.now }
+    {
+        let _next = self.next;
     }
 
     /// The list of ops.
@@ -83,7 +91,8 @@ impl<D: Depot, K: Told> Repo<D, K> {
     /// The generation of the safe root, -1 where there is none.
     pub(crate) fn safe(&self) -> i64
         requires live { IsLive K.start self.now }
-        ensures { count_of result ≡ (world_of K.start self.now).safe }
+        ensures count { count_of result ≡ (world_of K.start self.now).safe }
+        ensures least { negsuc 0 ≤ℤ result }
     {
         self.record().safe
     }

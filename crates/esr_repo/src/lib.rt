@@ -5,6 +5,7 @@ mod accepting;
 mod asking;
 mod begun;
 mod calls;
+mod checking;
 mod ending;
 mod kept;
 mod removing;

@@ -9,8 +9,8 @@ ghost use Rattle.esr_progress.specs.Units.{NextUnit, GivesUnit, given_of};
 ghost use Rattle.esr_desk.specs.Entries.{unit_of};
 ghost use Rattle.esr_desk.specs.Outcome.{take_reply};
 ghost use Rattle.esr_desk.specs.Start.{world_of};
-ghost use Rattle.esr_desk.specs.Readers.{TookUnit};
-ghost use Rattle.esr_repo.specs.Given.{based, IsBased, IsRootable, HasRoot};
+ghost use Rattle.esr_desk.specs.Readers.{TookUnit, IsBare};
+ghost use Rattle.esr_repo.specs.Given.{based, IsBased, IsRootable, HasRoot, HasNoRoot};
 ghost use Rattle.esr_repo.specs.Next.{IsLive, Did};
 
 use crate::{Repo, Told};
@@ -82,7 +82,8 @@ fn given(alloc: Global, unit: &ReadyUnit) -> Result<Given, AllocError>
 /// The root that a finalization is to write.
 fn new_root(alloc: Global, unit: &ReadyUnit) -> Result<Option<RootData>, AllocError>
     requires { IsRootable unit.now }
-    ensures { IfOk result (λ root. HasRoot unit.now root) }
+    ensures root { IfOk result (λ root. HasRoot unit.now root) }
+    ensures none { IfOk result (λ root. HasNoRoot unit.now root) }
 {
     let Work::Finalize { info, shards } = &unit.work else {
         return Ok(None);
@@ -124,6 +125,7 @@ impl<D: Depot, K: Told> Repo<D, K> {
         requires plan { (f : Formats) → IsPlanOf (taken_by f (world_of K.start self.old) ready.op (given_of ready) (fin.get (world_of K.start self.old).ops ready.op)) progress }
         ensures step { Did K.start self.old self.new 0 TakeStep (λ unit. take_reply (Some unit)) result }
         ensures took { IfOk result (λ unit. TookUnit K.start self.new unit) }
+        ensures bare { IfOk result (λ unit. IsBare K.start self.new unit) }
     {
         self.rules();
         let given = given(alloc, &ready)?;

@@ -258,10 +258,58 @@ abbrev pub falls_before : List Entry → Bool
 falls_before [] = false
 falls_before (e ∷ es) = if is_of_line e then false else (fails_swap e.step e.reply || falls_before es)
 
+-- ---- a check has two entries that belong to lines: its look, and its end
+
+abbrev pub is_check : Item → Bool
+is_check items.Check = true
+is_check item = false
+
+abbrev pub is_looked : entry.Reply → Bool
+is_looked (Looked snapshots safe) = true
+is_looked reply = false
+
+-- a look that was answered
+abbrev pub is_look_answered : Step → entry.Reply → Bool
+is_look_answered LookStep reply = is_looked reply
+is_look_answered step reply = false
+
+-- after the look of a check, the entries from the next one on that belongs to a line
+abbrev pub past_look : Bool → List Entry → List Entry
+past_look checks [] = []
+past_look checks (e ∷ es) = if checks && is_look_answered e.step e.reply then from_line es else e ∷ es
+
+-- the entries from the one on that answers a line
+abbrev pub from_item : Item → List Entry → List Entry
+from_item item rest = past_look (is_check item) (from_line rest)
+
+-- what the end of a check answers its line
+abbrev pub checked_reply : Read → Option Reply
+checked_reply (CheckedAll snapshots blobs) = Some (Checked snapshots blobs)
+checked_reply (ReadFails why) = Some (Failed why None)
+checked_reply read = None
+
+abbrev pub check_ended : Read → entry.Reply → Option Reply
+check_ended read HasEnded = checked_reply read
+check_ended read reply = None
+
+-- a look that was refused, as a record swap had failed
+abbrev pub down_reply : entry.Reply → Option Reply
+down_reply (entry.Refused (DeposedAt place)) = Some Deposed
+down_reply reply = None
+
+-- what an entry answers a check: its end, or its look where that was refused
+abbrev pub check_answer : Step → entry.Reply → Option Reply
+check_answer LookStep reply = down_reply reply
+check_answer (ReadStep read) reply = check_ended read reply
+check_answer step reply = None
+
+abbrev pub line_answer : Item → List Entry → Step → entry.Reply → Option Reply
+line_answer item all step reply = if is_check item then check_answer step reply else answer_at all step reply
+
 -- what the line of the first of these entries was answered, and the entries after it
-abbrev pub line_reply : List Entry → List Entry → Option (Reply × List Entry)
-line_reply all [] = None
-line_reply all (e ∷ es) = option_map (λ (r : Reply). (r, es)) (answer_at all e.step e.reply)
+abbrev pub line_reply : Item → List Entry → List Entry → Option (Reply × List Entry)
+line_reply item all [] = None
+line_reply item all (e ∷ es) = option_map (λ (r : Reply). (r, es)) (line_answer item all e.step e.reply)
 
 -- a record swap failed in the first of them
 abbrev pub falls_first : List Entry → Bool
@@ -287,7 +335,7 @@ abbrev pub replies_from : List Entry → List ScriptLine → Bool → List Entry
 replies_from all [] down rest = []
 replies_from all (line ∷ lines) down rest =
     if is_wait line.item then wait_reply (down || falls_before rest) ∷ replies_from all lines down rest
-    else and_more (line_reply all (from_line rest)) (replies_from all lines (down || (falls_before rest || falls_first (from_line rest))))
+    else and_more (line_reply line.item all (from_item line.item rest)) (replies_from all lines (down || (falls_before rest || falls_first (from_item line.item rest))))
 
 -- the replies of the lines, in order, as far as there is an answer
 unfoldable pub replies : List ScriptLine → List Entry → List Reply

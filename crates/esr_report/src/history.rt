@@ -1,6 +1,6 @@
 //! The replies of a script's lines.
 ghost use Rattle.std.specs.Prelude.{◌≡◌, [], Some, map, IfOk, option_map};
-ghost use Rattle.esr_report.specs.Replies.{fails_swap, has_fallen, is_end, is_line_read, is_of_line, from_line, falls_before, deposed_by, ask_reply, look_reply, ended_reply, read_reply, answer_at, is_wait, wait_reply, replies};
+ghost use Rattle.esr_report.specs.Replies.{fails_swap, has_fallen, is_end, is_line_read, is_of_line, from_line, falls_before, deposed_by, ask_reply, look_reply, ended_reply, read_reply, answer_at, is_check, is_looked, is_look_answered, past_look, checked_reply, check_ended, down_reply, check_answer, line_answer, is_wait, wait_reply, replies};
 ghost use Rattle.esr_core.specs.After.{or_else, swaps_record};
 ghost use Rattle.esr_core.specs.Entry.{is_recorded, Refused};
 ghost use Rattle.esr_progress.specs.Asked.{asked_of};
@@ -242,6 +242,107 @@ fn answer_at(
     }
 }
 
+fn is_check(item: &Item) -> bool
+    ensures { result ≡ is_check item.now }
+{
+    matches!(item, Item::Check)
+}
+
+fn is_looked(answer: &Answer) -> bool
+    ensures { result ≡ is_looked (answer_of answer.now) }
+{
+    matches!(answer, Answer::Looked { .. })
+}
+
+/// A look that was answered.
+fn is_look_answered(entry: &Entry) -> bool
+    ensures { result ≡ is_look_answered entry.now.step entry.now.reply }
+{
+    match &entry.step {
+        Step::Look => is_looked(&entry.answer),
+        _ => false,
+    }
+}
+
+/// After the look of a check, the entries from the next one on that belongs to a line.
+fn past_look(checks: bool, entries: &[Entry]) -> &[Entry]
+    ensures { result.now ≡ past_look checks entries.now }
+{
+    let [first, more @ ..] = entries else {
+        return entries;
+    };
+    if checks && is_look_answered(first) {
+        return from_line(more);
+    }
+    entries
+}
+
+fn checked_reply(read: &Read) -> Option<Reply>
+    ensures { option_map reply_of result ≡ checked_reply (read_of read.now) }
+{
+    match read {
+        Read::Checked { snapshots, blobs } => Some(Reply::Checked {
+            snapshots: *snapshots,
+            blobs: *blobs,
+        }),
+        Read::Failed { why } => Some(Reply::Failed {
+            why: *why,
+            op: None,
+        }),
+        _ => None,
+    }
+}
+
+/// What the end of a check answers its line.
+fn check_ended(read: &Read, answer: &Answer) -> Option<Reply>
+    ensures { option_map reply_of result ≡ check_ended (read_of read.now) (answer_of answer.now) }
+{
+    match answer {
+        Answer::Ended => checked_reply(read),
+        _ => None,
+    }
+}
+
+/// What the look of a check answers it, where that was refused.
+fn down_reply(answer: &Answer) -> Option<Reply>
+    ensures { option_map reply_of result ≡ down_reply (answer_of answer.now) }
+{
+    match answer {
+        Answer::Refused {
+            refusal: EntryRefusal::Deposed { entry: _ },
+        } => Some(Reply::Deposed),
+        _ => None,
+    }
+}
+
+/// What an entry answers a check.
+fn check_answer(entry: &Entry) -> Option<Reply>
+    ensures { option_map reply_of result ≡ check_answer entry.now.step entry.now.reply }
+{
+    match &entry.step {
+        Step::Look => down_reply(&entry.answer),
+        Step::Read { read } => check_ended(read, &entry.answer),
+        _ => None,
+    }
+}
+
+/// What an entry answers a line.
+fn line_answer(
+    alloc: Global,
+    entries: &[Entry],
+    told: &ToldEnds,
+    item: &Item,
+    entry: &Entry,
+) -> Result<Option<Reply>, AllocError>
+    requires { AreAllEnds entries.now told.now }
+    ensures { IfOk result (λ r. option_map reply_of r ≡ line_answer item.now entries.now entry.now.step entry.now.reply) }
+{
+    if is_check(item) {
+        return Ok(check_answer(entry));
+    }
+    answer_at(alloc, entries, told, entry)
+}
+
 fn is_wait(item: &Item) -> bool
     ensures { result ≡ is_wait item.now }
 {
@@ -271,10 +372,10 @@ pub fn replies(alloc: Global, script: &Script, history: &History) -> Result<Repl
             replies.push(wait_reply(falls))?;
             continue;
         }
-        let [entry, more @ ..] = from_line(rest) else {
+        let [entry, more @ ..] = past_look(is_check(&line.item), from_line(rest)) else {
             return Ok(replies);
         };
-        let Some(reply) = answer_at(alloc, entries, &told, entry)? else {
+        let Some(reply) = line_answer(alloc, entries, &told, &line.item, entry)? else {
             return Ok(replies);
         };
         replies.push(reply)?;

@@ -20,6 +20,8 @@ use Rattle.esr_desk.specs.Entries.{why_of}
 use Rattle.esr_desk.specs.Start.{Start}
 use Rattle.esr_desk.specs.Last.{IsLast}
 use Rattle.esr_desk.specs.Halts.{Halts}
+use Rattle.esr_desk.specs.Shown.{NeverFailed}
+use Rattle.esr_desk.specs.Unquiet.{unquiet_last}
 use Rattle.esr_desk.specs.Readers.{reader_of}
 use Rattle.esr_reading.specs.Outcome.{Waited, Stepped}
 use Rattle.esr_reading.specs.Shown.{Counts, HadFault, WasMissing, IsOf, DepotShown, TargetShown, ReadShown, IsDamaged, IsMisprinted, IsMiscut, IsShown}
@@ -111,40 +113,40 @@ module _ {S F H T : Type 0} (c : Counts F T) (s : Start) (log : List Moment) (wh
   abbrev IsShownCause : Cause S F H T → Type 0
   IsShownCause cause = IsShown c s log who (why_of cause.why) cause.by
 
-  refused_shown : (e : StepRefusal) (cause : Cause S F H T) → IsReadRefusal s log who e → cause_refused e ≡ Ok cause → IsShownCause cause
-  refused_shown steps.Memory cause h is = absurd cc
-  refused_shown steps.TurnsSpent cause h is = absurd cc
-  refused_shown (steps.Refused refusals.DepotFault) cause h is =
+  refused_shown : (e : StepRefusal) (cause : Cause S F H T) → (s.quiet ≡ true → NeverFailed log) → IsReadRefusal s log who e → cause_refused e ≡ Ok cause → IsShownCause cause
+  refused_shown steps.Memory cause never h is = absurd cc
+  refused_shown steps.TurnsSpent cause never h is = absurd cc
+  refused_shown (steps.Refused refusals.DepotFault) cause never h is =
       let same : ◌≡◌ {A = Cause S F H T} (record { why = whys.Depot; by = shows.Entry }) cause = cc in
-      subst IsShownCause same (had_fault log who h.0.0 h.0.1)
-  refused_shown (steps.Refused (refusals.CleanupRunning op)) cause h is = absurd cc
-  refused_shown (steps.Refused (refusals.NameInUse uuid)) cause h is = absurd cc
-  refused_shown (steps.Refused (refusals.TooMany limit)) cause h is = absurd cc
-  refused_shown (steps.Refused (refusals.Deposed entry)) cause h is = absurd cc
-  refused_shown (steps.Refused (refusals.Aborted by)) cause h is = absurd cc
-  refused_shown (steps.Refused (refusals.StaleTerm own now)) cause h is = absurd cc
-  refused_shown (steps.Refused (refusals.GenerationsSpent spent)) cause h is = absurd cc
-  refused_shown (steps.Refused (refusals.TermsSpent spent)) cause h is = absurd cc
-  refused_shown (steps.Refused (refusals.IdsSpent next)) cause h is = absurd cc
-  refused_shown (steps.Refused (refusals.NameTaken name)) cause h is = absurd cc
-  refused_shown (steps.Refused (refusals.NoSnapshot at)) cause h is = absurd cc
-  refused_shown (steps.Refused (refusals.BeingDeleted op)) cause h is = absurd cc
-  refused_shown (steps.Refused (refusals.NoIndex place)) cause h is = absurd cc
-  refused_shown (steps.Refused (refusals.CloneRunning op)) cause h is = absurd cc
-  refused_shown (steps.Refused (refusals.RestoreRunning op)) cause h is = absurd cc
-  refused_shown (steps.Refused (refusals.BusyOp op)) cause h is = absurd cc
-  refused_shown (steps.Refused (refusals.BusyTicket ticket)) cause h is = absurd cc
+      subst IsShownCause same (had_fault log who h.0.0 h.0.1, unquiet_last s.quiet log who (ReadStep (ReadBlob h.0.0)) never h.0.1)
+  refused_shown (steps.Refused (refusals.CleanupRunning op)) cause never h is = absurd cc
+  refused_shown (steps.Refused (refusals.NameInUse uuid)) cause never h is = absurd cc
+  refused_shown (steps.Refused (refusals.TooMany limit)) cause never h is = absurd cc
+  refused_shown (steps.Refused (refusals.Deposed entry)) cause never h is = absurd cc
+  refused_shown (steps.Refused (refusals.Aborted by)) cause never h is = absurd cc
+  refused_shown (steps.Refused (refusals.StaleTerm own now)) cause never h is = absurd cc
+  refused_shown (steps.Refused (refusals.GenerationsSpent spent)) cause never h is = absurd cc
+  refused_shown (steps.Refused (refusals.TermsSpent spent)) cause never h is = absurd cc
+  refused_shown (steps.Refused (refusals.IdsSpent next)) cause never h is = absurd cc
+  refused_shown (steps.Refused (refusals.NameTaken name)) cause never h is = absurd cc
+  refused_shown (steps.Refused (refusals.NoSnapshot at)) cause never h is = absurd cc
+  refused_shown (steps.Refused (refusals.BeingDeleted op)) cause never h is = absurd cc
+  refused_shown (steps.Refused (refusals.NoIndex place)) cause never h is = absurd cc
+  refused_shown (steps.Refused (refusals.CloneRunning op)) cause never h is = absurd cc
+  refused_shown (steps.Refused (refusals.RestoreRunning op)) cause never h is = absurd cc
+  refused_shown (steps.Refused (refusals.BusyOp op)) cause never h is = absurd cc
+  refused_shown (steps.Refused (refusals.BusyTicket ticket)) cause never h is = absurd cc
 
-  pub cause_shown : (sure : Bool) (target : T) (trouble : Trouble F) (cause : Cause S F H T) → (s.sure_targets ≡ true → sure ≡ true) → IsOf (reader_of s log who) (c.made_for target)
+  pub cause_shown : (sure : Bool) (target : T) (trouble : Trouble F) (cause : Cause S F H T) → (s.quiet ≡ true → NeverFailed log) → (s.sure_targets ≡ true → sure ≡ true) → IsOf (reader_of s log who) (c.made_for target)
       → Shown c.fetch (c.target target) sure s log who trouble → cause_by target trouble ≡ Ok cause → IsShown c s log who (why_of cause.why) cause.by
-  cause_shown sure target (troubles.Step e) cause serves of h is = refused_shown e cause h is
-  cause_shown sure target (troubles.Fetch fetch) cause serves of h is =
+  cause_shown sure target (troubles.Step e) cause never serves of h is = refused_shown e cause never h is
+  cause_shown sure target (troubles.Fetch fetch) cause never serves of h is =
       let same : ◌≡◌ {A = Cause S F H T} (record { why = whys.Depot; by = shows.Object (objects.Fetch fetch) }) cause = cc in
       subst IsShownCause same h
-  cause_shown sure target troubles.Target cause serves of h is =
+  cause_shown sure target troubles.Target cause never serves of h is =
       let same : ◌≡◌ {A = Cause S F H T} (record { why = whys.Target; by = shows.Object (objects.Target target) }) cause = cc in
       subst IsShownCause same (h.0, unsure s.sure_targets sure serves h.1, of)
-  cause_shown sure target (troubles.Found why) cause serves of h is =
+  cause_shown sure target (troubles.Found why) cause never serves of h is =
       let same : ◌≡◌ {A = Cause S F H T} (record { why = why; by = shows.Nothing }) cause = cc in
       subst IsShownCause same (found_shown S H c s log who why h)
 
@@ -229,7 +231,7 @@ module _ {S F H T : Type 0} (c : Counts F T) (s : Start) (old new : List Moment)
   depot_on (shows.Object (objects.Fetch fetch)) h = h
   depot_on (shows.Object (objects.Shard shard)) h = h
   depot_on (shows.Object (objects.Target target)) h = h
-  depot_on shows.Entry h = had_on s old new who waited h
+  depot_on shows.Entry h = (had_on s old new who waited h.0, h.1)
   depot_on shows.Nothing h = h
 
   damage_on : (b : By S F H T) (name : BlobName) → ReadShown b (IsDamaged s old who name) → ReadShown b (IsDamaged s new who name)

@@ -22,7 +22,7 @@ number_is : (index number file i k : ℕ) → Part index number file i ≡ Part 
 number_is index number file i k same = cc
 
 -- the parts of a file have different names
-parts_differ : (at : ShardId) (e : CodeEntry) (i k : ℕ) → i < k → k < part_count e.print.len e.part_size → name_of (part_name at e i) ≡ name_of (part_name at e k) → ⊥
+pub parts_differ : (at : ShardId) (e : CodeEntry) (i k : ℕ) → i < k → k < part_count e.print.len e.part_size → name_of (part_name at e i) ≡ name_of (part_name at e k) → ⊥
 parts_differ at e i k less =
     let parts : ℕ = (e.print.len + e.part_size - 1) / e.part_size in
     elim (nat_le e.print.len e.part_size) as (λ b. k < (if b then 1 else parts) → name_of (if b then code.Whole at e.name else code.Part at e.name i) ≡ name_of (if b then code.Whole at e.name else code.Part at e.name k) → ⊥) [

@@ -52,25 +52,25 @@ front_is Long size piece rest has =
     sym (take-append-le (suc size) piece rest within ∙ take_all (suc size) piece fits)
 
 -- this is what a fetch of these bytes gives
-front_read : (left : Option Bytes) (extent : Extent) (size : ℕ) (bytes piece : Bytes) → Consumes (Some bytes) left piece → HasExtent extent size piece left → piece ≡ front_of size bytes
+pub front_read : (left : Option Bytes) (extent : Extent) (size : ℕ) (bytes piece : Bytes) → Consumes (Some bytes) left piece → HasExtent extent size piece left → piece ≡ front_of size bytes
 front_read None extent size bytes piece took has = absurd took
 front_read (Some rest) extent size bytes piece took has = front_is extent size piece rest has ∙ ap (λ (l : Bytes). take (suc size) l) (sym took)
 
-told_some : (tells : Bool) (bytes : Bytes) → tells ≡ true → (if tells then Some bytes else None) ≡ Some bytes
+pub told_some : (tells : Bool) (bytes : Bytes) → tells ≡ true → (if tells then Some bytes else None) ≡ Some bytes
 told_some true bytes yes_is = refl
 told_some false bytes yes_is = absurd cc
 
-extent_bound : (extent : Extent) (size : ℕ) (piece : Bytes) (left : Option Bytes) → HasExtent extent size piece left → length piece ≤ suc size
+pub extent_bound : (extent : Extent) (size : ℕ) (piece : Bytes) (left : Option Bytes) → HasExtent extent size piece left → length piece ≤ suc size
 extent_bound Whole size piece left has = omega (arith, has.0)
 extent_bound Short size piece left has = omega (arith, has.0)
 extent_bound Long size piece left has = let len : length piece ≡ size + 1 = has in omega (arith, len)
 
-extent_whole : (extent : Extent) (size : ℕ) (piece : Bytes) (left : Option Bytes) → HasExtent extent size piece left → is_whole extent ≡ true → length piece ≡ size
+pub extent_whole : (extent : Extent) (size : ℕ) (piece : Bytes) (left : Option Bytes) → HasExtent extent size piece left → is_whole extent ≡ true → length piece ≡ size
 extent_whole Whole size piece left has whole = has.0
 extent_whole Short size piece left has whole = absurd cc
 extent_whole Long size piece left has whole = absurd cc
 
-extent_other : (extent : Extent) (size : ℕ) (piece : Bytes) (left : Option Bytes) → HasExtent extent size piece left → is_whole extent ≡ false → length piece ≡ size → ⊥
+pub extent_other : (extent : Extent) (size : ℕ) (piece : Bytes) (left : Option Bytes) → HasExtent extent size piece left → is_whole extent ≡ false → length piece ≡ size → ⊥
 extent_other Whole size piece left has other = absurd cc
 extent_other Short size piece left has other = λ same. omega (arith, has.0, same)
 extent_other Long size piece left has other = λ same. let len : length piece ≡ size + 1 = has in omega (arith, len, same)
@@ -178,18 +178,18 @@ so_far_none s q hasher begun at e fed room = record {
   room = some_room begun e.print.len (0 * e.part_size) room;
 }
 
-concat_push : (xs : List Bytes) (x : Bytes) → concat (xs ++ x ∷ []) ≡ concat xs ++ x
+pub concat_push : (xs : List Bytes) (x : Bytes) → concat (xs ++ x ∷ []) ≡ concat xs ++ x
 concat_push xs x = concat-append xs (x ∷ []) ∙ ap (λ (l : Bytes). concat xs ++ l) (append-nil x)
 
 front_more : (a b : Reader) → Worked a b → (part : BlobName × ℕ) (front : Bytes) → IsFront (WasRead a.read) part front → IsFront (WasRead b.read) part front
 front_more a b worked part front h = (h.0, worked.more (part.0, h.0) h.1, h.2)
 
-both_true : (a b : Bool) → a && b ≡ true → (a ≡ true) × (b ≡ true)
+pub both_true : (a b : Bool) → a && b ≡ true → (a ≡ true) × (b ≡ true)
 both_true true true h = (refl, refl)
 both_true true false h = absurd cc
 both_true false b h = absurd cc
 
-one_false : (a b : Bool) → a && b ≡ false → (a ≡ true → b ≡ true → ⊥)
+pub one_false : (a b : Bool) → a && b ≡ false → (a ≡ true → b ≡ true → ⊥)
 one_false true true h = absurd cc
 one_false true false h = λ x y. absurd cc
 one_false false b h = λ x y. absurd cc

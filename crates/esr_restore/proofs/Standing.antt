@@ -45,7 +45,7 @@ module _ (has : BlobName → Bytes → Type 0) where
   has_front : (part : BlobName × ℕ) (front : Bytes) → IsFront has part front → IsExact part front → has part.0 front
   has_front part front h exact = subst (λ (b : Bytes). has part.0 b) (whole_blob part.1 h.0 front h.2 exact) h.1
 
-  there_sized : (len size : ℕ) (parts : List BlobName) (fronts : List Bytes) → AllPairs (IsFront has) (sized len size parts) fronts → AllPairs IsExact (sized len size parts) fronts → AllPairs has parts fronts
+  pub there_sized : (len size : ℕ) (parts : List BlobName) (fronts : List Bytes) → AllPairs (IsFront has) (sized len size parts) fronts → AllPairs IsExact (sized len size parts) fronts → AllPairs has parts fronts
   there_sized len size [] [] h k = tt
   there_sized len size [] (y ∷ ys) h k = absurd h
   there_sized len size (p ∷ []) [] h k = absurd h
@@ -54,7 +54,7 @@ module _ (has : BlobName → Bytes → Type 0) where
   there_sized len size (p ∷ n ∷ ps) [] h k = absurd h
   there_sized len size (p ∷ n ∷ ps) (y ∷ ys) h k = (has_front (p, size) y h.0 k.0, there_sized (len - size) size (n ∷ ps) ys h.1 k.1)
 
-full_sized : (len size : ℕ) (parts : List BlobName) (fronts : List Bytes) → AllPairs IsExact (sized len size parts) fronts → AreFull size fronts
+pub full_sized : (len size : ℕ) (parts : List BlobName) (fronts : List Bytes) → AllPairs IsExact (sized len size parts) fronts → AreFull size fronts
 full_sized len size [] [] k = tt
 full_sized len size [] (y ∷ ys) k = absurd k
 full_sized len size (p ∷ []) [] k = absurd k
@@ -64,7 +64,7 @@ full_sized len size (p ∷ n ∷ ps) [] k = absurd k
 full_sized len size (p ∷ n ∷ ps) (y ∷ []) k = tt
 full_sized len size (p ∷ n ∷ ps) (y ∷ z ∷ ys) k = (k.0, full_sized (len - size) size (n ∷ ps) (z ∷ ys) k.1)
 
-same_concat : (xs : List Bytes) → image.concat xs ≡ concat xs
+pub same_concat : (xs : List Bytes) → image.concat xs ≡ concat xs
 same_concat [] = refl
 same_concat (x ∷ xs) = ap (λ (l : Bytes). x ++ l) (same_concat xs)
 
@@ -139,19 +139,21 @@ module _ (s : Start) (log : List Moment) (who : ℕ) (hasher : Hasher) (begun_ol
     differ = λ len digest. differ (same_print e.print found len digest);
   }
 
-  miscut : exact ≡ false → IsMiscut s (reader_of s log who) (File at.index.number at.number e.name.number) (ShardSnap at.index.number at.number uuid.number)
-  unfolding has_read
-  miscut short = record {
+  miscut : e.print ≡ found → exact ≡ false → IsMiscut s (reader_of s log who) (File at.index.number at.number e.name.number) (ShardSnap at.index.number at.number uuid.number)
+  unfolding formats has_read
+  miscut same short = record {
     fronts = read.fronts;
     file = has_read;
     other_is = snap_is (reader_of s log who) at.index.number at.number uuid.number is_at;
+    len_is = ap (λ (p : Print). p.len) (sym (same ∙ hashed (concat read.fronts) read.fed));
+    digest_is = ap (λ (p : Print). p.sha256) (sym (same ∙ hashed (concat read.fronts) read.fed));
     cut = λ exactly. read.other short
         (subst (λ (n : ℕ). AreExact at.index.number n (entry_of e) read.fronts) is_at.number_is (subst (λ (i : ℕ). AreExact i (reader_of s log who).number (entry_of e) read.fronts) is_at.index_is exactly));
   }
 
   found_by : (why : Why) → IsOther at e found why ⊎ IsCutOtherwise at uuid e found exact why → IsFound s log who why
   found_by why (inl other) = subst (λ (w : Why). IsFound s log who w) (sym other.0) (misprinted other.1)
-  found_by why (inr cut) = subst (λ (w : Why). IsFound s log who w) (sym cut.0) (miscut cut.2)
+  found_by why (inr cut) = subst (λ (w : Why). IsFound s log who w) (sym cut.0) (miscut cut.1 cut.2)
 
   pub judged_so : (judged : Option Why) (why : Why) → Judged at uuid e found exact judged → judged ≡ Some why → IsFound s log who why
   judged_so None why h is = absurd cc

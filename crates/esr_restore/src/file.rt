@@ -33,6 +33,7 @@ fn begin_file<Q: RestoreDesk>(
     ensures files { Q.Target.files target.new ≡ Q.Target.files target.old }
     ensures made_for { Q.Target.made_for target.new ≡ Q.Target.made_for target.old }
     ensures is_sure { Q.Target.is_sure target.new ≡ Q.Target.is_sure target.old }
+    ensures steady { OnOk result (Q.Target.faults target.new ≡ Q.Target.faults target.old) }
     ensures trouble { IfErr result (IsOfStart (Q.Target.faults target.new) (Q.Target.is_sure target.new)) }
 {
     match target.create(alloc, entry.physical.as_str(), entry.print.len) {
@@ -85,6 +86,7 @@ pub fn restore_file<Q: RestoreDesk>(
     ensures buffer { length buf.new ≡ length buf.old }
     ensures restored { OnOk result (RestoredFile Q.start (reader_of Q.start (Q.seen desk.new) ticket) at entry.now (Q.Target.files target.old) (Q.Target.files target.new)) }
     ensures begun { OnOk result (Q.Target.begun target.new ≡ None) }
+    ensures steady { OnOk result (Q.Target.faults target.new ≡ Q.Target.faults target.old) }
     ensures made_for { Q.Target.made_for target.new ≡ Q.Target.made_for target.old }
     ensures is_sure { Q.Target.is_sure target.new ≡ Q.Target.is_sure target.old }
     ensures reads { OnOk result (ReadsOnly (Q.seen desk.old) (Q.seen desk.new) ticket (IsPartOf at entry.now)) }

@@ -47,6 +47,8 @@ pub fn restore_files<Q: RestoreDesk>(
     requires buffer { 0 < length buf.old }
     requires new { AreUnread (Q.seen desk.old) ticket (IsPartOfAny at snap.now.files) }
     ensures restored { OnOk result (RestoredAll Q.start (reader_of Q.start (Q.seen desk.new) ticket) at snap.now.files (Q.Target.files target.old) (Q.Target.files target.new)) }
+    ensures begun { OnOk result (Q.Target.begun target.new ≡ None) }
+    ensures steady { OnOk result (Q.Target.faults target.new ≡ Q.Target.faults target.old) }
     ensures made_for { Q.Target.made_for target.new ≡ Q.Target.made_for target.old }
     ensures is_sure { Q.Target.is_sure target.new ≡ Q.Target.is_sure target.old }
     ensures trouble { IfErr result (Shown Q.Fetch.faults (Q.Target.faults target.new) (Q.Target.is_sure target.new) Q.start (Q.seen desk.new) ticket) }

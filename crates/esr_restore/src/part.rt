@@ -1,5 +1,5 @@
 //! The parts of a file, read back one after another.
-ghost use Rattle.std.specs.Prelude.{◌≡◌, ◌+◌, ◌<◌, ◌≤◌, ◌^◌, [], IfOk, IfErr, IsSomeAnd, length};
+ghost use Rattle.std.specs.Prelude.{◌≡◌, ◌+◌, ◌<◌, ◌≤◌, ◌^◌, [], IfOk, IfErr, OnOk, IsSomeAnd, length};
 ghost use Rattle.esr_hash.specs.Fed.{fed_count, HasFed};
 ghost use Rattle.esr_names.specs.Layout.{IsName};
 ghost use Rattle.esr_formats.specs.Names.{name_of};
@@ -46,6 +46,7 @@ fn read_part<Q: RestoreDesk>(
     ensures buffer { length buf.new ≡ length buf.old }
     ensures read { IfOk result (ReadPart Q.start (reader_of Q.start (Q.seen desk.new) ticket) hasher.old hasher.new (Q.Target.begun target.old) (Q.Target.begun target.new) (name_of name) size) }
     ensures files { Q.Target.files target.new ≡ Q.Target.files target.old }
+    ensures steady { OnOk result (Q.Target.faults target.new ≡ Q.Target.faults target.old) }
     ensures made_for { Q.Target.made_for target.new ≡ Q.Target.made_for target.old }
     ensures is_sure { Q.Target.is_sure target.new ≡ Q.Target.is_sure target.old }
     ensures reads { IfOk result (λ w. ReadsOnly (Q.seen desk.old) (Q.seen desk.new) ticket (λ n. n ≡ name_of name)) }
@@ -88,6 +89,7 @@ pub fn read_parts<Q: RestoreDesk>(
     ensures buffer { length buf.new ≡ length buf.old }
     ensures read { IfOk result (ReadParts Q.start (reader_of Q.start (Q.seen desk.new) ticket) hasher.new (Q.Target.begun target.old) (Q.Target.begun target.new) at entry.now) }
     ensures files { Q.Target.files target.new ≡ Q.Target.files target.old }
+    ensures steady { OnOk result (Q.Target.faults target.new ≡ Q.Target.faults target.old) }
     ensures made_for { Q.Target.made_for target.new ≡ Q.Target.made_for target.old }
     ensures is_sure { Q.Target.is_sure target.new ≡ Q.Target.is_sure target.old }
     ensures reads { IfOk result (λ e. ReadsOnly (Q.seen desk.old) (Q.seen desk.new) ticket (IsPartOf at entry.now)) }

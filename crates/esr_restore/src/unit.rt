@@ -43,6 +43,8 @@ fn restore<Q: RestoreDesk>(
     requires new { HasMadeNone (Q.seen desk.old) ticket }
     ensures snap { IfOk result (λ v. HasSnap Q.start (reader_of Q.start (Q.seen desk.new) ticket) v) }
     ensures restored { IfOk result (λ v. RestoredAll Q.start (reader_of Q.start (Q.seen desk.new) ticket) at v.files (Q.Target.files target.old) (Q.Target.files target.new)) }
+    ensures begun { OnOk result (Q.Target.begun target.new ≡ None) }
+    ensures steady { OnOk result (Q.Target.faults target.new ≡ Q.Target.faults target.old) }
     ensures made_for { Q.Target.made_for target.new ≡ Q.Target.made_for target.old }
     ensures is_sure { Q.Target.is_sure target.new ≡ Q.Target.is_sure target.old }
     ensures trouble { IfErr result (Shown Q.Fetch.faults (Q.Target.faults target.new) (Q.Target.is_sure target.new) Q.start (Q.seen desk.new) ticket) }
@@ -93,6 +95,7 @@ fn fail<Q: RestoreDesk>(
     ensures holds { Q.holds desk.new ticket }
 {
     refusals();
+    desk.never_fails();
     match cause_of(target, trouble) {
         Ok(cause) => {
             let why = cause.why;
@@ -121,6 +124,8 @@ pub fn run_unit<Q: RestoreDesk, T: Targets<Target = Q::Target>>(
     ensures ok { IfOk result (λ t. HasRestored Q.start (Q.seen desk.old) (Q.seen desk.new) unit.now.ready.ticket (Q.Target.made_for t) (Q.Target.files t)) }
     ensures told { IfOk result (λ t. T.is_told targets.now ≡ true → IsSome (Q.Target.files t)) }
     ensures count { IfOk result (λ t. T.is_quiet targets.now ≡ true → Q.Target.is_sure t ≡ true) }
+    ensures begun { IfOk result (λ t. Q.Target.begun t ≡ None) }
+    ensures steady { IfOk result (λ t. Q.Target.faults t ≡ 0) }
     ensures refused { IfErr result (IsUnitRefused (record { fetch = Q.Fetch.faults; target = Q.Target.faults; made_for = Q.Target.made_for })
         Q.start (Q.seen desk.old) (Q.seen desk.new) unit.now.ready.ticket) }
     ensures grew { GrewBy Q.start unit.now.ready.ticket (Q.seen desk.old) (Q.seen desk.new) }

@@ -1,13 +1,13 @@
 -- What a run over quiet objects ends with.
 use Rattle.std.proofs.Common.{◌≡◌, ◌⊎◌, ℕ, suc, ◌+◌, ◌^◌, ◌<◌, ◌≤◌, Bool, true, false, cond, nat_lt, List, [], ◌∷◌, ◌++◌, map, length, Option, Some, is_some, refl, sym, ap, ◌∙◌, subst, inl, inr, ⊎_elim, arith}
 use Rattle.std.specs.FinMap as fin
-use Rattle.std.specs.Prelude.{◌&&◌, ◌==◌, unwrap_or, if◌then◌else◌}
+use Rattle.std.specs.Prelude.{◌&&◌, ◌||◌, ◌==◌, unwrap_or, if◌then◌else◌}
 use Rattle.std.proofs.lemmas.Bool.{ltb-true, ltb-false}
 use Rattle.std.proofs.lemmas.List.Sums.{sum_by-cons}
 use Rattle.esr_model.specs.Values.{Bytes, Has, Formats}
 use Rattle.esr_model.specs.Image.{Image}
 use Rattle.esr_core.specs.World.{World, Caller, Opened}
-use Rattle.esr_core.specs.Entry.{AskedIndex, Snapshot, Restore, CheckedAll, Step, AskStep, ElectStep, ReadStep, Reply, Refused, DepotFault, DeposedAt, IdsSpent, GenerationsSpent, TermsSpent, Entry, Moment, DrawTest}
+use Rattle.esr_core.specs.Entry.{Read, AskedIndex, Snapshot, Restore, CheckedAll, Step, AskStep, ElectStep, ReadStep, Reply, Refused, DepotFault, DeposedAt, IdsSpent, GenerationsSpent, TermsSpent, Entry, Moment, DrawTest}
 use Rattle.esr_core.specs.Allowed as allowed
 use Rattle.esr_core.specs.Allowed.{Allows, Allowed}
 use Rattle.esr_core.specs.History.{world_from, IsLegal, AreTold}
@@ -23,7 +23,11 @@ use Rattle.esr_desk.specs.Start.{Start, Legal, formats_of}
 use Rattle.esr_desk.specs.declared.fault.Fault.{Fault}
 use Rattle.esr_run.specs.Counts.{Counts, unit_counts, read_counts, verify_counts, AreShown}
 use Rattle.esr_desk.specs.Once.{AreOnce}
+use Rattle.esr_checking.specs.Caller.{caller_of}
 use Rattle.esr_checking.specs.Tested.{AreTested}
+use Rattle.esr_checking.specs.Shown.{IsShown}
+use Rattle.esr_checking.specs.CheckShown.{IsCheckShown}
+use Rattle.esr_quiet.specs.Caused.{AreVerifyCaused}
 use Rattle.esr_repo.specs.Log.{image_of, image_at, log_from, log_of, tick}
 use Rattle.esr_repo.specs.Counted.{is_fault, fault_entries}
 use Rattle.esr_repo.specs.Calm.{IsCalm}
@@ -31,7 +35,7 @@ use Rattle.esr_repo.specs.Deposed.{FailedSwap, AreDeposedSo}
 use Rattle.esr_quiet.specs.Asked.{is_line_ask, is_asked, asked_steps, AreSteady}
 use Rattle.esr_quiet.specs.Smooth.{HasDrawn, IsSmooth, IsSpent, AreCalm, AreUnelected, NoneFailed, NoneUnrestored, NoneUnverified, NoneChecked, NoneAsked}
 use Rattle.esr_quiet.specs.Refusals.{AreByRule}
-use Rattle.esr_complete.specs.Lines.{index_of_line, steps_of_item, steps_of, AreKnown, entries_of}
+use Rattle.esr_complete.specs.Lines.{index_of_line, steps_of_item, steps_of, AreKnown, entries_of, IsKnown}
 use Rattle.esr_complete.specs.InTurn.{IsInTurn}
 use Rattle.esr_complete.specs.Answers.{AreAnswered, EndsWell}
 use Rattle.esr_run.specs.Start.{Telling, formats_by, steady_by, start_of}
@@ -39,6 +43,8 @@ use Rattle.esr_run.specs.Images.{TellsAll}
 use Rattle.esr_run.specs.Complete.{AsksRestore, IsQuietFor, IsAnsweredWell, Completes}
 use Rattle.esr_run.specs.Laws.{QuietLaws}
 use Rattle.esr_verify.specs.Began.{IsFurther}
+use Rattle.esr_check.specs.Began.{IsOfCheck}
+use Rattle.esr_run.specs.Checked.{NoCheckFails, HasLooked, is_check, asks_check}
 use Rattle.esr_run.specs.Verified.{AreBegun, AreClosed}
 use Rattle.esr_run.specs.Made.{MadeFirst, HasFallen, AreDone, NoneOpen}
 
@@ -231,6 +237,8 @@ no_election moment (items.Restore name place) (inl e) = cc
 no_election moment (items.Restore name place) (inr h) = h
 no_election moment items.List (inl e) = cc
 no_election moment items.List (inr h) = h
+no_election moment items.Check (inl e) = cc
+no_election moment items.Check (inr h) = h
 no_election moment items.Verify (inl e) = cc
 no_election moment items.Verify (inr h) = h
 no_election moment item h = h
@@ -249,6 +257,8 @@ of_snapshot moment (items.Restore called place) name indices when (inl e) = absu
 of_snapshot moment (items.Restore called place) name indices when (inr h) = absurd h
 of_snapshot moment items.List name indices when (inl e) = absurd cc
 of_snapshot moment items.List name indices when (inr h) = absurd h
+of_snapshot moment items.Check name indices when (inl e) = absurd cc
+of_snapshot moment items.Check name indices when (inr h) = absurd h
 of_snapshot moment items.Verify name indices when (inl e) = absurd cc
 of_snapshot moment items.Verify name indices when (inr h) = absurd h
 of_snapshot moment item name indices when h = absurd h
@@ -260,6 +270,8 @@ of_restore moment (items.Snapshot called of) name place (inl e) = absurd cc
 of_restore moment (items.Snapshot called of) name place (inr h) = absurd h
 of_restore moment items.List name place (inl e) = absurd cc
 of_restore moment items.List name place (inr h) = absurd h
+of_restore moment items.Check name place (inl e) = absurd cc
+of_restore moment items.Check name place (inr h) = absurd h
 of_restore moment items.Verify name place (inl e) = absurd cc
 of_restore moment items.Verify name place (inr h) = absurd h
 of_restore moment item name place h = absurd h
@@ -299,6 +311,35 @@ is_steady telling place name number quiet there = ap (λ (b : Bool). b && unwrap
 draws_no_check : (snapshots blobs : ℕ) → ReadStep DrawTest ≡ ReadStep (CheckedAll snapshots blobs) → ⊥
 draws_no_check snapshots blobs e = cc
 
+-- ---- a run of known lines asks for no check
+
+item_none : (item : Item) → IsKnown item → is_check item ≡ false
+item_none items.Check known = absurd known
+item_none item known = refl
+
+neither_asks : (a b : Bool) → a ≡ false → b ≡ false → (a || b) ≡ false
+neither_asks false b one two = two
+neither_asks true b one two = absurd cc
+
+known_none : (lines : List ScriptLine) → AreKnown lines → asks_check lines ≡ false
+known_none [] known = refl
+known_none (line ∷ lines) known = neither_asks (is_check line.item) (asks_check lines) (item_none line.item known.0) (known_none lines known.1)
+
+no_both : (b : Bool) → b ≡ true → b ≡ false → ⊥
+no_both b x y = cc (x, y)
+
+-- who 0 reads for verifications alone, each after a draw
+abbrev ReadsAfterDraw : List Moment → Type 0
+ReadsAfterDraw log = (front back : List Moment) (m : Moment) (read : Read) → log ≡ front ++ m ∷ back → m.entry.who ≡ 0 → m.entry.step ≡ ReadStep read → (m.entry.step ≡ ReadStep DrawTest) ⊎ (IsFurther read × HasDrawn front)
+
+drawn_reads : (lines : List ScriptLine) (log : List Moment) → AreKnown lines → AreBegun (asks_check lines) log → ReadsAfterDraw log
+drawn_reads lines log known begun front back m read is who step =
+    ⊎_elim
+    (λ (draw : m.entry.step ≡ ReadStep DrawTest). inl draw)
+    (λ (other : (IsFurther read × HasDrawn front) ⊎ ((asks_check lines ≡ true) × IsOfCheck read × HasLooked front)).
+    ⊎_elim (λ (own : IsFurther read × HasDrawn front). inr own) (λ (check : (asks_check lines ≡ true) × IsOfCheck read × HasLooked front). absurd (no_both (asks_check lines) check.0 (known_none lines known))) other)
+    (begun front back m read is who step)
+
 -- ---- a run over quiet objects
 
 module _ {S F H T : Type 0} (laws : QuietLaws S F H T) (count : Counts S F H T) (telling : Telling) (size moment : ℕ) (lines : List ScriptLine) (before after : Look) (world : World) (clock : ℕ) (history : List Entry) (faults : List (Fault S F H T))
@@ -310,7 +351,7 @@ module _ {S F H T : Type 0} (laws : QuietLaws S F H T) (count : Counts S F H T) 
   log = log_of after clock history
 
   module _ (no_deletes : world.deletes ≡ fin.empty) (legal : Legal s log) (told : s.tells ≡ true → AreTold log) (shown : AreShown {S = S} {F = F} {H = H} {T = T} count s log faults) (once : AreOnce s log) (tested : AreTested s log) (calm : IsCalm true after.sure history) (named : AreDeposedSo history)
-      (made : MadeFirst s (steps_of moment lines) [] log) (begun : AreBegun log) (apart : AreClosed s log) (quiet_for : IsQuietFor telling before lines) (tells_all : TellsAll (formats_by telling) world log) (few : length history < 2 ^ 40) (unspent : (e : Entry) → Has history e → IsSpent e.reply → ⊥) where
+      (made : MadeFirst s (steps_of moment lines) [] log) (begun : ReadsAfterDraw log) (unfailed : NoCheckFails s log) (apart : AreClosed s log) (quiet_for : IsQuietFor telling before lines) (tells_all : TellsAll (formats_by telling) world log) (few : length history < 2 ^ 40) (unspent : (e : Entry) → Has history e → IsSpent e.reply → ⊥) where
     entries : entries_of log ≡ history
     entries = entries_are (image_at after) clock history
 
@@ -395,7 +436,19 @@ module _ {S F H T : Type 0} (laws : QuietLaws S F H T) (count : Counts S F H T) 
         (find_restore lines)
 
     none_unverified : NoneUnverified log
-    none_unverified = laws.verifies (verify_counts count) s log faults smooth shown.verifications
+    none_unverified = laws.verifies (verify_counts count) s log faults smooth caused
+      where
+        -- no report is that of a check
+        caused : AreVerifyCaused {S = S} {F = F} {H = H} {T = T} (verify_counts count) s log faults
+        caused place why report =
+            let told_by = shown.verifications place why report in (
+              told_by.0,
+              ⊎_elim
+                  (λ (own : IsShown (verify_counts count) s report.front (caller_of s report.front) why told_by.0). own)
+                  (λ (check : IsCheckShown (verify_counts count) s report.front why told_by.0). absurd (unfailed report.front report.back report.moment why report.is report.of report.step report.reply check.is_open))
+                  told_by.1,
+              told_by.2,
+            )
 
     -- one after another
     in_turn : NoneOpen s log → IsInTurn s log
@@ -426,8 +479,10 @@ module _ {S F H T : Type 0} (laws : QuietLaws S F H T) (count : Counts S F H T) 
         }
 
   pub completes : (status : ℕ) → (no_deletes : world.deletes ≡ fin.empty) → Legal s log → (s.tells ≡ true → AreTold log) → AreShown {S = S} {F = F} {H = H} {T = T} count s log faults → AreOnce s log → AreTested s log → IsCalm true after.sure history → AreDeposedSo history
-      → MadeFirst s (steps_of moment lines) [] log → AreBegun log → AreClosed s log → AreDone s moment lines [] log ⊎ HasFallen s moment lines [] log → AreKnown lines → status ≡ status_of (ending lines history) → IsQuietFor telling before lines → Completes telling size moment lines before world clock after history status
-  completes status no_deletes legal told shown once tested calm named made begun apart done known is quiet_for tells_all =
+      → MadeFirst s (steps_of moment lines) [] log → AreBegun (asks_check lines) log → (asks_check lines ≡ false → NoCheckFails s log) → AreClosed s log → AreDone s moment lines [] log ⊎ HasFallen s moment lines [] log → AreKnown lines → status ≡ status_of (ending lines history) → IsQuietFor telling before lines → Completes telling size moment lines before world clock after history status
+  completes status no_deletes legal told shown once tested calm named made reads fails apart done known is quiet_for tells_all =
+      let begun = drawn_reads lines log known reads in
+      let unfailed = fails (known_none lines known) in
       ⊎_elim
       (λ (spent : Spent history). inl (inl spent))
       (λ (unspent : (e : Entry) → Has history e → IsSpent e.reply → ⊥).
@@ -436,8 +491,8 @@ module _ {S F H T : Type 0} (laws : QuietLaws S F H T) (count : Counts S F H T) 
       (λ (few : length history < 2 ^ 40).
       inr (
         ⊎_elim
-            (λ (all : AreDone s moment lines [] log). well no_deletes legal told shown once tested calm named made begun apart quiet_for tells_all few unspent known all)
-            (λ (stopped : HasFallen s moment lines [] log). absurd (not_stopped no_deletes legal told shown once tested calm named made begun apart quiet_for tells_all few unspent stopped))
+            (λ (all : AreDone s moment lines [] log). well no_deletes legal told shown once tested calm named made begun unfailed apart quiet_for tells_all few unspent known all)
+            (λ (stopped : HasFallen s moment lines [] log). absurd (not_stopped no_deletes legal told shown once tested calm named made begun unfailed apart quiet_for tells_all few unspent stopped))
             done,
         is,
       ))

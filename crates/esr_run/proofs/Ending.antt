@@ -17,7 +17,9 @@ use Rattle.esr_repo.specs.Calm.{IsCalm}
 use Rattle.esr_quiet.specs.Asked.{asked_steps}
 use Rattle.esr_complete.specs.Lines.{steps_of}
 use Rattle.esr_report.specs.Status.{Ending, AllOk, SomeRefused, SwapFailed, BlobDamaged, NumbersSpent, ending, status_of}
+use Rattle.esr_run.specs.Checked.{asks_check}
 use Rattle.esr_run.specs.Verified.{AreWhole}
+use Rattle.esr_run.specs.Waits.{TakesFew}
 use Rattle.esr_run.specs.Made.{MadeFirst, HasFallen, AreDone}
 use Rattle.std.specs.Io.KnownBytes.{Appends}
 use Rattle.esr_opening.specs.Opening.{Kept, IsFault, IsOpening, IsOpenRefused}
@@ -87,9 +89,9 @@ Begun files size quiet mid k = start_of files size quiet mid (begun_world (now m
 unfoldable pub opened_run : {S F H T : Type 0} (laws : Laws) (count : Counts S F H T) (files : Telling) (size workers moment : ℕ) (lines : List ScriptLine) (quiet : Bool) (before mid after : Look) (k : Kept) (history : List Entry) (faults : List (Fault S F H T)) → IsOpening before mid k → (2 ^ 62 ≤ before.sure → quiet ≡ true)
     → LegalRun (Begun files size quiet mid k) mid.clock after history → IsPast (Begun files size quiet mid k) mid.clock mid.since after history → AreShown count (Begun files size quiet mid k) (log_of after mid.clock history) faults
     → AreOnce (Begun files size quiet mid k) (log_of after mid.clock history) → AreTested (Begun files size quiet mid k) (log_of after mid.clock history) → NoneTwice (log_of after mid.clock history) → IsCalm quiet after.sure history → MadeFirst (Begun files size quiet mid k) (steps_of moment lines) [] (log_of after mid.clock history)
-    → AreWhole (Begun files size quiet mid k) workers (log_of after mid.clock history)
+    → AreWhole (Begun files size quiet mid k) workers (asks_check lines) (log_of after mid.clock history) → TakesFew lines (log_of after mid.clock history)
     → IsOpenedRun count files size workers moment lines before after history faults
-opened_run {S} {F} {H} {T} laws count files size workers moment lines quiet before mid after k history faults o quiet_is legal past shown once tested single calm made verified =
+opened_run {S} {F} {H} {T} laws count files size workers moment lines quiet before mid after k history faults o quiet_is legal past shown once tested single calm made verified takes =
     let is = start_is files size quiet before mid k o in
     let run = subst (λ (s : Start). LegalRun s mid.clock after history) is legal in
     let was = subst (λ (s : Start). IsPast s mid.clock mid.since after history) is past in
@@ -109,7 +111,8 @@ opened_run {S} {F} {H} {T} laws count files size workers moment lines quiet befo
       tested = subst (λ (s : Start). AreTested s (log_of after mid.clock history)) is tested;
       single = single;
       calm = calm;
-      verified = subst (λ (s : Start). AreWhole s workers (log_of after mid.clock history)) is verified;
+      verified = subst (λ (s : Start). AreWhole s workers (asks_check lines) (log_of after mid.clock history)) is verified;
+      takes = takes;
       asked = (made.rest, ap (λ (l : List Step). l ++ made.rest) (ap asked_steps made.grew.is ∙ made.grew.asked refl) ∙ made.is);
     }
 
@@ -126,15 +129,15 @@ pub verdict_opening : {S F H T : Type 0} (laws : Laws) (count : Counts S F H T) 
     (old_faults new_faults status : ℕ) (text : Bytes) → IsOpening before mid k → (2 ^ 62 ≤ before.sure → quiet ≡ true)
     → LegalRun (Begun files size quiet mid k) mid.clock after history → IsPast (Begun files size quiet mid k) mid.clock mid.since after history → AreShown count (Begun files size quiet mid k) (log_of after mid.clock history) faults
     → AreOnce (Begun files size quiet mid k) (log_of after mid.clock history) → AreTested (Begun files size quiet mid k) (log_of after mid.clock history) → NoneTwice (log_of after mid.clock history) → IsCalm quiet after.sure history → MadeFirst (Begun files size quiet mid k) (steps_of moment lines) [] (log_of after mid.clock history)
-    → AreWhole (Begun files size quiet mid k) workers (log_of after mid.clock history)
+    → AreWhole (Begun files size quiet mid k) workers (asks_check lines) (log_of after mid.clock history) → TakesFew lines (log_of after mid.clock history)
     → IsTold status text (Some (Carried lines history))
     → (status ≡ 8) ⊎ (AreDone (Begun files size quiet mid k) moment lines [] (log_of after mid.clock history) ⊎ HasFallen (Begun files size quiet mid k) moment lines [] (log_of after mid.clock history))
     → IsVerdict status text (IsOpenCause count files size workers moment before after old_faults new_faults lines history faults)
 unfolding opened_run
-verdict_opening laws count files size workers moment lines quiet before mid after k history faults old_faults new_faults status text o quiet_is legal past shown once tested single calm made verified (inl wanting) done = inl wanting
-verdict_opening laws count files size workers moment lines quiet before mid after k history faults old_faults new_faults status text o quiet_is legal past shown once tested single calm made verified (inr told) (inl wanting) =
+verdict_opening laws count files size workers moment lines quiet before mid after k history faults old_faults new_faults status text o quiet_is legal past shown once tested single calm made verified takes (inl wanting) done = inl wanting
+verdict_opening laws count files size workers moment lines quiet before mid after k history faults old_faults new_faults status text o quiet_is legal past shown once tested single calm made verified takes (inr told) (inl wanting) =
     absurd (not_wanting (ending lines history) (sym told.0 ∙ wanting))
-verdict_opening laws count files size workers moment lines quiet before mid after k history faults old_faults new_faults status text o quiet_is legal past shown once tested single calm made verified (inr told) (inr done) =
+verdict_opening laws count files size workers moment lines quiet before mid after k history faults old_faults new_faults status text o quiet_is legal past shown once tested single calm made verified takes (inr told) (inr done) =
     inr (record {
       end = Carried lines history;
       status_is = told.0;
@@ -143,7 +146,7 @@ verdict_opening laws count files size workers moment lines quiet before mid afte
         refl,
         refl,
         (
-          opened_run laws count files size workers moment lines quiet before mid after k history faults o quiet_is legal past shown once tested single calm made verified,
+          opened_run laws count files size workers moment lines quiet before mid after k history faults o quiet_is legal past shown once tested single calm made verified takes,
           subst (λ (s : Start). AreDone s moment lines [] (log_of after mid.clock history) ⊎ HasFallen s moment lines [] (log_of after mid.clock history)) (start_is files size quiet before mid k o) done,
         ),
       );

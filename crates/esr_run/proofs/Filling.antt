@@ -26,7 +26,7 @@ look_none : (before : List Moment) (reply : Reply) → restorations_by before 0 
 look_none before HasEnded = refl
 look_none before reply = refl
 
-line_none : (before : List Moment) (step : Step) (reply : Reply) → AsksLine step → restorations_by before 0 reply step ≡ []
+pub line_none : (before : List Moment) (step : Step) (reply : Reply) → AsksLine step → restorations_by before 0 reply step ≡ []
 line_none before step reply (inl asks) = ap (restorations_by before 0 reply) asks.1 ∙ ask_none before asks.0 reply
 line_none before step reply (inr looks) = ap (restorations_by before 0 reply) looks ∙ look_none before reply
 

@@ -12,5 +12,8 @@ pub mod Counting
 pub mod Completing
 pub mod Smoothly
 pub mod Waiting
+pub mod Taking
+pub mod Checks
 pub mod Verifying
+pub mod Checking
 pub mod Falling

@@ -1,5 +1,5 @@
 -- What lines make of a history.
-use Rattle.std.proofs.Common.{◌≡◌, ◌≢◌, ◌⊎◌, ℕ, zero, suc, ◌+◌, ◌-◌, ◌^◌, ◌≤◌, take, take_all, true, false, List, [], ◌∷◌, ◌++◌, drop, ◌<◌, Bool, Some, slice_index_or, if◌then◌else◌, length, length-append, None, Option, Result, Ok, Err, OnOk, IfErr, IsErr, nat_cmp, append-nil, append_assoc, refl, sym, ap, ◌∙◌, subst, inl, inr, ⊎_elim, arith}
+use Rattle.std.proofs.Common.{◌≡◌, ◌≢◌, ◌⊎◌, ◌||◌, ℕ, zero, suc, ◌+◌, ◌-◌, ◌^◌, ◌≤◌, take, take_all, true, false, List, [], ◌∷◌, ◌++◌, drop, ◌<◌, Bool, Some, slice_index_or, if◌then◌else◌, length, length-append, None, Option, Result, Ok, Err, OnOk, IfErr, IsErr, nat_cmp, append-nil, append_assoc, refl, sym, ap, ◌∙◌, subst, inl, inr, ⊎_elim, arith}
 use Rattle.std.specs.FinMap.{FinMap}
 use Rattle.std.specs.FinMap as fin
 use Rattle.esr_model.specs.Values.{Has, IndexRef, RootSnap, Formats}
@@ -29,7 +29,9 @@ use Rattle.esr_complete.specs.Answers.{NoReaderOut, IsIdle}
 use Rattle.esr_run.specs.Script.{is_carried, first_bad}
 use Rattle.esr_run.specs.Laws.{StepsStay}
 use Rattle.esr_run.proofs.Filling.{AsksLine}
-use Rattle.esr_run.specs.Made.{MadeFirst, HasStopped, HasNoReaders, AreIn, LineMade, LineRests, WaitEnds, WaitEnded, WaitsEnded, AreMade, AreDone, NoneOpen, WasStopped, WasLeft, AreAsked, LineSpends}
+use Rattle.esr_check.specs.Began.{HasEndedCheck}
+use Rattle.esr_run.specs.Checked.{is_check, asks_check}
+use Rattle.esr_run.specs.Made.{MadeFirst, HasStopped, HasNoReaders, AreIn, LineMade, LineRests, WaitEnds, WaitEnded, WaitsEnded, AreMade, AreDone, NoneOpen, WasStopped, WasLeft, AreAsked, LineSpends, WasLookRefused, CheckEnds, CheckEnded, ChecksEnded}
 
 abbrev Readers : Type 0
 Readers = FinMap nat_cmp Reader
@@ -273,6 +275,36 @@ waits_next s moment done line old mid new f g waits none last before after l is 
     (λ (earlier : (rest : List ScriptLine) × (done ≡ before ++ l ∷ rest)). wait_on s moment before (steps_of_item moment line.item) old mid new g (waits before earlier.0 l earlier.1 wait))
     (split_last done line before l after is)
 
+-- ---- checks that have ended
+
+-- a line ended as a check does
+abbrev pub EndsCheck : Item → List Moment → List Moment → Type 0
+EndsCheck item mid new = item ≡ items.Check → HasEndedCheck mid new ⊎ WasLookRefused mid new
+
+check_on : (s : Start) (moment : ℕ) (before : List ScriptLine) (asked : List Step) (old mid new : List Moment) → GrewAsking s asked mid new → CheckEnded s moment before old mid → CheckEnded s moment before old new
+check_on s moment before asked old mid new g c = record {
+  front = c.front;
+  mid = c.mid;
+  back = c.back ++ g.more;
+  is = g.is ∙ ap (λ (log : List Moment). log ++ g.more) c.is ∙ append_assoc c.mid c.back g.more;
+  grew = c.grew;
+  ended = c.ended;
+}
+
+no_checks : (s : Start) (moment : ℕ) (old new : List Moment) → ChecksEnded s moment [] old new
+no_checks s moment old new [] after line e check = absurd cc
+no_checks s moment old new (b ∷ before) after line e check = absurd cc
+
+checks_next : (s : Start) (moment : ℕ) (done : List ScriptLine) (line : ScriptLine) (old mid new : List Moment) → GrewAsking s (steps_of moment done) old mid → GrewAsking s (steps_of_item moment line.item) mid new → ChecksEnded s moment done old mid → EndsCheck line.item mid new
+    → ChecksEnded s moment (done ++ line ∷ []) old new
+checks_next s moment done line old mid new f g checks ends before after l is check =
+    ⊎_elim
+    (λ (here : (before ≡ done) × (l ≡ line)).
+    let own : line.item ≡ items.Check = sym (ap (λ (x : ScriptLine). x.item) here.1) ∙ check in
+    subst (λ (b : List ScriptLine). CheckEnded s moment b old new) (sym here.0) (record { front = mid; mid = new; back = []; is = sym (append-nil new); grew = f; ended = ends own }))
+    (λ (earlier : (rest : List ScriptLine) × (done ≡ before ++ l ∷ rest)). check_on s moment before (steps_of_item moment line.item) old mid new g (checks before earlier.0 l earlier.1 check))
+    (split_last done line before l after is)
+
 -- ---- so many lines were carried out
 
 steps_append : (moment : ℕ) (a b : List ScriptLine) → steps_of moment (a ++ b) ≡ steps_of moment a ++ steps_of moment b
@@ -288,20 +320,22 @@ pub record Front (s : Start) (moment : ℕ) (left lines : List ScriptLine) (old 
   pub done : List ScriptLine
   pub is : done ++ left ≡ lines
   pub grew : GrewAsking s (steps_of moment done) old new
+  pub checks : ChecksEnded s moment done old new
   pub rests : s.alone ≡ true → AreIn s old → Rested s moment done old new ⊎ HasStopped new
 
 pub front_none : (s : Start) (moment : ℕ) (lines : List ScriptLine) (log : List Moment) → Front s moment lines lines log log
-front_none s moment lines log = record { done = []; is = refl; grew = asking_none s log; rests = λ alone none. inl (record { none_out = none; waits = no_waits s moment log log }) }
+front_none s moment lines log = record { done = []; is = refl; grew = asking_none s log; checks = no_checks s moment log log; rests = λ alone none. inl (record { none_out = none; waits = no_waits s moment log log }) }
 
 pub front_next : (s : Start) (moment : ℕ) (line : ScriptLine) (rest lines : List ScriptLine) (old mid new : List Moment) → Front s moment (line ∷ rest) lines old mid → GrewAsking s (steps_of_item moment line.item) mid new
-    → (s.alone ≡ true → AreIn s mid → LineEnded s line.item new) → Front s moment rest lines old new
-front_next s moment line rest lines old mid new f g ended =
+    → EndsCheck line.item mid new → (s.alone ≡ true → AreIn s mid → LineEnded s line.item new) → Front s moment rest lines old new
+front_next s moment line rest lines old mid new f g ends ended =
     let same : steps_of moment (f.done ++ line ∷ []) ≡ steps_of moment f.done ++ steps_of_item moment line.item =
     steps_append moment f.done (line ∷ []) ∙ ap (λ (l : List Step). steps_of moment f.done ++ l) (append-nil (steps_of_item moment line.item)) in
     record {
       done = f.done ++ line ∷ [];
       is = append_assoc f.done (line ∷ []) rest ∙ f.is;
       grew = subst (λ (l : List Step). GrewAsking s l old new) (sym same) (asking_on s (steps_of moment f.done) (steps_of_item moment line.item) old mid new f.grew g);
+      checks = checks_next s moment f.done line old mid new f.grew g f.checks ends;
       rests = λ alone none. ⊎_elim
           (λ (r : Rested s moment f.done old mid). ⊎_elim
           (λ (e : AreIn s new × (line.item ≡ items.Wait → IsLast new 0 TakeStep NothingReady)). inl (record { none_out = e.0; waits = waits_next s moment f.done line old mid new f.grew g r.waits e.0 e.1 }))
@@ -341,9 +375,10 @@ pub front_all : (s : Start) (moment : ℕ) (left lines : List ScriptLine) (old n
 front_all s moment left lines old new none f closed alone out =
     let all : f.done ≡ lines = sym (append-nil f.done) ∙ ap (λ (l : List ScriptLine). f.done ++ l) (sym none) ∙ f.is in
     let grew : GrewAsking s (steps_of moment lines) old new = subst (λ (l : List ScriptLine). GrewAsking s (steps_of moment l) old new) all f.grew in
+    let checks : ChecksEnded s moment lines old new = subst (λ (l : List ScriptLine). ChecksEnded s moment l old new) all f.checks in
     elim (f.rests alone out) [
-      | inl r ↦ inl (record { grew = grew; waits = subst (λ (l : List ScriptLine). WaitsEnded s moment l old new) all r.waits; rests = r.none_out; closed = closed })
-      | inr (inl was) ↦ inr (inl (record { grew = grew; closed = closed }, was))
+      | inl r ↦ inl (record { grew = grew; waits = subst (λ (l : List ScriptLine). WaitsEnded s moment l old new) all r.waits; checks = checks; rests = r.none_out; closed = closed })
+      | inr (inl was) ↦ inr (inl (record { grew = grew; checks = checks; closed = closed }, was))
       | inr (inr turns) ↦ inr (inr turns)
     ]
 
@@ -368,21 +403,25 @@ done_then s moment lines old mid new made g done closes alone none = elim (made 
   | inr (inr turns) ↦ inr (turns_on turns)
 ]
   where
-    asked : GrewAsking s (steps_of moment lines) old mid → NoneOpen s mid → AreAsked s moment lines old new
-    asked all closed = record { grew = then_asked s moment lines old mid new all g; closed = closes closed }
+    checks_then : ChecksEnded s moment lines old mid → ChecksEnded s moment lines old new
+    checks_then checks before after line is check = check_on s moment before [] old mid new g (checks before after line is check)
+
+    asked : GrewAsking s (steps_of moment lines) old mid → ChecksEnded s moment lines old mid → NoneOpen s mid → AreAsked s moment lines old new
+    asked all checks closed = record { grew = then_asked s moment lines old mid new all g; checks = checks_then checks; closed = closes closed }
 
     made_well : AreMade s moment lines old mid → IsIdle s new ⊎ HasStopped new → AreDone s moment lines old new ⊎ WasLeft s moment lines old new
     made_well all (inl idle) = inl (record {
       grew = then_asked s moment lines old mid new all.grew g;
       waits = λ before after line is wait. wait_on s moment before [] old mid new g (all.waits before after line is wait);
+      checks = checks_then all.checks;
       idle = idle;
       closed = closes all.closed;
     })
-    made_well all (inr (inl was)) = inr (inl (asked all.grew all.closed, was))
+    made_well all (inr (inl was)) = inr (inl (asked all.grew all.checks all.closed, was))
     made_well all (inr (inr turns)) = inr (inr turns)
 
     left_on : AreAsked s moment lines old mid × WasStopped mid → HasStopped new → WasLeft s moment lines old new
-    left_on left (inl was) = inl (asked left.0.grew left.0.closed, was)
+    left_on left (inl was) = inl (asked left.0.grew left.0.checks left.0.closed, was)
     left_on left (inr turns) = inr turns
 
     turns_on : 2 ^ 40 ≤ length mid → WasLeft s moment lines old new
@@ -412,6 +451,10 @@ made_stopped s moment left lines wanted old mid new (steps.Refused refusal) asks
     no_turns : (refusal : EntryRefusal) → steps.Refused refusal ≡ steps.TurnsSpent → ⊥
     no_turns refusal e = cc
 
+-- the look of a check was refused
+pub look_refused : (mid new : List Moment) (e : StepRefusal) (refusal : EntryRefusal) → e ≡ steps.Refused refusal → CheckEnds {X = Unit} mid new (Err e) → WasLookRefused mid new
+look_refused mid new e refusal is h = subst (λ (x : StepRefusal). CheckEnds {X = Unit} mid new (Err x)) is h
+
 -- all turns were taken
 pub spent_turns : (new : List Moment) (e : StepRefusal) → e ≡ steps.TurnsSpent → LineSpends {X = Unit} new (Err e) → 2 ^ 40 ≤ length new
 spent_turns new e is h = subst (λ (x : StepRefusal). LineSpends {X = Unit} new (Err x)) is h
@@ -435,7 +478,7 @@ done_or {X} {E} P status (Err e) h wanting = inl (wanting refl)
 -- ---- lines of a slice
 
 -- the rest of a slice after its first line
-take_rest : (left : List ScriptLine) → take (length left - 1) (drop 1 left) ≡ drop 1 left
+pub take_rest : (left : List ScriptLine) → take (length left - 1) (drop 1 left) ≡ drop 1 left
 take_rest [] = take_all (length (drop 1 none) - 1) (drop 1 none) (let few : 0 ≤ 0 = omega arith in few)
   where
     none : List ScriptLine
@@ -443,14 +486,36 @@ take_rest [] = take_all (length (drop 1 none) - 1) (drop 1 none) (let few : 0 �
 take_rest (x ∷ rest) = take_all (length (x ∷ rest) - 1) rest (let le : length rest ≤ suc (length rest) - 1 = omega arith in le)
 
 step_front : (s : Start) (moment : ℕ) (line : ScriptLine) (left lines : List ScriptLine) (old mid new : List Moment) → 1 ≤ length left → line ≡ slice_index_or left 0 line → Front s moment left lines old mid → GrewAsking s (steps_of_item moment line.item) mid new
-    → (s.alone ≡ true → AreIn s mid → LineEnded s line.item new) → Front s moment (drop 1 left) lines old new
-step_front s moment line [] lines old mid new some is f g ended = absurd (let none : List ScriptLine = [] in let le : 1 ≤ length none = some in omega (arith, le))
-step_front s moment line (x ∷ rest) lines old mid new some is f g ended =
-    front_next s moment x rest lines old mid new f (subst (λ (l : ScriptLine). GrewAsking s (steps_of_item moment l.item) mid new) is g) (subst (λ (l : ScriptLine). s.alone ≡ true → AreIn s mid → LineEnded s l.item new) is ended)
+    → EndsCheck line.item mid new → (s.alone ≡ true → AreIn s mid → LineEnded s line.item new) → Front s moment (drop 1 left) lines old new
+step_front s moment line [] lines old mid new some is f g ends ended = absurd (let none : List ScriptLine = [] in let le : 1 ≤ length none = some in omega (arith, le))
+step_front s moment line (x ∷ rest) lines old mid new some is f g ends ended =
+    front_next s moment x rest lines old mid new f (subst (λ (l : ScriptLine). GrewAsking s (steps_of_item moment l.item) mid new) is g) (subst (λ (l : ScriptLine). EndsCheck l.item mid new) is ends) (subst (λ (l : ScriptLine). s.alone ≡ true → AreIn s mid → LineEnded s l.item new) is ended)
+
+-- a line that is a check is one of these
+asks_has : (done : List ScriptLine) (line : ScriptLine) (rest : List ScriptLine) → is_check line.item ≡ true → asks_check (done ++ line ∷ rest) ≡ true
+asks_has [] line rest is = either_true (is_check line.item) (asks_check rest) is
+  where
+    either_true : (a b : Bool) → a ≡ true → (a || b) ≡ true
+    either_true true b same = refl
+    either_true false b same = absurd cc
+asks_has (d ∷ done) line rest is = later_true (is_check d.item) (asks_check (done ++ line ∷ rest)) (asks_has done line rest is)
+  where
+    later_true : (a b : Bool) → b ≡ true → (a || b) ≡ true
+    later_true true b same = refl
+    later_true false b same = same
+
+first_line : (line : ScriptLine) (left : List ScriptLine) → 1 ≤ length left → line ≡ slice_index_or left 0 line → (rest : List ScriptLine) × (left ≡ line ∷ rest)
+first_line line [] some is = absurd (let none : List ScriptLine = [] in let le : 1 ≤ length none = some in omega (arith, le))
+first_line line (x ∷ rest) some is = (rest, ap (λ (l : ScriptLine). l ∷ rest) (sym is))
+
+pub asks_here : (s : Start) (moment : ℕ) (line : ScriptLine) (left lines : List ScriptLine) (old mid : List Moment) → 1 ≤ length left → line ≡ slice_index_or left 0 line → Front s moment left lines old mid → is_check line.item ≡ true → asks_check lines ≡ true
+asks_here s moment line left lines old mid some is f check =
+    let first = first_line line left some is in
+    subst (λ (l : List ScriptLine). asks_check l ≡ true) (ap (λ (l : List ScriptLine). f.done ++ l) (sym first.1) ∙ f.is) (asks_has f.done line first.0 check)
 
 pub front_step : (s : Start) (moment : ℕ) (line : ScriptLine) (left lines : List ScriptLine) (old mid new : List Moment) → 1 ≤ length left → line ≡ slice_index_or left 0 line → Front s moment left lines old mid → GrewAsking s (steps_of_item moment line.item) mid new
-    → (s.alone ≡ true → AreIn s mid → LineEnded s line.item new) → Front s moment (take (length left - 1) (drop 1 left)) lines old new
-front_step s moment line left lines old mid new some is f g ended = subst (λ (l : List ScriptLine). Front s moment l lines old new) (sym (take_rest left)) (step_front s moment line left lines old mid new some is f g ended)
+    → EndsCheck line.item mid new → (s.alone ≡ true → AreIn s mid → LineEnded s line.item new) → Front s moment (take (length left - 1) (drop 1 left)) lines old new
+front_step s moment line left lines old mid new some is f g ends ended = subst (λ (l : List ScriptLine). Front s moment l lines old new) (sym (take_rest left)) (step_front s moment line left lines old mid new some is f g ends ended)
 
 when_good : (b : Bool) (number : ℕ) (o : Option ℕ) → (if b then o else Some number) ≡ None → o ≡ None
 when_good true number o e = e

@@ -34,7 +34,9 @@ use Rattle.esr_run.specs.Causes.{Given, IsScript}
 use Rattle.esr_run.specs.Restored.{target_telling, OpensRestored, HasRestored}
 use Rattle.esr_run.proofs.Worlds.{start_is}
 use Rattle.esr_run.proofs.Ending.{Begun, opened_run}
+use Rattle.esr_run.specs.Checked.{asks_check}
 use Rattle.esr_run.specs.Verified.{AreWhole}
+use Rattle.esr_run.specs.Waits.{TakesFew}
 
 -- ---- what was filled
 
@@ -87,14 +89,14 @@ pub opens_restored : {S F H T : Type 0} (laws : Laws) (count : Counts S F H T) (
     (o : IsOpening before mid k) → (2 ^ 62 ≤ before.sure → quiet ≡ true)
     → LegalRun (Begun files size quiet mid k) mid.clock after history → IsPast (Begun files size quiet mid k) mid.clock mid.since after history → AreShown count (Begun files size quiet mid k) (log_of after mid.clock history) faults
     → AreOnce (Begun files size quiet mid k) (log_of after mid.clock history) → AreTested (Begun files size quiet mid k) (log_of after mid.clock history) → NoneTwice (log_of after mid.clock history) → IsCalm quiet after.sure history → MadeFirst (Begun files size quiet mid k) (steps_of moment lines) [] (log_of after mid.clock history)
-    → AreWhole (Begun files size quiet mid k) workers (log_of after mid.clock history)
+    → AreWhole (Begun files size quiet mid k) workers (asks_check lines) (log_of after mid.clock history) → TakesFew lines (log_of after mid.clock history)
     → (status ≡ 8) ⊎ AreTargetsOfLines (target_telling count files) (Begun files size quiet mid k) moment lines (log_of after mid.clock history) targets
     → OpensRestored count files size workers moment lines before after history faults targets status
 unfolding opened_run
-opens_restored {S} {F} {H} {T} laws count files size workers moment lines quiet before mid after k history faults targets status o quiet_is legal past shown once tested single calm made verified (inl wanting) = inl wanting
-opens_restored {S} {F} {H} {T} laws count files size workers moment lines quiet before mid after k history faults targets status o quiet_is legal past shown once tested single calm made verified (inr of) =
+opens_restored {S} {F} {H} {T} laws count files size workers moment lines quiet before mid after k history faults targets status o quiet_is legal past shown once tested single calm made verified takes (inl wanting) = inl wanting
+opens_restored {S} {F} {H} {T} laws count files size workers moment lines quiet before mid after k history faults targets status o quiet_is legal past shown once tested single calm made verified takes (inr of) =
     inr (inr (
-      opened_run laws count files size workers moment lines quiet before mid after k history faults o quiet_is legal past shown once tested single calm made verified,
+      opened_run laws count files size workers moment lines quiet before mid after k history faults o quiet_is legal past shown once tested single calm made verified takes,
       subst (λ (s : Start). AreTargetsOfLines {T = T} (target_telling count files) s moment lines (log_of after mid.clock history) targets) (start_is files size quiet before mid k o) of,
     ))
 

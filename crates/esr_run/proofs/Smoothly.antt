@@ -29,7 +29,9 @@ use Rattle.esr_run.specs.Ends.{RunEnd, BadWords, Unreadable, BadScript, BadLine,
 use Rattle.esr_run.specs.Start.{Telling, is_calm_by, start_of, LegalRun}
 use Rattle.esr_run.specs.Complete.{IsQuietFor, IsLastTerm}
 use Rattle.esr_run.specs.Laws.{Laws, QuietLaws}
+use Rattle.esr_run.specs.Checked.{NoCheckFails, asks_check}
 use Rattle.esr_run.specs.Verified.{AreClosed, AreWhole}
+use Rattle.esr_run.specs.Waits.{TakesFew}
 use Rattle.esr_run.specs.Made.{MadeFirst, HasFallen, AreDone}
 use Rattle.esr_run.specs.Stops.{StoppedBy}
 use Rattle.esr_run.specs.Causes.{Given, AreWanted, IsScriptFor, IsScript, IsStoppedFor, OpensWell, IsComplete, IsTold, IsPrinted, end_of_refusal}
@@ -67,18 +69,18 @@ pub opens_well : {S F H T : Type 0} (laws : Laws) (quiet_laws : QuietLaws S F H 
     (status : ℕ) (text : Bytes) (o : IsOpening before mid k) → (2 ^ 62 ≤ before.sure → quiet ≡ true)
     → LegalRun (Begun files size quiet mid k) mid.clock after history → IsPast (Begun files size quiet mid k) mid.clock mid.since after history → AreShown count (Begun files size quiet mid k) (log_of after mid.clock history) faults
     → AreOnce (Begun files size quiet mid k) (log_of after mid.clock history) → AreTested (Begun files size quiet mid k) (log_of after mid.clock history) → NoneTwice (log_of after mid.clock history) → IsCalm quiet after.sure history → MadeFirst (Begun files size quiet mid k) (steps_of moment lines) [] (log_of after mid.clock history)
-    → AreWhole (Begun files size quiet mid k) workers (log_of after mid.clock history)
+    → AreWhole (Begun files size quiet mid k) workers (asks_check lines) (log_of after mid.clock history) → TakesFew lines (log_of after mid.clock history)
     → AreDeposedSo history → IsTold status text (Some (Carried lines history))
     → (status ≡ 8) ⊎ (AreDone (Begun files size quiet mid k) moment lines [] (log_of after mid.clock history) ⊎ HasFallen (Begun files size quiet mid k) moment lines [] (log_of after mid.clock history))
     → OpensWell count files size workers moment lines before after history faults status
 unfolding opened_run
-opens_well {S} {F} {H} {T} laws quiet_laws count files size workers moment lines quiet before mid after k history faults status text o quiet_is legal past shown once tested single calm made verified named told (inl wanting) quiet_for = inl wanting
-opens_well {S} {F} {H} {T} laws quiet_laws count files size workers moment lines quiet before mid after k history faults status text o quiet_is legal past shown once tested single calm made verified named told (inr done) quiet_for =
+opens_well {S} {F} {H} {T} laws quiet_laws count files size workers moment lines quiet before mid after k history faults status text o quiet_is legal past shown once tested single calm made verified takes named told (inl wanting) quiet_for = inl wanting
+opens_well {S} {F} {H} {T} laws quiet_laws count files size workers moment lines quiet before mid after k history faults status text o quiet_is legal past shown once tested single calm made verified takes named told (inr done) quiet_for =
     ⊎_elim
     (λ (wanting : status ≡ 8). inl wanting)
     (λ (is : status ≡ status_of (ending lines history)).
     inr (inr (
-      opened_run laws count files size workers moment lines quiet before mid after k history faults o quiet_is legal past shown once tested single calm made verified,
+      opened_run laws count files size workers moment lines quiet before mid after k history faults o quiet_is legal past shown once tested single calm made verified takes,
       completes quiet_laws count files size moment lines before after world mid.clock history faults (λ i e. o.opens i _ _ e) status o.order.no_deletes
           (subst (λ (s : Start). LegalRun s mid.clock after history) same legal).legal
           (subst (λ (s : Start). IsPast s mid.clock mid.since after history) same past).told
@@ -88,7 +90,7 @@ opens_well {S} {F} {H} {T} laws quiet_laws count files size workers moment lines
           (subst (λ (b : Bool). IsCalm b after.sure history) yes_quiet calm)
           named
           (subst (λ (s : Start). MadeFirst s (steps_of moment lines) [] (log_of after mid.clock history)) same made)
-          verified.begun (subst (λ (s : Start). AreClosed s (log_of after mid.clock history)) same verified.closed)
+          verified.begun (λ no. subst (λ (s : Start). NoCheckFails s (log_of after mid.clock history)) same (verified.unchecked no)) (subst (λ (s : Start). AreClosed s (log_of after mid.clock history)) same verified.closed)
           (subst (λ (s : Start). AreDone s moment lines [] (log_of after mid.clock history) ⊎ HasFallen s moment lines [] (log_of after mid.clock history)) same done)
           quiet_for.known is quiet_for,
     )))

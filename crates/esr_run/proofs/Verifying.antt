@@ -1,5 +1,5 @@
 -- What lines leave of verifications.
-use Rattle.std.proofs.Common.{◌≡◌, ◌≢◌, ◌⊎◌, ℕ, ◌^◌, ◌≤◌, ◌==◌, ◌&&◌, if◌then◌else◌, length, Bool, true, false, List, [], ◌∷◌, ◌++◌, true≢false, append-nil, append_assoc, Option, Result, Ok, Err, IfErr, nat_cmp, refl, sym, ap, ◌∙◌, subst, inl, inr, ⊎_elim}
+use Rattle.std.proofs.Common.{◌≡◌, ◌≢◌, ◌⊎◌, ℕ, zero, suc, ◌+◌, ◌^◌, ◌≤◌, ◌==◌, ◌&&◌, if◌then◌else◌, length, Bool, true, false, List, [], ◌∷◌, ◌++◌, true≢false, append-nil, append_assoc, Option, Result, Ok, Err, IfErr, nat_cmp, refl, sym, ap, ◌∙◌, subst, inl, inr, ⊎_elim, arith}
 use Rattle.std.specs.FinMap.{FinMap}
 use Rattle.std.specs.FinMap as fin
 use Rattle.esr_model.specs.Values.{Has, Formats}
@@ -26,6 +26,7 @@ use Rattle.esr_quiet.specs.Numbers.{HasNoTickets}
 use Rattle.esr_quiet.specs.Smooth.{HasDrawn}
 use Rattle.esr_quiet.proofs.Prefixes.{legal_front}
 use Rattle.esr_drive.specs.Works.{IsWork, AllWork, WorksOnly}
+use Rattle.esr_drive.specs.Takes.{idle_take, idle_takes, takes_more}
 use Rattle.esr_drive.specs.Restored.{Restoration, restorations_by, restorations_in, RestoresNone}
 use Rattle.esr_verify.specs.Idle.{IsIdle}
 use Rattle.esr_verify.specs.Steps.{Answered, test_names, writing, reading, verification}
@@ -34,29 +35,13 @@ use Rattle.esr_verify.specs.Refused.{StopsVerify, IsVerifyRefused}
 use Rattle.esr_verify.specs.Began.{IsFurther, AllFurther, HasBegun, BeganOne, NotBegun, Begun, AsksOne, NoneVerified}
 use Rattle.esr_run.specs.Made.{MadeFirst, AreIn, LineMade, LineRests, LineSpends, NoneOpen}
 use Rattle.esr_run.specs.Laws.{StepsStay, WorkLeaves}
+use Rattle.esr_check.specs.Began.{IsOfCheck}
+use Rattle.esr_run.specs.Checked.{HasLooked}
 use Rattle.esr_run.specs.Verified.{AreVerified, AreBegun, AreClosed, AreWhole, MayVerify, VerifiesOn}
 use Rattle.esr_run.proofs.Filling.{AsksLine}
 use Rattle.esr_run.proofs.Completing.{in_front, in_middle}
 use Rattle.esr_run.proofs.Making.{world_one, legal_one, same_or_not}
-
--- ---- the last of a list
-
-no_cons : {A : Type 0} (front : List A) (y : A) (back : List A) → [] ≡ front ++ y ∷ back → ⊥
-no_cons [] y back e = cc
-no_cons (x ∷ front) y back e = cc
-
--- where something stands in a list with one more: it is the last, or stands in the list
-pub split_end : {A : Type 0} (xs : List A) (last : A) (front : List A) (y : A) (back : List A) → xs ++ last ∷ [] ≡ front ++ y ∷ back → ((front ≡ xs) × (last ≡ y)) ⊎ ((rest : List A) × (xs ≡ front ++ y ∷ rest))
-split_end [] last [] y back e = inl (refl, cc)
-split_end [] last (x ∷ front) y back e = absurd (no_cons front y back (let rest : [] ≡ front ++ y ∷ back = cc in rest))
-split_end {A} (x ∷ xs) last [] y back e = let same : x ≡ y = cc in inr (xs, ap (λ (z : A). z ∷ xs) same)
-split_end {A} (x ∷ xs) last (z ∷ front) y back e =
-    let same : x ≡ z = cc in
-    let rest : xs ++ last ∷ [] ≡ front ++ y ∷ back = cc in
-    ⊎_elim
-    (λ (here : (front ≡ xs) × (last ≡ y)). inl (ap (λ (w : A). w ∷ front) (sym same) ∙ ap (λ (l : List A). x ∷ l) here.0, here.1))
-    (λ (earlier : (r : List A) × (xs ≡ front ++ y ∷ r)). inr (earlier.0, ap (λ (l : List A). x ∷ l) earlier.1 ∙ ap (λ (w : A). w ∷ (front ++ y ∷ earlier.0)) same))
-    (split_end xs last front y back rest)
+use Rattle.esr_run.proofs.Checks.{no_cons, split_end, fails_other, begun_unchecked, maybe_unchecked, begun_checked, maybe_checked}
 
 -- ---- steps that read nothing for who 0
 
@@ -72,23 +57,28 @@ not_aside m x read same who step (inr other) = other read (ap (λ (y : Moment). 
 abbrev AsksClosed : Start → List Moment → Moment → Type 0
 AsksClosed s log m = m.entry.who ≡ 0 → is_line_ask m.entry.step ≡ true → IsIdle (caller_of s log)
 
-closed_one : (s : Start) (log : List Moment) (m : Moment) → AsksClosed s log m → AreClosed s log → AreClosed s (log ++ m ∷ [])
+pub closed_one : (s : Start) (log : List Moment) (m : Moment) → AsksClosed s log m → AreClosed s log → AreClosed s (log ++ m ∷ [])
 closed_one s log m idle was front back x is who asks = elim (split_end log m front x back is) [
   | inl last ↦ subst (λ (l : List Moment). IsIdle (caller_of s l)) (sym last.0) (idle (ap (λ (y : Moment). y.entry.who) last.1 ∙ who) (ap (λ (y : Moment). is_line_ask y.entry.step) last.1 ∙ asks))
   | inr before ↦ was front before.0 x before.1 who asks
 ]
 
-whole_one : (s : Start) (workers : ℕ) (log : List Moment) (m : Moment) → IsAside m → AsksClosed s log m → AreWhole s workers log → AreWhole s workers (log ++ m ∷ [])
-whole_one s workers log m aside idle w = record {
+whole_one : (s : Start) (workers : ℕ) (checks : Bool) (log : List Moment) (m : Moment) → IsAside m → AsksClosed s log m → AreWhole s workers checks log → AreWhole s workers checks (log ++ m ∷ [])
+whole_one s workers checks log m aside idle w = record {
   verified = λ front back x is who step reply. elim (split_end log m front x back is) [
     | inl last ↦ absurd (not_aside m x _ last.1 who step aside)
     | inr before ↦ w.verified front before.0 x before.1 who step reply
+  ];
+  checked = λ front back x snapshots blobs is who step reply. elim (split_end log m front x back is) [
+    | inl last ↦ absurd (not_aside m x _ last.1 who step aside)
+    | inr before ↦ w.checked front before.0 x snapshots blobs before.1 who step reply
   ];
   begun = λ front back x read is who step. elim (split_end log m front x back is) [
     | inl last ↦ absurd (not_aside m x read last.1 who step aside)
     | inr before ↦ w.begun front before.0 x read before.1 who step
   ];
   closed = closed_one s log m idle w.closed;
+  unchecked = λ no. fails_other s log m (λ why who step. not_aside m m _ refl who step aside) (w.unchecked no);
 }
 
 no_ask_read : (command : Asked) (read : Read) → AskStep command ≢ ReadStep read
@@ -109,7 +99,7 @@ asks_aside step (inr look) read is = no_look_read read (sym look ∙ is)
 caller_end : (s : Start) (log : List Moment) (m : Moment) → caller_of s (log ++ m ∷ []) ≡ (after (formats_of s) (world_of s log) m).caller
 caller_end s log m = ap (λ (w : World). w.caller) (world_one (formats_of s) s.world log m)
 
-none_idle : IsIdle no_caller
+pub none_idle : IsIdle no_caller
 none_idle = refl
 
 looked_idle : IsIdle (record no_caller { looked = true })
@@ -134,25 +124,25 @@ asks_idle f w step reply image (inr look) idle = subst (λ (x : Step). IsIdle (c
 
 -- ---- a line that asks for one step
 
-stepped_may : (s : Start) (workers : ℕ) (old new : List Moment) (step : Step) (reply : Reply) → AsksLine step → s.alone ≡ true → Stepped s old new 0 step reply → MayVerify s workers old → MayVerify s workers new
-stepped_may s workers old new step reply asks alone h may =
+stepped_may : (s : Start) (workers : ℕ) (checks : Bool) (old new : List Moment) (step : Step) (reply : Reply) → AsksLine step → s.alone ≡ true → Stepped s old new 0 step reply → MayVerify s workers checks old → MayVerify s workers checks new
+stepped_may s workers checks old new step reply asks alone h may =
     let m : Moment = record { entry = record { who = 0; step = step; reply = reply }; image = h.image } in
     let front : h.front ≡ old = h.waited.grew ∙ ap (λ (l : List Moment). old ++ l) (h.waited.nobody alone) ∙ append-nil old in
     let is : new ≡ old ++ m ∷ [] = h.is ∙ ap (λ (l : List Moment). l ++ m ∷ []) front in
     record {
-      whole = subst (AreWhole s workers) (sym is) (whole_one s workers old m (inr (asks_aside step asks)) (λ who asked. may.idle) may.whole);
+      whole = subst (AreWhole s workers checks) (sym is) (whole_one s workers checks old m (inr (asks_aside step asks)) (λ who asked. may.idle) may.whole);
       idle = subst (λ (l : List Moment). IsIdle (caller_of s l)) (sym is) (subst IsIdle (sym (caller_end s old m)) (asks_idle (formats_of s) (world_of s old) step reply h.image asks may.idle));
       legal = h.legal;
     }
 
-waited_whole : (s : Start) (workers : ℕ) (old new : List Moment) → s.alone ≡ true → Waited s old new 0 → AreWhole s workers old → AreWhole s workers new
-waited_whole s workers old new alone h w = subst (AreWhole s workers) (sym (h.grew ∙ ap (λ (l : List Moment). old ++ l) (h.nobody alone) ∙ append-nil old)) w
+waited_whole : (s : Start) (workers : ℕ) (checks : Bool) (old new : List Moment) → s.alone ≡ true → Waited s old new 0 → AreWhole s workers checks old → AreWhole s workers checks new
+waited_whole s workers checks old new alone h w = subst (AreWhole s workers checks) (sym (h.grew ∙ ap (λ (l : List Moment). old ++ l) (h.nobody alone) ∙ append-nil old)) w
 
-pub line_verifies : {X : Type 0} (s : Start) (workers : ℕ) (old new : List Moment) (step : Step) (ok : X → Reply) (r : Result X StepRefusal) → AsksLine step → s.alone ≡ true → Outcome s old new 0 step ok r → MayVerify s workers old → VerifiesOn s workers new r
-line_verifies s workers old new step ok (Ok x) asks alone h may = stepped_may s workers old new step (ok x) asks alone h may
-line_verifies s workers old new step ok (Err steps.Memory) asks alone h may = waited_whole s workers old new alone h.0 may.whole
-line_verifies s workers old new step ok (Err steps.TurnsSpent) asks alone h may = waited_whole s workers old new alone h.0 may.whole
-line_verifies s workers old new step ok (Err (steps.Refused refusal)) asks alone h may = stepped_may s workers old new step (Refused (refusal_of refusal)) asks alone h.0 may
+pub line_verifies : {X : Type 0} (s : Start) (workers : ℕ) (checks : Bool) (old new : List Moment) (step : Step) (ok : X → Reply) (r : Result X StepRefusal) → AsksLine step → s.alone ≡ true → Outcome s old new 0 step ok r → MayVerify s workers checks old → VerifiesOn s workers checks new r
+line_verifies s workers checks old new step ok (Ok x) asks alone h may = stepped_may s workers checks old new step (ok x) asks alone h may
+line_verifies s workers checks old new step ok (Err steps.Memory) asks alone h may = waited_whole s workers checks old new alone h.0 may.whole
+line_verifies s workers checks old new step ok (Err steps.TurnsSpent) asks alone h may = waited_whole s workers checks old new alone h.0 may.whole
+line_verifies s workers checks old new step ok (Err (steps.Refused refusal)) asks alone h may = stepped_may s workers checks old new step (Refused (refusal_of refusal)) asks alone h.0 may
 
 -- ---- a wait
 
@@ -164,9 +154,9 @@ work_closed : (s : Start) (log : List Moment) (m : Moment) → IsWork m → Asks
 work_closed s log m (inl some) who asks = absurd (some who)
 work_closed s log m (inr take) who asks = absurd (true≢false (sym asks ∙ ap is_line_ask take))
 
-whole_more : (s : Start) (workers : ℕ) (log more : List Moment) → AllWork more → AreWhole s workers log → AreWhole s workers (log ++ more)
-whole_more s workers log [] work w = subst (AreWhole s workers) (sym (append-nil log)) w
-whole_more s workers log (m ∷ more) work w = subst (AreWhole s workers) (append_assoc log (m ∷ []) more) (whole_more s workers (log ++ m ∷ []) more work.1 (whole_one s workers log m (work_aside m work.0) (work_closed s log m work.0) w))
+whole_more : (s : Start) (workers : ℕ) (checks : Bool) (log more : List Moment) → AllWork more → AreWhole s workers checks log → AreWhole s workers checks (log ++ more)
+whole_more s workers checks log [] work w = subst (AreWhole s workers checks) (sym (append-nil log)) w
+whole_more s workers checks log (m ∷ more) work w = subst (AreWhole s workers checks) (append_assoc log (m ∷ []) more) (whole_more s workers checks (log ++ m ∷ []) more work.1 (whole_one s workers checks log m (work_aside m work.0) (work_closed s log m work.0) w))
 
 caller_worked : (leaves : WorkLeaves) (s : Start) (log more : List Moment) → AllWork more → Legal s (log ++ more) → caller_of s (log ++ more) ≡ caller_of s log
 caller_worked leaves s log [] work legal = ap (caller_of s) (append-nil log)
@@ -177,11 +167,11 @@ caller_worked leaves s log (m ∷ more) work legal =
     ap (caller_of s) (sym whole) ∙ caller_worked leaves s (log ++ m ∷ []) more work.1 all
     ∙ caller_end s log m ∙ leaves (formats_of s) s.part_size (world_of s log) m (legal_one (formats_of s) s.part_size s.world log m one).1.0 work.0
 
-pub works_may : (leaves : WorkLeaves) (s : Start) (workers : ℕ) (old new : List Moment) → WorksOnly old new → (Legal s old → Legal s new) → MayVerify s workers old → MayVerify s workers new
-works_may leaves s workers old new w legal may =
+pub works_may : (leaves : WorkLeaves) (s : Start) (workers : ℕ) (checks : Bool) (old new : List Moment) → WorksOnly old new → (Legal s old → Legal s new) → MayVerify s workers checks old → MayVerify s workers checks new
+works_may leaves s workers checks old new w legal may =
     let now : Legal s new = legal may.legal in
     record {
-      whole = subst (AreWhole s workers) (sym w.is) (whole_more s workers old w.more w.all may.whole);
+      whole = subst (AreWhole s workers checks) (sym w.is) (whole_more s workers checks old w.more w.all may.whole);
       idle = subst IsIdle (sym (ap (caller_of s) w.is ∙ caller_worked leaves s old w.more w.all (subst (Legal s) w.is now))) may.idle;
       legal = now;
     }
@@ -189,32 +179,34 @@ works_may leaves s workers old new w legal may =
 pub works_closed : (leaves : WorkLeaves) (s : Start) (old new : List Moment) → WorksOnly old new → (Legal s old → Legal s new) → Legal s old → NoneOpen s old → NoneOpen s new
 works_closed leaves s old new w legal was closed = subst IsIdle (sym (ap (caller_of s) w.is ∙ caller_worked leaves s old w.more w.all (subst (Legal s) w.is (legal was)))) closed
 
-pub works_whole : (s : Start) (workers : ℕ) (old new : List Moment) → WorksOnly old new → AreWhole s workers old → AreWhole s workers new
-works_whole s workers old new w was = subst (AreWhole s workers) (sym w.is) (whole_more s workers old w.more w.all was)
+pub works_whole : (s : Start) (workers : ℕ) (checks : Bool) (old new : List Moment) → WorksOnly old new → AreWhole s workers checks old → AreWhole s workers checks new
+works_whole s workers checks old new w was = subst (AreWhole s workers checks) (sym w.is) (whole_more s workers checks old w.more w.all was)
 
-pub verifies_by : {X : Type 0} (s : Start) (workers : ℕ) (new : List Moment) (result : Result X StepRefusal) → MayVerify s workers new → VerifiesOn s workers new result
-verifies_by s workers new (Ok x) may = may
-verifies_by s workers new (Err steps.Memory) may = may.whole
-verifies_by s workers new (Err steps.TurnsSpent) may = may.whole
-verifies_by s workers new (Err (steps.Refused refusal)) may = may
+pub verifies_by : {X : Type 0} (s : Start) (workers : ℕ) (checks : Bool) (new : List Moment) (result : Result X StepRefusal) → MayVerify s workers checks new → VerifiesOn s workers checks new result
+verifies_by s workers checks new (Ok x) may = may
+verifies_by s workers checks new (Err steps.Memory) may = may.whole
+verifies_by s workers checks new (Err steps.TurnsSpent) may = may.whole
+verifies_by s workers checks new (Err (steps.Refused refusal)) may = may
 
-pub verified_whole : (s : Start) (workers : ℕ) (new : List Moment) (result : Result Unit StepRefusal) → VerifiesOn s workers new result → AreWhole s workers new
-verified_whole s workers new (Ok x) h = h.whole
-verified_whole s workers new (Err steps.Memory) h = h
-verified_whole s workers new (Err steps.TurnsSpent) h = h
-verified_whole s workers new (Err (steps.Refused refusal)) h = h.whole
+pub verified_whole : (s : Start) (workers : ℕ) (checks : Bool) (new : List Moment) (result : Result Unit StepRefusal) → VerifiesOn s workers checks new result → AreWhole s workers checks new
+verified_whole s workers checks new (Ok x) h = h.whole
+verified_whole s workers checks new (Err steps.Memory) h = h
+verified_whole s workers checks new (Err steps.TurnsSpent) h = h
+verified_whole s workers checks new (Err (steps.Refused refusal)) h = h.whole
 
 -- ---- where nothing has happened yet
 
 no_place : (front : List Moment) (m : Moment) (back : List Moment) → [] ≡ front ++ m ∷ back → ⊥
 no_place front m back is = no_cons front m back is
 
-pub begun_may : (s : Start) (workers : ℕ) (log : List Moment) → log ≡ [] → s.world.caller ≡ no_caller → MayVerify s workers log
-begun_may s workers log empty nobody = subst (MayVerify s workers) (sym empty) (record {
+pub begun_may : (s : Start) (workers : ℕ) (checks : Bool) (log : List Moment) → log ≡ [] → s.world.caller ≡ no_caller → MayVerify s workers checks log
+begun_may s workers checks log empty nobody = subst (MayVerify s workers checks) (sym empty) (record {
   whole = record {
     verified = λ front back m is who step reply. absurd (no_place front m back is);
+    checked = λ front back m snapshots blobs is who step reply. absurd (no_place front m back is);
     begun = λ front back m read is who step. absurd (no_place front m back is);
     closed = λ front back m is who asks. absurd (no_place front m back is);
+    unchecked = λ no front back m why is who step reply is_open. no_place front m back is;
   };
   idle = subst IsIdle (sym nobody) none_idle;
   legal = tt;
@@ -251,7 +243,7 @@ draw_asked m rest who step all =
 begun_asks : (s : Start) (old new : List Moment) → HasBegun old new → (Legal s old → Legal s new) → GrewAsking s (ReadStep DrawTest ∷ []) old new
 begun_asks s old new h legal = record { more = h.draw ∷ h.rest; is = h.is; legal = legal; asked = λ alone. draw_asked h.draw h.rest h.drawer h.drew h.all }
 
-all_asked : (s : Start) (wanted : List Step) (old new : List Moment) → GrewAsking s wanted old new → MadeFirst s wanted old new
+pub all_asked : (s : Start) (wanted : List Step) (old new : List Moment) → GrewAsking s wanted old new → MadeFirst s wanted old new
 all_asked s wanted old new g = record { first = wanted; rest = []; grew = g; is = append-nil wanted }
 
 pub none_asked : (s : Start) (wanted : List Step) (old new : List Moment) → new ≡ old → MadeFirst s wanted old new
@@ -276,18 +268,18 @@ verify_made s old new (Err (units.Stopped steps.Memory)) h legal = front_asked s
 verify_made s old new (Err (units.Stopped steps.TurnsSpent)) h legal = front_asked s old new h legal
 
 -- its steps, one after another: each is of who 0 and reads, and restores no shard
-abbrev NoShard : Read → Type 0
+abbrev pub NoShard : Read → Type 0
 NoShard (RestoredShard files bytes) = ⊥
 NoShard read = Unit {0}
 
-abbrev AllRead : List Moment → Type 0
+abbrev pub AllRead : List Moment → Type 0
 AllRead [] = Unit {0}
 AllRead (m ∷ more) = (m.entry.who ≡ 0) × ((read : Read) × (m.entry.step ≡ ReadStep read) × NoShard read) × AllRead more
 
-record ReadsOnly (old new : List Moment) : Type 0 where
-  more : List Moment
-  is : new ≡ old ++ more
-  all : AllRead more
+pub record ReadsOnly (old new : List Moment) : Type 0 where
+  pub more : List Moment
+  pub is : new ≡ old ++ more
+  pub all : AllRead more
 
 begun_reads : (old new : List Moment) → HasBegun old new → ReadsOnly old new
 begun_reads old new h = record { more = h.draw ∷ h.rest; is = h.is; all = (h.drawer, (DrawTest, h.drew, tt), further_reads h.rest h.all) }
@@ -342,7 +334,7 @@ module _ (laws : StepsStay) (s : Start) (numbered : HasNoTickets s) where
     readers = λ k. ap (λ (x : FinMap nat_cmp Reader). (or_no_reader (fin.get x k)).out) (ap (λ (w : World). w.readers) (world_one (formats_of s) s.world log m) ∙ laws.reads (formats_of s) (world_of s log) m read who step) ∙ rest.readers k;
   }
 
-  reads_in : (log more : List Moment) → AllRead more → Legal s (log ++ more) → AreIn s log → AreIn s (log ++ more)
+  pub reads_in : (log more : List Moment) → AllRead more → Legal s (log ++ more) → AreIn s log → AreIn s (log ++ more)
   reads_in log [] all legal rest = subst (AreIn s) (sym (append-nil log)) rest
   reads_in log (m ∷ more) all legal rest =
       let whole : (log ++ m ∷ []) ++ more ≡ log ++ m ∷ more = append_assoc log (m ∷ []) more in
@@ -376,7 +368,7 @@ read_restores before who HasEnded (RestoredShard files bytes) none = absurd none
 read_restores before who HasEnded read none = refl
 read_restores before who reply read none = refl
 
-reads_none : (before more : List Moment) → AllRead more → restorations_in before more ≡ []
+pub reads_none : (before more : List Moment) → AllRead more → restorations_in before more ≡ []
 reads_none before [] all = refl
 reads_none before (m ∷ more) all =
     ap (λ (l : List Restoration). l ++ restorations_in (before ++ m ∷ []) more) (ap (restorations_by before m.entry.who m.entry.reply) all.1.1 ∙ read_restores before m.entry.who m.entry.reply all.1.0 all.1.2)
@@ -385,41 +377,61 @@ reads_none before (m ∷ more) all =
 pub verify_none : (old new : List Moment) (r : Result Unit UnitRefusal) → AsksOne old new r → RestoresNone old new
 verify_none old new r asks = let h = asked_reads old new r asks in record { more = h.more; is = h.is; none = reads_none old h.more h.all }
 
+-- ---- it takes no unit
+
+no_take : (who : ℕ) (step : Step) (reply : Reply) (read : Read) → step ≡ ReadStep read → idle_take who step reply ≡ 0
+no_take zero step reply read is = ap (λ (x : Step). idle_take 0 x reply) is
+no_take (suc n) step reply read is = refl
+
+pub reads_takes : (more : List Moment) → AllRead more → idle_takes more ≡ 0
+reads_takes [] all = refl
+reads_takes (m ∷ more) all =
+    let one : idle_take m.entry.who m.entry.step m.entry.reply ≡ 0 = no_take m.entry.who m.entry.step m.entry.reply all.1.0 all.1.1 in
+    let rest : idle_takes more ≡ 0 = reads_takes more all.2 in
+    omega (arith, one, rest)
+
+pub verify_takes : (old new : List Moment) (r : Result Unit UnitRefusal) → AsksOne old new r → idle_takes new ≡ idle_takes old
+verify_takes old new r asks =
+    let h = asked_reads old new r asks in
+    let whole : idle_takes new ≡ idle_takes old + idle_takes h.more = takes_more old h.more new h.is in
+    let none : idle_takes h.more ≡ 0 = reads_takes h.more h.all in
+    omega (arith, whole, none)
+
 -- ---- and it is whole
 
 -- how a step that reads may stand
-abbrev StandsAfter : List Moment → Moment → Type 0
-StandsAfter log m = (read : Read) → m.entry.step ≡ ReadStep read → (m.entry.step ≡ ReadStep DrawTest) ⊎ (IsFurther read × HasDrawn log)
+abbrev pub StandsAfter : Bool → List Moment → Moment → Type 0
+StandsAfter checks log m = (read : Read) → m.entry.step ≡ ReadStep read → (m.entry.step ≡ ReadStep DrawTest) ⊎ ((IsFurther read × HasDrawn log) ⊎ ((checks ≡ true) × IsOfCheck read × HasLooked log))
 
-begun_one : (log : List Moment) (m : Moment) → StandsAfter log m → AreBegun log → AreBegun (log ++ m ∷ [])
-begun_one log m how was front back x read is who step = elim (split_end log m front x back is) [
+pub begun_one : (checks : Bool) (log : List Moment) (m : Moment) → StandsAfter checks log m → AreBegun checks log → AreBegun checks (log ++ m ∷ [])
+begun_one checks log m how was front back x read is who step = elim (split_end log m front x back is) [
   | inl last ↦ elim (how read (ap (λ (y : Moment). y.entry.step) last.1 ∙ step)) [
     | inl draw ↦ inl (ap (λ (y : Moment). y.entry.step) (sym last.1) ∙ draw)
-    | inr d ↦ inr (d.0, subst HasDrawn (sym last.0) d.1)
+    | inr d ↦ inr (⊎_elim (λ (v : IsFurther read × HasDrawn log). inl (v.0, subst HasDrawn (sym last.0) v.1)) (λ (k : (checks ≡ true) × IsOfCheck read × HasLooked log). inr (k.0, k.1, subst HasLooked (sym last.0) k.2)) d)
   ]
   | inr before ↦ was front before.0 x read before.1 who step
 ]
 
-same_read : (a b : Read) → ReadStep a ≡ ReadStep b → a ≡ b
+pub same_read : (a b : Read) → ReadStep a ≡ ReadStep b → a ≡ b
 same_read a b e = cc
 
-further_stands : (log : List Moment) (m : Moment) (read : Read) → m.entry.step ≡ ReadStep read → IsFurther read → HasDrawn log → StandsAfter log m
-further_stands log m read step further drawn other is = inr (subst IsFurther (same_read read other (sym step ∙ is)) further, drawn)
+further_stands : (checks : Bool) (log : List Moment) (m : Moment) (read : Read) → m.entry.step ≡ ReadStep read → IsFurther read → HasDrawn log → StandsAfter checks log m
+further_stands checks log m read step further drawn other is = inr (inl (subst IsFurther (same_read read other (sym step ∙ is)) further, drawn))
 
-begun_further : (log rest : List Moment) → HasDrawn log → AllFurther rest → AreBegun log → AreBegun (log ++ rest)
-begun_further log [] drawn all was = subst AreBegun (sym (append-nil log)) was
-begun_further log (m ∷ rest) drawn all was =
-    subst AreBegun (append_assoc log (m ∷ []) rest)
-    (begun_further (log ++ m ∷ []) rest (drawn.0, in_front log (m ∷ []) drawn.0 drawn.1, drawn.2, drawn.3) all.2 (begun_one log m (further_stands log m all.1.0 all.1.1 all.1.2 drawn) was))
+begun_further : (checks : Bool) (log rest : List Moment) → HasDrawn log → AllFurther rest → AreBegun checks log → AreBegun checks (log ++ rest)
+begun_further checks log [] drawn all was = subst (AreBegun checks) (sym (append-nil log)) was
+begun_further checks log (m ∷ rest) drawn all was =
+    subst (AreBegun checks) (append_assoc log (m ∷ []) rest)
+    (begun_further checks (log ++ m ∷ []) rest (drawn.0, in_front log (m ∷ []) drawn.0 drawn.1, drawn.2, drawn.3) all.2 (begun_one checks log m (further_stands checks log m all.1.0 all.1.1 all.1.2 drawn) was))
 
-begun_all : (old new : List Moment) → HasBegun old new → AreBegun old → AreBegun new
-begun_all old new h was =
-    subst AreBegun (append_assoc old (h.draw ∷ []) h.rest ∙ sym h.is)
-    (begun_further (old ++ h.draw ∷ []) h.rest (h.draw, in_middle old [] h.draw, h.drawer, h.drew) h.all (begun_one old h.draw (λ read is. inl h.drew) was))
+begun_all : (checks : Bool) (old new : List Moment) → HasBegun old new → AreBegun checks old → AreBegun checks new
+begun_all checks old new h was =
+    subst (AreBegun checks) (append_assoc old (h.draw ∷ []) h.rest ∙ sym h.is)
+    (begun_further checks (old ++ h.draw ∷ []) h.rest (h.draw, in_middle old [] h.draw, h.drawer, h.drew) h.all (begun_one checks old h.draw (λ read is. inl h.drew) was))
 
-begun_maybe : (old new : List Moment) → BeganOne old new → AreBegun old → AreBegun new
-begun_maybe old new (NotBegun is) was = subst AreBegun (sym is) was
-begun_maybe old new (Begun draw rest is drawer drew all) was = begun_all old new (record { draw = draw; rest = rest; is = is; drawer = drawer; drew = drew; all = all }) was
+begun_maybe : (checks : Bool) (old new : List Moment) → BeganOne old new → AreBegun checks old → AreBegun checks new
+begun_maybe checks old new (NotBegun is) was = subst (AreBegun checks) (sym is) was
+begun_maybe checks old new (Begun draw rest is drawer drew all) was = begun_all checks old new (record { draw = draw; rest = rest; is = is; drawer = drawer; drew = drew; all = all }) was
 
 -- the draw comes where none is open, and no further step is asked for by a line
 closed_further : (s : Start) (log rest : List Moment) → AllFurther rest → AreClosed s log → AreClosed s (log ++ rest)
@@ -446,7 +458,7 @@ verified_one s workers log m none was front back x is who step reply = elim (spl
   | inr before ↦ was front before.0 x before.1 who step reply
 ]
 
-verified_more : (s : Start) (workers : ℕ) (log more : List Moment) → ((m : Moment) → Has more m → IsNoEnd m) → AreVerified s workers log → AreVerified s workers (log ++ more)
+pub verified_more : (s : Start) (workers : ℕ) (log more : List Moment) → ((m : Moment) → Has more m → IsNoEnd m) → AreVerified s workers log → AreVerified s workers (log ++ more)
 verified_more s workers log [] none was = subst (AreVerified s workers) (sym (append-nil log)) was
 verified_more s workers log (m ∷ more) none was =
     subst (AreVerified s workers) (append_assoc log (m ∷ []) more) (verified_more s workers (log ++ m ∷ []) more (λ x h. none x (inr h)) (verified_one s workers log m (none m (inl refl)) was))
@@ -531,31 +543,61 @@ deposed_caller : (s : Start) (old new : List Moment) (refusal : EntryRefusal) �
 deposed_caller s old new (refusals.Deposed entry) h = h.1
 deposed_caller s old new refusal h = absurd h
 
-pub verify_well : (s : Start) (workers : ℕ) (old new : List Moment) → HasBegun old new → HasVerified s old new workers → (Legal s old → Legal s new) → MayVerify s workers old → MayVerify s workers new
-verify_well s workers old new asks ok legal may = record {
-  whole = record { verified = ok_verified s workers old new ok may.whole.verified; begun = begun_all old new asks may.whole.begun; closed = closed_all s old new asks may.idle may.whole.closed };
+pub verify_well : (s : Start) (workers : ℕ) (checks : Bool) (old new : List Moment) → HasBegun old new → HasVerified s old new workers → (Legal s old → Legal s new) → MayVerify s workers checks old → MayVerify s workers checks new
+verify_well s workers checks old new asks ok legal may = record {
+  whole = record {
+    verified = ok_verified s workers old new ok may.whole.verified;
+    checked = begun_checked s old new asks may.whole.checked;
+    begun = begun_all checks old new asks may.whole.begun;
+    closed = closed_all s old new asks may.idle may.whole.closed;
+    unchecked = λ no. begun_unchecked s old new asks (legal may.legal) (may.whole.unchecked no);
+  };
   idle = subst IsIdle (sym ok.closed) none_idle;
   legal = legal may.legal;
 }
 
-pub verify_refused : {S F : Type 0} (c : Counts S F) (s : Start) (workers : ℕ) (old new : List Moment) (e : UnitRefusal) → AsksOne {X = Unit} old new (Err e) → IsVerifyRefused c s old new e → NoneVerified old new
-    → (Legal s old → Legal s new) → MayVerify s workers old → VerifiesOn s workers new (line_result (Err e))
-verify_refused c s workers old new (units.Failed why) asks err none legal may = record {
-  whole = record { verified = err_verified s workers old new none may.whole.verified; begun = begun_all old new asks may.whole.begun; closed = closed_all s old new asks may.idle may.whole.closed };
+pub verify_refused : {S F : Type 0} (c : Counts S F) (s : Start) (workers : ℕ) (checks : Bool) (old new : List Moment) (e : UnitRefusal) → AsksOne {X = Unit} old new (Err e) → IsVerifyRefused c s old new e → NoneVerified old new
+    → (Legal s old → Legal s new) → MayVerify s workers checks old → VerifiesOn s workers checks new (line_result (Err e))
+verify_refused c s workers checks old new (units.Failed why) asks err none legal may = record {
+  whole = record {
+    verified = err_verified s workers old new none may.whole.verified;
+    checked = begun_checked s old new asks may.whole.checked;
+    begun = begun_all checks old new asks may.whole.begun;
+    closed = closed_all s old new asks may.idle may.whole.closed;
+    unchecked = λ no. begun_unchecked s old new asks (legal may.legal) (may.whole.unchecked no);
+  };
   idle = subst IsIdle (sym err.0) none_idle;
   legal = legal may.legal;
 }
-verify_refused c s workers old new (units.Stopped (steps.Refused refusal)) asks err none legal may = record {
-  whole = record { verified = err_verified s workers old new none may.whole.verified; begun = begun_all old new asks may.whole.begun; closed = closed_all s old new asks may.idle may.whole.closed };
+verify_refused c s workers checks old new (units.Stopped (steps.Refused refusal)) asks err none legal may = record {
+  whole = record {
+    verified = err_verified s workers old new none may.whole.verified;
+    checked = begun_checked s old new asks may.whole.checked;
+    begun = begun_all checks old new asks may.whole.begun;
+    closed = closed_all s old new asks may.idle may.whole.closed;
+    unchecked = λ no. begun_unchecked s old new asks (legal may.legal) (may.whole.unchecked no);
+  };
   idle = subst IsIdle (sym (deposed_caller s old new refusal err)) may.idle;
   legal = legal may.legal;
 }
-verify_refused c s workers old new (units.Stopped steps.Memory) asks err none legal may =
-    record { verified = err_verified s workers old new none may.whole.verified; begun = begun_maybe old new asks may.whole.begun; closed = closed_maybe s old new asks may.idle may.whole.closed }
-verify_refused c s workers old new (units.Stopped steps.TurnsSpent) asks err none legal may =
-    record { verified = err_verified s workers old new none may.whole.verified; begun = begun_maybe old new asks may.whole.begun; closed = closed_maybe s old new asks may.idle may.whole.closed }
+verify_refused c s workers checks old new (units.Stopped steps.Memory) asks err none legal may =
+    record {
+      verified = err_verified s workers old new none may.whole.verified;
+      checked = maybe_checked s old new asks may.whole.checked;
+      begun = begun_maybe checks old new asks may.whole.begun;
+      closed = closed_maybe s old new asks may.idle may.whole.closed;
+      unchecked = λ no. maybe_unchecked s old new asks (legal may.legal) (may.whole.unchecked no);
+    }
+verify_refused c s workers checks old new (units.Stopped steps.TurnsSpent) asks err none legal may =
+    record {
+      verified = err_verified s workers old new none may.whole.verified;
+      checked = maybe_checked s old new asks may.whole.checked;
+      begun = begun_maybe checks old new asks may.whole.begun;
+      closed = closed_maybe s old new asks may.idle may.whole.closed;
+      unchecked = λ no. maybe_unchecked s old new asks (legal may.legal) (may.whole.unchecked no);
+    }
 
 -- ---- by the line that a run carries out
 
-pub refused_may : (s : Start) (workers : ℕ) (new : List Moment) (e : StepRefusal) (refusal : EntryRefusal) → e ≡ steps.Refused refusal → VerifiesOn {X = Unit} s workers new (Err e) → MayVerify s workers new
-refused_may s workers new e refusal is h = subst (λ (x : StepRefusal). VerifiesOn {X = Unit} s workers new (Err x)) is h
+pub refused_may : (s : Start) (workers : ℕ) (checks : Bool) (new : List Moment) (e : StepRefusal) (refusal : EntryRefusal) → e ≡ steps.Refused refusal → VerifiesOn {X = Unit} s workers checks new (Err e) → MayVerify s workers checks new
+refused_may s workers checks new e refusal is h = subst (λ (x : StepRefusal). VerifiesOn {X = Unit} s workers checks new (Err x)) is h

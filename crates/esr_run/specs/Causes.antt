@@ -29,7 +29,9 @@ use Rattle.esr_run.specs.Ends.{RunEnd, BadWords, Unreadable, BadScript, BadLine,
 use Rattle.esr_run.specs.Faults.{listed, fetch_of, HasFetch}
 use Rattle.esr_run.specs.Start.{Telling, formats_by, start_of, LegalRun}
 use Rattle.esr_run.specs.Images.{StaysKept, EveryImageKept, AnsweredStay}
+use Rattle.esr_run.specs.Checked.{asks_check}
 use Rattle.esr_run.specs.Verified.{AreWhole}
+use Rattle.esr_run.specs.Waits.{TakesFew}
 use Rattle.esr_run.specs.Made.{HasFallen, AreDone}
 use Rattle.esr_run.specs.Complete.{IsQuietFor, IsLastTerm, Completes}
 
@@ -149,9 +151,11 @@ pub record IsOpenedRun {S F H T : Type 0} (count : Counts S F H T) (files : Tell
   pub single : NoneTwice (log_of after clock history)
   -- a quiet container failed in none of the first 2^41 entries
   pub calm : IsCalm quiet after.sure history
-  -- each verification that ended well is whole; who 0 reads for verifications alone, each after a draw; and none is open where a line
-  -- asks for something
-  pub verified : AreWhole (start_of files size quiet before world) workers (log_of after clock history)
+  -- each verification and each check that ended well is whole; who 0 reads for verifications alone, each after a draw, and where a line
+  -- asks for a check for checks, each after a look; and no verification is open where a line asks for something
+  pub verified : AreWhole (start_of files size quiet before world) workers (asks_check lines) (log_of after clock history)
+  -- takes found no unit ready at most once for each wait, and once at the end
+  pub takes : TakesFew lines (log_of after clock history)
   -- what was asked is what the lines ask for, in order, as far as they were carried out
   pub asked : (rest : List Step) × (asked_steps (log_of after clock history) ++ rest ≡ steps_of moment lines)
 

@@ -3,6 +3,7 @@ use Rattle.std.specs.Prelude.{ℕ, Bool, List, Option}
 use Rattle.esr_model.specs.Values.{Bytes}
 use Rattle.esr_core.specs.Entry.{Moment}
 use Rattle.esr_source.specs.declared.address.Address.{Address}
+use Rattle.esr_source.specs.Begun.{Begun}
 use Rattle.esr_desk.specs.declared.fault.Fault.{Fault}
 use Rattle.esr_desk.specs.Start.{Start}
 use Rattle.esr_desk.specs.Shown as desk
@@ -11,7 +12,7 @@ use Rattle.esr_checking.specs.Shown as checking
 use Rattle.esr_checking.specs.AllShown.{AreAllShown}
 
 -- How often a stage, a fetch, a shard or a target has failed, and for which address a shard or a target was made; the files that a
--- target tells, and whether it tells that it never fails.
+-- target tells, whether it tells that it never fails, and the file that is begun in it.
 pub record Counts (S F H T : Type 0) : Type 0 where
   pub stage : S → ℕ
   pub fetch : F → ℕ
@@ -21,6 +22,7 @@ pub record Counts (S F H T : Type 0) : Type 0 where
   pub target_for : T → Address
   pub held : T → Option (List (Bytes × Bytes))
   pub is_sure : T → Bool
+  pub begun : T → Option Begun
 
 -- as the units of snapshots count, as those of restores do
 abbrev pub unit_counts : {S F H T : Type 0} → Counts S F H T → desk.Counts S F H T

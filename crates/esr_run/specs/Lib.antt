@@ -8,7 +8,9 @@ pub mod Images
 pub mod Made
 pub mod Filled
 pub mod Complete
+pub mod Checked
 pub mod Verified
+pub mod Waits
 pub mod Laws
 pub mod Causes
 pub mod Restored

@@ -1,8 +1,8 @@
 -- How far lines were carried out.
-use Rattle.std.specs.Prelude.{◌≡◌, ◌≢◌, ◌⊎◌, ℕ, ◌^◌, ◌≤◌, List, ◌∷◌, ◌++◌, length, Result, Ok, Err}
+use Rattle.std.specs.Prelude.{◌≡◌, ◌≢◌, ◌⊎◌, ℕ, ◌^◌, ◌≤◌, List, [], ◌∷◌, ◌++◌, length, Result, Ok, Err}
 use Rattle.std.specs.FinMap as fin
 use Rattle.esr_model.specs.Values.{Has}
-use Rattle.esr_core.specs.Entry.{Step, TakeStep, NothingReady, Refused, Refusal, Moment}
+use Rattle.esr_core.specs.Entry.{Step, TakeStep, LookStep, NothingReady, DeposedAt, Refused, Refusal, Moment}
 use Rattle.esr_core.specs.Refusing.{SwapFailed}
 use Rattle.esr_script.specs.declared.item.Item.TheVariants as items
 use Rattle.esr_script.specs.declared.item.ScriptLine.{ScriptLine}
@@ -17,6 +17,7 @@ use Rattle.esr_drive.specs.Stopped.{StopsWork}
 use Rattle.esr_complete.specs.Lines.{steps_of}
 use Rattle.esr_complete.specs.Answers.{NoReaderOut, IsIdle}
 use Rattle.esr_verify.specs.Idle as verify
+use Rattle.esr_check.specs.Began.{HasEndedCheck}
 
 -- the first of these steps were asked
 pub record MadeFirst (s : Start) (wanted : List Step) (old new : List Moment) : Type 0 where
@@ -88,14 +89,45 @@ pub record WaitEnded (s : Start) (moment : ℕ) (before : List ScriptLine) (old 
 abbrev pub WaitsEnded : Start → ℕ → List ScriptLine → List Moment → List Moment → Type 0
 WaitsEnded s moment lines old log = (before after : List ScriptLine) (line : ScriptLine) → lines ≡ before ++ line ∷ after → line.item ≡ items.Wait → WaitEnded s moment before old log
 
+-- the history went on by a look that was refused, since a record swap had failed
+pub record WasLookRefused (old new : List Moment) : Type 0 where
+  pub look : Moment
+  pub is : new ≡ old ++ look ∷ []
+  pub looker : look.entry.who ≡ 0
+  pub looks : look.entry.step ≡ LookStep
+  pub place : ℕ
+  pub refused : look.entry.reply ≡ Refused (DeposedAt place)
+
+-- a line that asks for a check was carried out to the check's end, unless memory was wanting or turns were spent
+abbrev pub CheckEnds : {X : Type 0} → List Moment → List Moment → Result X StepRefusal → Type 0
+CheckEnds old new (Ok x) = HasEndedCheck old new
+CheckEnds old new (Err steps.Memory) = Unit {0}
+CheckEnds old new (Err steps.TurnsSpent) = Unit {0}
+CheckEnds old new (Err (steps.Refused refusal)) = WasLookRefused old new
+
+-- A check has ended at some point of the history, or its look was refused: before it what the lines before ask for was asked, and
+-- nothing else.
+pub record CheckEnded (s : Start) (moment : ℕ) (before : List ScriptLine) (old log : List Moment) : Type 0 where
+  pub front : List Moment
+  pub mid : List Moment
+  pub back : List Moment
+  pub is : log ≡ mid ++ back
+  pub grew : GrewAsking s (steps_of moment before) old front
+  pub ended : HasEndedCheck front mid ⊎ WasLookRefused front mid
+
+-- so has each check among the lines
+abbrev pub ChecksEnded : Start → ℕ → List ScriptLine → List Moment → List Moment → Type 0
+ChecksEnded s moment lines old log = (before after : List ScriptLine) (line : ScriptLine) → lines ≡ before ++ line ∷ after → line.item ≡ items.Check → CheckEnded s moment before old log
+
 -- no verification is open
 abbrev pub NoneOpen : Start → List Moment → Type 0
 NoneOpen s log = verify.IsIdle (caller_of s log)
 
--- all lines were carried out, each wait has ended, no ticket is out, and no verification is open
+-- all lines were carried out, each wait and each check has ended, no ticket is out, and no verification is open
 pub record AreMade (s : Start) (moment : ℕ) (lines : List ScriptLine) (old new : List Moment) : Type 0 where
   pub grew : GrewAsking s (steps_of moment lines) old new
   pub waits : WaitsEnded s moment lines old new
+  pub checks : ChecksEnded s moment lines old new
   pub rests : AreIn s new
   pub closed : NoneOpen s new
 
@@ -103,12 +135,14 @@ pub record AreMade (s : Start) (moment : ℕ) (lines : List ScriptLine) (old new
 pub record AreDone (s : Start) (moment : ℕ) (lines : List ScriptLine) (old new : List Moment) : Type 0 where
   pub grew : GrewAsking s (steps_of moment lines) old new
   pub waits : WaitsEnded s moment lines old new
+  pub checks : ChecksEnded s moment lines old new
   pub idle : IsIdle s new
   pub closed : NoneOpen s new
 
--- all lines were asked, and no verification is open
+-- all lines were asked, each check has ended, and no verification is open
 pub record AreAsked (s : Start) (moment : ℕ) (lines : List ScriptLine) (old new : List Moment) : Type 0 where
   pub grew : GrewAsking s (steps_of moment lines) old new
+  pub checks : ChecksEnded s moment lines old new
   pub closed : NoneOpen s new
 
 -- the work was stopped, after which the further lines were asked all the same; or all turns were taken

@@ -14,7 +14,7 @@ use Rattle.esr_run.specs.Causes.{Given, IsOpenedRun, IsCarried}
 
 -- what the targets tell
 abbrev pub target_telling : {S F H T : Type 0} → Counts S F H T → Telling → drive.Telling T
-target_telling count files = record { made_for = count.target_for; files = count.held; is_sure = count.is_sure; are_told = files.targets_told; are_quiet = files.targets_quiet }
+target_telling count files = record { made_for = count.target_for; files = count.held; is_sure = count.is_sure; begun = count.begun; faults = count.target; are_told = files.targets_told; are_quiet = files.targets_quiet }
 
 -- nothing was carried out
 abbrev pub NoneRestored : {T : Type 0} → List Entry → List (Restored T) → Type 0

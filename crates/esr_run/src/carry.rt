@@ -1,6 +1,6 @@
 //! The lines of a script are carried out, in order.
-ghost use Rattle.std.specs.Prelude.{◌≡◌, ◌⊎◌, ◌<◌, ◌≤◌, ℕ, ◌^◌, ◌∷◌, ◌++◌, [], true, None, OnOk};
-ghost use Rattle.esr_script.specs.declared.item.Item.TheVariants.{Wait};
+ghost use Rattle.std.specs.Prelude.{◌≡◌, ◌⊎◌, ◌+◌, ◌<◌, ◌≤◌, ℕ, Bool, ◌^◌, ◌∷◌, ◌++◌, [], true, None, OnOk};
+ghost use Rattle.esr_script.specs.declared.item.Item.TheVariants.{Wait, Check};
 ghost use Rattle.esr_core.specs.Entry.{Restore, DrawTest, AskStep, LookStep, ReadStep};
 ghost use Rattle.esr_core.specs.Tracked.{Tracked};
 ghost use Rattle.esr_core.specs.ReadTracked.{ReadTracked};
@@ -9,17 +9,20 @@ ghost use Rattle.esr_desk.specs.Start.{Legal};
 ghost use Rattle.esr_quiet.specs.Asked.{GrewAsking};
 ghost use Rattle.esr_quiet.specs.Numbers.{HasNoTickets};
 ghost use Rattle.esr_drive.specs.Restored.{Telling, AreTargetsOf, RestoresNone};
+ghost use Rattle.esr_drive.specs.Takes.{idle_takes};
 ghost use Rattle.esr_complete.specs.Answers.{IsIdle};
 ghost use Rattle.esr_complete.specs.Lines.{command_of_line, steps_of_item, steps_of};
-ghost use Rattle.esr_run.specs.Made.{MadeFirst, HasStopped, WasLeft, NoneOpen, LineSpends, AreIn, LineMade, LineRests, WaitEnds, AreMade, AreDone};
+ghost use Rattle.esr_run.specs.Made.{MadeFirst, HasStopped, WasLeft, NoneOpen, LineSpends, AreIn, LineMade, LineRests, WaitEnds, CheckEnds, AreMade, AreDone};
 ghost use Rattle.esr_run.specs.Filled.{Fills, LineFills};
+ghost use Rattle.esr_run.specs.Checked.{is_check, asks_check};
 ghost use Rattle.esr_run.specs.Verified.{AreWhole, MayVerify, VerifiesOn};
+ghost use Rattle.esr_run.specs.Waits.{waits_in, waits_of};
 ghost use Rattle.esr_run.specs.Stop.{result_of};
 ghost use Rattle.esr_run.specs.Script.{is_askable, is_carried, first_bad};
 
 use crate::command::command_of;
 use crate::law::{steps_stay, work_leaves};
-use esr_checking::VerifyDesk;
+use esr_checking::{CheckDesk, VerifyDesk};
 use esr_desk::{Desk, StepRefusal, UnitRefusal};
 use esr_drive::{RestoredTarget, RestoredTargets, work};
 use esr_names::SnapName;
@@ -44,7 +47,8 @@ fn ask<Q: Desk>(
     ensures rests { Q.start.alone ≡ true → AreIn Q.start (Q.seen desk.old) → LineRests Q.start (Q.seen desk.new) result }
     ensures spent { Q.start.alone ≡ true → LineSpends (Q.seen desk.new) result }
     ensures none { Q.start.alone ≡ true → RestoresNone (Q.seen desk.old) (Q.seen desk.new) }
-    ensures verified { (workers : ℕ) → Q.start.alone ≡ true → MayVerify Q.start workers (Q.seen desk.old) → VerifiesOn Q.start workers (Q.seen desk.new) result }
+    ensures takes { Q.start.alone ≡ true → idle_takes (Q.seen desk.new) ≡ idle_takes (Q.seen desk.old) }
+    ensures verified { (workers : ℕ) (checks : Bool) → Q.start.alone ≡ true → MayVerify Q.start workers checks (Q.seen desk.old) → VerifiesOn Q.start workers checks (Q.seen desk.new) result }
 {
     steps_stay();
     let Ok(command) = command_of(alloc, name, indices, moment) else {
@@ -69,7 +73,8 @@ fn restore<Q: RestoreDesk>(
     ensures rests { Q.start.alone ≡ true → AreIn Q.start (Q.seen desk.old) → LineRests Q.start (Q.seen desk.new) result }
     ensures spent { Q.start.alone ≡ true → LineSpends (Q.seen desk.new) result }
     ensures none { Q.start.alone ≡ true → RestoresNone (Q.seen desk.old) (Q.seen desk.new) }
-    ensures verified { (workers : ℕ) → Q.start.alone ≡ true → MayVerify Q.start workers (Q.seen desk.old) → VerifiesOn Q.start workers (Q.seen desk.new) result }
+    ensures takes { Q.start.alone ≡ true → idle_takes (Q.seen desk.new) ≡ idle_takes (Q.seen desk.old) }
+    ensures verified { (workers : ℕ) (checks : Bool) → Q.start.alone ≡ true → MayVerify Q.start workers checks (Q.seen desk.old) → VerifiesOn Q.start workers checks (Q.seen desk.new) result }
 {
     steps_stay();
     if let Err(refusal) = desk.restore(alloc, name, place) {
@@ -86,7 +91,8 @@ fn list<Q: Desk>(alloc: Global, desk: &mut Q) -> Result<(), StepRefusal>
     ensures rests { Q.start.alone ≡ true → AreIn Q.start (Q.seen desk.old) → LineRests Q.start (Q.seen desk.new) result }
     ensures spent { Q.start.alone ≡ true → LineSpends (Q.seen desk.new) result }
     ensures none { Q.start.alone ≡ true → RestoresNone (Q.seen desk.old) (Q.seen desk.new) }
-    ensures verified { (workers : ℕ) → Q.start.alone ≡ true → MayVerify Q.start workers (Q.seen desk.old) → VerifiesOn Q.start workers (Q.seen desk.new) result }
+    ensures takes { Q.start.alone ≡ true → idle_takes (Q.seen desk.new) ≡ idle_takes (Q.seen desk.old) }
+    ensures verified { (workers : ℕ) (checks : Bool) → Q.start.alone ≡ true → MayVerify Q.start workers checks (Q.seen desk.old) → VerifiesOn Q.start workers checks (Q.seen desk.new) result }
 {
     steps_stay();
     if let Err(refusal) = desk.look(alloc) {
@@ -136,11 +142,12 @@ fn wait<Q: RestoreDesk<Shard = S::Shard, Target = T::Target>, S: Sources, T: Tar
     ensures rests { Q.start.alone ≡ true → AreIn Q.start (Q.seen desk.old) → LineRests Q.start (Q.seen desk.new) result }
     ensures spent { Q.start.alone ≡ true → LineSpends (Q.seen desk.new) result }
     ensures ended { Q.start.alone ≡ true → WaitEnds (Q.seen desk.new) result }
-    ensures filled { Q.start.alone ≡ true → LineFills (record { made_for = T.Target.made_for; files = T.Target.files; is_sure = T.Target.is_sure; are_told = T.is_told targets.now; are_quiet = T.is_quiet targets.now })
+    ensures filled { Q.start.alone ≡ true → LineFills (record { made_for = T.Target.made_for; files = T.Target.files; is_sure = T.Target.is_sure; begun = T.Target.begun; faults = T.Target.faults; are_told = T.is_told targets.now; are_quiet = T.is_quiet targets.now })
         Q.start (Q.seen desk.old) (Q.seen desk.new) filled.old.items filled.new.items result }
-    ensures verified { (workers : ℕ) → Q.start.alone ≡ true → MayVerify Q.start workers (Q.seen desk.old) → VerifiesOn Q.start workers (Q.seen desk.new) result }
-    ensures whole { (workers : ℕ) → Q.start.alone ≡ true → AreWhole Q.start workers (Q.seen desk.old) → AreWhole Q.start workers (Q.seen desk.new) }
+    ensures verified { (workers : ℕ) (checks : Bool) → Q.start.alone ≡ true → MayVerify Q.start workers checks (Q.seen desk.old) → VerifiesOn Q.start workers checks (Q.seen desk.new) result }
+    ensures whole { (workers : ℕ) (checks : Bool) → Q.start.alone ≡ true → AreWhole Q.start workers checks (Q.seen desk.old) → AreWhole Q.start workers checks (Q.seen desk.new) }
     ensures closed { Q.start.alone ≡ true → Legal Q.start (Q.seen desk.old) → NoneOpen Q.start (Q.seen desk.old) → NoneOpen Q.start (Q.seen desk.new) }
+    ensures takes { Q.start.alone ≡ true → idle_takes (Q.seen desk.new) ≤ idle_takes (Q.seen desk.old) + 1 }
 {
     work_leaves();
     let worked = work(alloc, desk, sources, targets, gate, part_size);
@@ -157,12 +164,14 @@ fn verify<Q: VerifyDesk>(alloc: Global, desk: &mut Q, workers: u32) -> Result<()
     requires ops { Tracked Q.start.world }
     requires some { 0 < workers }
     requires few { workers ≤ 64 }
-    requires may { MayVerify Q.start workers (Q.seen desk.old) }
+    requires idle { NoneOpen Q.start (Q.seen desk.old) }
+    requires legal { Legal Q.start (Q.seen desk.old) }
     ensures made { LineMade Q.start (ReadStep DrawTest ∷ []) (Q.seen desk.old) (Q.seen desk.new) result }
     ensures rests { AreIn Q.start (Q.seen desk.old) → LineRests Q.start (Q.seen desk.new) result }
     ensures spent { LineSpends (Q.seen desk.new) result }
     ensures none { RestoresNone (Q.seen desk.old) (Q.seen desk.new) }
-    ensures verified { VerifiesOn Q.start workers (Q.seen desk.new) result }
+    ensures takes { idle_takes (Q.seen desk.new) ≡ idle_takes (Q.seen desk.old) }
+    ensures verified { (checks : Bool) → MayVerify Q.start workers checks (Q.seen desk.old) → VerifiesOn Q.start workers checks (Q.seen desk.new) result }
 {
     steps_stay();
     match esr_verify::verify(alloc, desk, workers) {
@@ -172,8 +181,30 @@ fn verify<Q: VerifyDesk>(alloc: Global, desk: &mut Q, workers: u32) -> Result<()
     }
 }
 
+/// Checks the repository. A check that fails is no reason to stop.
+fn check<Q: CheckDesk>(alloc: Global, desk: &mut Q) -> Result<(), StepRefusal>
+    requires alone { Q.start.alone ≡ true }
+    requires numbered { HasNoTickets Q.start }
+    requires ops { Tracked Q.start.world }
+    requires legal { Legal Q.start (Q.seen desk.old) }
+    ensures made { LineMade Q.start (LookStep ∷ []) (Q.seen desk.old) (Q.seen desk.new) result }
+    ensures rests { AreIn Q.start (Q.seen desk.old) → LineRests Q.start (Q.seen desk.new) result }
+    ensures spent { LineSpends (Q.seen desk.new) result }
+    ensures none { RestoresNone (Q.seen desk.old) (Q.seen desk.new) }
+    ensures takes { idle_takes (Q.seen desk.new) ≡ idle_takes (Q.seen desk.old) }
+    ensures checked { CheckEnds (Q.seen desk.old) (Q.seen desk.new) result }
+    ensures verified { (workers : ℕ) → MayVerify Q.start workers true (Q.seen desk.old) → VerifiesOn Q.start workers true (Q.seen desk.new) result }
+{
+    steps_stay();
+    match esr_check::check(alloc, desk) {
+        Ok(_) => Ok(()),
+        Err(UnitRefusal::Failed(..)) => Ok(()),
+        Err(UnitRefusal::Stopped(refusal)) => Err(refusal),
+    }
+}
+
 fn carry_line<
-    Q: RestoreDesk<Shard = S::Shard, Target = T::Target> + VerifyDesk,
+    Q: RestoreDesk<Shard = S::Shard, Target = T::Target> + VerifyDesk + CheckDesk,
     S: Sources,
     T: Targets,
     G: Gate,
@@ -193,7 +224,8 @@ fn carry_line<
     requires alone { Q.start.alone ≡ true }
     requires some { 0 < workers }
     requires few { workers ≤ 64 }
-    requires may { MayVerify Q.start workers (Q.seen desk.old) }
+    requires idle { NoneOpen Q.start (Q.seen desk.old) }
+    requires legal { Legal Q.start (Q.seen desk.old) }
     requires sources { AreSources Q.start (S.files sources.now) (S.is_there sources.now) (S.is_quiet sources.now) }
     requires sure { Q.start.sure_targets ≡ T.is_quiet targets.now }
     requires size { part_size ≡ Q.start.part_size }
@@ -204,16 +236,19 @@ fn carry_line<
     ensures made { LineMade Q.start (steps_of_item moment item.now) (Q.seen desk.old) (Q.seen desk.new) result }
     ensures rests { Q.start.alone ≡ true → AreIn Q.start (Q.seen desk.old) → LineRests Q.start (Q.seen desk.new) result }
     ensures spent { Q.start.alone ≡ true → LineSpends (Q.seen desk.new) result }
+    ensures checked { item.now ≡ Check → CheckEnds (Q.seen desk.old) (Q.seen desk.new) result }
     ensures ended { item.now ≡ Wait → Q.start.alone ≡ true → WaitEnds (Q.seen desk.new) result }
-    ensures filled { Q.start.alone ≡ true → LineFills (record { made_for = T.Target.made_for; files = T.Target.files; is_sure = T.Target.is_sure; are_told = T.is_told targets.now; are_quiet = T.is_quiet targets.now })
+    ensures takes { idle_takes (Q.seen desk.new) ≤ idle_takes (Q.seen desk.old) + waits_in item.now }
+    ensures filled { Q.start.alone ≡ true → LineFills (record { made_for = T.Target.made_for; files = T.Target.files; is_sure = T.Target.is_sure; begun = T.Target.begun; faults = T.Target.faults; are_told = T.is_told targets.now; are_quiet = T.is_quiet targets.now })
         Q.start (Q.seen desk.old) (Q.seen desk.new) filled.old.items filled.new.items result }
-    ensures verified { VerifiesOn Q.start workers (Q.seen desk.new) result }
+    ensures verified { (checks : Bool) → (is_check item.now ≡ true → checks ≡ true) → MayVerify Q.start workers checks (Q.seen desk.old) → VerifiesOn Q.start workers checks (Q.seen desk.new) result }
 {
     match item {
         Item::Snapshot { name, indices } => ask(alloc, desk, name, indices.as_slice(), moment),
         Item::Restore { name, place } => restore(alloc, desk, name, place),
         Item::Wait => wait(alloc, desk, sources, targets, gate, part_size, filled),
         Item::List => list(alloc, desk),
+        Item::Check => check(alloc, desk),
         Item::Verify => verify(alloc, desk, workers),
         _ => Ok(()),
     }
@@ -222,7 +257,7 @@ fn carry_line<
 /// Carries out the lines. A refusal that the history tells is no reason to stop; none is carried out once the desk's turns
 /// are spent.
 fn carry_lines<
-    Q: RestoreDesk<Shard = S::Shard, Target = T::Target> + VerifyDesk,
+    Q: RestoreDesk<Shard = S::Shard, Target = T::Target> + VerifyDesk + CheckDesk,
     S: Sources,
     T: Targets,
     G: Gate,
@@ -242,7 +277,7 @@ fn carry_lines<
     requires alone { Q.start.alone ≡ true }
     requires some { 0 < workers }
     requires few { workers ≤ 64 }
-    requires may { MayVerify Q.start workers (Q.seen desk.old) }
+    requires may { MayVerify Q.start workers (asks_check lines.now) (Q.seen desk.old) }
     requires sources { AreSources Q.start (S.files sources.now) (S.is_there sources.now) (S.is_quiet sources.now) }
     requires sure { Q.start.sure_targets ≡ T.is_quiet targets.now }
     requires size { part_size ≡ Q.start.part_size }
@@ -252,9 +287,10 @@ fn carry_lines<
     requires ops { Tracked Q.start.world }
     ensures made { MadeFirst Q.start (steps_of moment lines.now) (Q.seen desk.old) (Q.seen desk.new) }
     ensures rests { OnOk result (Q.start.alone ≡ true → AreIn Q.start (Q.seen desk.old) → AreMade Q.start moment lines.now (Q.seen desk.old) (Q.seen desk.new) ⊎ WasLeft Q.start moment lines.now (Q.seen desk.old) (Q.seen desk.new)) }
-    ensures filled { OnOk result (Q.start.alone ≡ true → Fills (record { made_for = T.Target.made_for; files = T.Target.files; is_sure = T.Target.is_sure; are_told = T.is_told targets.now; are_quiet = T.is_quiet targets.now })
+    ensures filled { OnOk result (Q.start.alone ≡ true → Fills (record { made_for = T.Target.made_for; files = T.Target.files; is_sure = T.Target.is_sure; begun = T.Target.begun; faults = T.Target.faults; are_told = T.is_told targets.now; are_quiet = T.is_quiet targets.now })
         Q.start (Q.seen desk.old) (Q.seen desk.new) filled.old.items filled.new.items) }
-    ensures whole { AreWhole Q.start workers (Q.seen desk.new) }
+    ensures whole { AreWhole Q.start workers (asks_check lines.now) (Q.seen desk.new) }
+    ensures takes { idle_takes (Q.seen desk.new) ≤ idle_takes (Q.seen desk.old) + waits_of lines.now }
 {
     let mut left = lines;
     while let [line, rest @ ..] = left {
@@ -290,10 +326,11 @@ fn work_out<Q: RestoreDesk<Shard = S::Shard, Target = T::Target>, S: Sources, T:
     requires ops { Tracked Q.start.world }
     ensures grew { GrewAsking Q.start [] (Q.seen desk.old) (Q.seen desk.new) }
     ensures done { OnOk result (Q.start.alone ≡ true → AreIn Q.start (Q.seen desk.old) → IsIdle Q.start (Q.seen desk.new) ⊎ HasStopped (Q.seen desk.new)) }
-    ensures filled { OnOk result (Q.start.alone ≡ true → Fills (record { made_for = T.Target.made_for; files = T.Target.files; is_sure = T.Target.is_sure; are_told = T.is_told targets.now; are_quiet = T.is_quiet targets.now })
+    ensures filled { OnOk result (Q.start.alone ≡ true → Fills (record { made_for = T.Target.made_for; files = T.Target.files; is_sure = T.Target.is_sure; begun = T.Target.begun; faults = T.Target.faults; are_told = T.is_told targets.now; are_quiet = T.is_quiet targets.now })
         Q.start (Q.seen desk.old) (Q.seen desk.new) filled.old.items filled.new.items) }
-    ensures whole { (workers : ℕ) → Q.start.alone ≡ true → AreWhole Q.start workers (Q.seen desk.old) → AreWhole Q.start workers (Q.seen desk.new) }
+    ensures whole { (workers : ℕ) (checks : Bool) → Q.start.alone ≡ true → AreWhole Q.start workers checks (Q.seen desk.old) → AreWhole Q.start workers checks (Q.seen desk.new) }
     ensures closed { Q.start.alone ≡ true → Legal Q.start (Q.seen desk.old) → NoneOpen Q.start (Q.seen desk.old) → NoneOpen Q.start (Q.seen desk.new) }
+    ensures takes { Q.start.alone ≡ true → idle_takes (Q.seen desk.new) ≤ idle_takes (Q.seen desk.old) + 1 }
 {
     match wait(alloc, desk, sources, targets, gate, part_size, filled) {
         Ok(()) => Ok(()),
@@ -306,7 +343,7 @@ fn work_out<Q: RestoreDesk<Shard = S::Shard, Target = T::Target>, S: Sources, T:
 /// Carries out the lines, and works all units that are ready then. The targets that restores filled are put to those that are
 /// given.
 pub(crate) fn carry<
-    Q: RestoreDesk<Shard = S::Shard, Target = T::Target> + VerifyDesk,
+    Q: RestoreDesk<Shard = S::Shard, Target = T::Target> + VerifyDesk + CheckDesk,
     S: Sources,
     T: Targets,
     G: Gate,
@@ -326,7 +363,7 @@ pub(crate) fn carry<
     requires alone { Q.start.alone ≡ true }
     requires some { 0 < workers }
     requires few { workers ≤ 64 }
-    requires may { MayVerify Q.start workers (Q.seen desk.old) }
+    requires may { MayVerify Q.start workers (asks_check lines.now) (Q.seen desk.old) }
     requires sources { AreSources Q.start (S.files sources.now) (S.is_there sources.now) (S.is_quiet sources.now) }
     requires sure { Q.start.sure_targets ≡ T.is_quiet targets.now }
     requires size { part_size ≡ Q.start.part_size }
@@ -336,9 +373,10 @@ pub(crate) fn carry<
     requires ops { Tracked Q.start.world }
     ensures made { MadeFirst Q.start (steps_of moment lines.now) (Q.seen desk.old) (Q.seen desk.new) }
     ensures done { OnOk result (Q.start.alone ≡ true → AreIn Q.start (Q.seen desk.old) → AreDone Q.start moment lines.now (Q.seen desk.old) (Q.seen desk.new) ⊎ WasLeft Q.start moment lines.now (Q.seen desk.old) (Q.seen desk.new)) }
-    ensures filled { OnOk result (Q.start.alone ≡ true → Fills (record { made_for = T.Target.made_for; files = T.Target.files; is_sure = T.Target.is_sure; are_told = T.is_told targets.now; are_quiet = T.is_quiet targets.now })
+    ensures filled { OnOk result (Q.start.alone ≡ true → Fills (record { made_for = T.Target.made_for; files = T.Target.files; is_sure = T.Target.is_sure; begun = T.Target.begun; faults = T.Target.faults; are_told = T.is_told targets.now; are_quiet = T.is_quiet targets.now })
         Q.start (Q.seen desk.old) (Q.seen desk.new) filled.old.items filled.new.items) }
-    ensures whole { AreWhole Q.start workers (Q.seen desk.new) }
+    ensures whole { AreWhole Q.start workers (asks_check lines.now) (Q.seen desk.new) }
+    ensures takes { idle_takes (Q.seen desk.new) ≤ idle_takes (Q.seen desk.old) + (waits_of lines.now + 1) }
 {
     match carry_lines(
         alloc, desk, lines, sources, targets, gate, part_size, workers, moment, filled,

@@ -74,6 +74,7 @@ pub(crate) fn is_carried(item: &Item) -> bool
         Item::Restore { name: _, place: _ } => true,
         Item::Wait => true,
         Item::List => true,
+        Item::Check => true,
         Item::Verify => true,
         _ => false,
     }

@@ -12,9 +12,9 @@ use Rattle.esr_desk.specs.Once.{AreOnce, NoneTwice}
 use Rattle.esr_desk.specs.Numbered.{Numbered}
 use Rattle.esr_desk.specs.Shown.{Counts}
 use Rattle.esr_reading.specs.Shown as reading
-use Rattle.esr_checking.specs.Caller.{caller_of}
 use Rattle.esr_checking.specs.Shown as checking
 use Rattle.esr_checking.specs.Tested.{AreTested}
+use Rattle.esr_checking.specs.Reports.{IsEndShown}
 use Rattle.esr_checking.specs.AllShown.{AreAllShown}
 use Rattle.esr_repo.specs.Next.{Did}
 use Rattle.esr_solo.specs.Turns.{turns_of}
@@ -65,11 +65,11 @@ keeps_alone c s own new read ok result faults left took all h some turns none d 
   tested_did s own new 0 (ReadStep read) ok result tests d h.5,
 )
 
--- ---- the report that a verification failed
+-- ---- the report that a verification or a check failed
 
 -- by its answer
 shown_by : {S F H T : Type 0} {u : Counts S F H T} {r : reading.Counts F T} (c : checking.Counts S F) (s : Start) (own new : List Moment) (why : Why) (result : Result Unit StepRefusal) (faults : List (Fault S F H T)) (b : By S F H T)
-    → AreAllShown u r c s own faults → checking.IsShown c s own (caller_of s own) why b → Did s own new 0 (ReadStep (ReadFails why)) (λ _. HasEnded) result → AreAllShown u r c s new (faults ++ kept_by (length own) b result)
+    → AreAllShown u r c s own faults → IsEndShown c s own why b → Did s own new 0 (ReadStep (ReadFails why)) (λ _. HasEnded) result → AreAllShown u r c s new (faults ++ kept_by (length own) b result)
 shown_by {S} {F} {H} {T} {u} {r} c s own new why (Ok x) faults b h shown d =
     subst (λ (l : List Moment). AreAllShown {S = S} {F = F} {H = H} {T = T} u r c s l (faults ++ listed_at (length own) b)) (sym d.is)
     (verify_reports c s own (record { entry = record { who = 0; step = ReadStep (ReadFails why); reply = HasEnded }; image = d.image }) faults why b refl refl refl shown h)
@@ -78,14 +78,14 @@ shown_by {S} {F} {H} {T} {u} {r} c s own new why (Err e) faults b h shown d =
 
 -- the desk's invariant after it
 pub keeps_verify_report : {S F H T : Type 0} {u : Counts S F H T} {r : reading.Counts F T} (c : checking.Counts S F) (s : Start) (own log new : List Moment) (why : Why) (result : Result Unit StepRefusal) (faults roomy after : List (Fault S F H T)) (left took all : ℕ) (b : By S F H T)
-    → (length own + left ≡ all) × AreAllShown u r c s own faults × AreOnce s own × NoneTwice own × Numbered 1 s.world × AreTested s own → left ≢ 0 → took ≡ turns_of result → own ≡ log → checking.IsShown c s log (caller_of s log) why b → roomy ≡ faults → after ≡ roomy ++ kept_by (all - left) b result → Did s own new 0 (ReadStep (ReadFails why)) (λ _. HasEnded) result
+    → (length own + left ≡ all) × AreAllShown u r c s own faults × AreOnce s own × NoneTwice own × Numbered 1 s.world × AreTested s own → left ≢ 0 → took ≡ turns_of result → own ≡ log → IsEndShown c s log why b → roomy ≡ faults → after ≡ roomy ++ kept_by (all - left) b result → Did s own new 0 (ReadStep (ReadFails why)) (λ _. HasEnded) result
     → (length new + (left - took) ≡ all) × AreAllShown u r c s new after × AreOnce s new × NoneTwice new × Numbered 1 s.world × AreTested s new
 keeps_verify_report {S} {F} {H} {T} {u} {r} c s own log new why result faults roomy after left took all b h some turns view shown same is d =
     let n : all - left ≡ length own = place_is (length own) left all (all - left) h.0 refl in
     let e : after ≡ faults ++ kept_by (length own) b result = is ∙ ap (λ (l : List (Fault S F H T)). l ++ kept_by (all - left) b result) same ∙ ap (λ (k : ℕ). faults ++ kept_by k b result) n in (
       counted (length own) (length new) left took all some (subst (λ (k : ℕ). k ≤ 1) (sym turns) (at_most_one result)) h.0 (grown s own new 0 (ReadStep (ReadFails why)) (λ _. HasEnded) result d ∙ ap (λ (k : ℕ). length own + k) (sym turns)),
       subst (λ (l : List (Fault S F H T)). AreAllShown {S = S} {F = F} {H = H} {T = T} u r c s new l) (sym e)
-          (shown_by c s own new why result faults b h.1 (subst (λ (l : List Moment). checking.IsShown {S = S} {F = F} {H = H} {T = T} c s l (caller_of s l) why b) (sym view) shown) d),
+          (shown_by c s own new why result faults b h.1 (subst (λ (l : List Moment). IsEndShown {S = S} {F = F} {H = H} {T = T} c s l why b) (sym view) shown) d),
       once_did s own new 0 (ReadStep (ReadFails why)) (λ _. HasEnded) result (no_commit s own (ReadFails why)) d h.2,
       did_alone NoneTwice s own new (ReadFails why) (λ _. HasEnded) result (λ m alone is. single_alone own m alone h.3) d h.3,
       h.4,

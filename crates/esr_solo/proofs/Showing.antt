@@ -12,9 +12,8 @@ use Rattle.esr_desk.specs.Start.{Start}
 use Rattle.esr_desk.specs.Shown.{Counts, IsShown, IsListed, IsReport, IsShownAt}
 use Rattle.esr_reading.specs.Shown as reading
 use Rattle.esr_reading.specs.Reports.{IsReadReport, IsReadShownAt}
-use Rattle.esr_checking.specs.Caller.{caller_of}
 use Rattle.esr_checking.specs.Shown as checking
-use Rattle.esr_checking.specs.Reports.{IsVerifyReport, IsVerifyShownAt}
+use Rattle.esr_checking.specs.Reports.{IsVerifyReport, IsEndShown, IsEndShownAt}
 use Rattle.esr_checking.specs.AllShown.{ShowsReport, OfUnit, OfRestore, OfVerification, AreAllShown}
 use Rattle.esr_repo.specs.Next.{Added, AddedOr, Did}
 use Rattle.esr_solo.specs.Kept.{listed_at}
@@ -175,7 +174,7 @@ abbrev pub AreRestoresShown : {S F H T : Type 0} → reading.Counts F T → Star
 AreRestoresShown r s log faults = (place who : ℕ) (why : Why) (report : IsReadReport log place who why) → IsReadShownAt r s report.front place who why faults
 
 abbrev pub AreVerificationsShown : {S F H T : Type 0} → checking.Counts S F → Start → List Moment → List (Fault S F H T) → Type 0
-AreVerificationsShown v s log faults = (place : ℕ) (why : Why) (report : IsVerifyReport log place why) → IsVerifyShownAt v s report.front place why faults
+AreVerificationsShown v s log faults = (place : ℕ) (why : Why) (report : IsVerifyReport log place why) → IsEndShownAt v s report.front place why faults
 
 -- the object shows a failure that the history tells
 abbrev pub IsOfReport : {S F H T : Type 0} → Counts S F H T → reading.Counts F T → checking.Counts S F → Start → List Moment → Fault S F H T → Type 0
@@ -249,12 +248,12 @@ now_read_shown {S} {F} {H} {T} c s log faults who0 why0 b shown front place who 
     (subst (λ (y : Why). IsReadShownAt {S = S} {F = F} {H = H} {T = T} c s log (length log) who0 y (faults ++ listed_at (length log) b)) same
     (b, shown, own_listed faults (length log) b))))
 
-now_verify_shown : {S F H T : Type 0} (c : checking.Counts S F) (s : Start) (log : List Moment) (faults : List (Fault S F H T)) (why0 : Why) (b : By S F H T) → checking.IsShown c s log (caller_of s log) why0 b
-    → (front : List Moment) (place : ℕ) (why : Why) → front ≡ log → length front ≡ place → why0 ≡ why → IsVerifyShownAt c s front place why (faults ++ listed_at (length log) b)
+now_verify_shown : {S F H T : Type 0} (c : checking.Counts S F) (s : Start) (log : List Moment) (faults : List (Fault S F H T)) (why0 : Why) (b : By S F H T) → IsEndShown c s log why0 b
+    → (front : List Moment) (place : ℕ) (why : Why) → front ≡ log → length front ≡ place → why0 ≡ why → IsEndShownAt c s front place why (faults ++ listed_at (length log) b)
 now_verify_shown {S} {F} {H} {T} c s log faults why0 b shown front place why is at same =
-    subst (λ (l : List Moment). IsVerifyShownAt {S = S} {F = F} {H = H} {T = T} c s l place why (faults ++ listed_at (length log) b)) (sym is)
-    (subst (λ (n : ℕ). IsVerifyShownAt {S = S} {F = F} {H = H} {T = T} c s log n why (faults ++ listed_at (length log) b)) (sym (ap length is) ∙ at)
-    (subst (λ (y : Why). IsVerifyShownAt {S = S} {F = F} {H = H} {T = T} c s log (length log) y (faults ++ listed_at (length log) b)) same
+    subst (λ (l : List Moment). IsEndShownAt {S = S} {F = F} {H = H} {T = T} c s l place why (faults ++ listed_at (length log) b)) (sym is)
+    (subst (λ (n : ℕ). IsEndShownAt {S = S} {F = F} {H = H} {T = T} c s log n why (faults ++ listed_at (length log) b)) (sym (ap length is) ∙ at)
+    (subst (λ (y : Why). IsEndShownAt {S = S} {F = F} {H = H} {T = T} c s log (length log) y (faults ++ listed_at (length log) b)) same
     (b, shown, own_listed faults (length log) b)))
 
 -- the objects of before, and that of the report
@@ -307,9 +306,9 @@ read_reports {u = u} {v = v} c s log m faults why b ticket step reply shown h =
       listed = listed_with u c v s log m faults b h.listed (OfRestore m.entry.who why (record { front = log; moment = m; back = []; is = refl; place_is = refl; ticket = ticket; of = refl; step = step; reply = reply }) shown);
     }
 
--- of a verification
+-- of a verification or a check
 pub verify_reports : {S F H T : Type 0} {u : Counts S F H T} {r : reading.Counts F T} (c : checking.Counts S F) (s : Start) (log : List Moment) (m : Moment) (faults : List (Fault S F H T)) (why : Why) (b : By S F H T) → m.entry.who ≡ 0 → m.entry.step ≡ ReadStep (ReadFails why) → m.entry.reply ≡ HasEnded
-    → checking.IsShown c s log (caller_of s log) why b → AreAllShown u r c s log faults → AreAllShown u r c s (log ++ m ∷ []) (faults ++ listed_at (length log) b)
+    → IsEndShown c s log why b → AreAllShown u r c s log faults → AreAllShown u r c s (log ++ m ∷ []) (faults ++ listed_at (length log) b)
 verify_reports {u = u} {r = r} c s log m faults why b alone step reply shown h =
     record {
       units = units_go_on u s log m faults (faults ++ listed_at (length log) b) (more_listed faults (listed_at (length log) b)) (λ other is _. no_read_failed other why m is step) h.units;

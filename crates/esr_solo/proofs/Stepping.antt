@@ -1,7 +1,7 @@
 -- A step of the desk is that of its repository.
-use Rattle.std.proofs.Common.{◌≡◌, ◌<◌, ◌≤◌, ℕ, ◌+◌, ◌-◌, ◌^◌, List, [], ◌∷◌, ◌++◌, length, Option, Some, None, IfSome, Result, Ok, Err, IfOk, refl, sym, ap, ◌∙◌, subst, append-nil, ◌≢◌, arith}
+use Rattle.std.proofs.Common.{◌≡◌, ◌<◌, ◌≤◌, ℕ, ◌+◌, ◌-◌, ◌^◌, List, [], ◌∷◌, ◌++◌, length, Option, Some, None, Bool, true, IfSome, Result, Ok, Err, IfOk, OnOk, refl, sym, ap, ◌∙◌, subst, append-nil, ◌≢◌, arith}
 use Rattle.std.proofs.lemmas.List.{length-append}
-use Rattle.esr_core.specs.Entry.{Why, FailedStep, HasEnded, CommitStep, Step, Reply, Refused, Moment}
+use Rattle.esr_core.specs.Entry.{Why, Read, ReadStep, FailedStep, HasEnded, CommitStep, Step, Reply, Refused, Moment}
 use Rattle.esr_model.specs.Names.{BlobName}
 use Rattle.esr_desk.specs.declared.fault.Fault.{Fault}
 use Rattle.esr_desk.specs.declared.fault.By.{By}
@@ -12,7 +12,7 @@ use Rattle.esr_desk.specs.Start.{Start, Legal}
 use Rattle.esr_desk.specs.Outcome.{Waited, Stepped, Spends, Outcome}
 use Rattle.esr_desk.specs.Once.{AreOnce, NoneTwice}
 use Rattle.esr_desk.specs.Numbered.{Numbered}
-use Rattle.esr_desk.specs.Shown.{Counts, IsShown}
+use Rattle.esr_desk.specs.Shown.{Counts, NeverFailed, IsShown}
 use Rattle.esr_reading.specs.Shown as reading
 use Rattle.esr_checking.specs.Shown as checking
 use Rattle.esr_checking.specs.Tested.{AreTested}
@@ -74,6 +74,13 @@ turns_left_of (Ok (Some x)) quiet short P now h = λ q. h q now
 turns_left_of (Ok None) quiet short P now h = tt
 turns_left_of (Err e) quiet short P now h = tt
 
+-- what the repository says of failures, within the turns
+pub never : (quiet : Bool) (own log : List Moment) (left : ℕ) → own ≡ log → length own + left ≡ 2 ^ 40 → (quiet ≡ true → length own ≤ 2 ^ 41 → NeverFailed own) → quiet ≡ true → NeverFailed log
+never quiet own log left view turns none is_quiet = subst (λ (l : List Moment). NeverFailed l) view (none is_quiet (below (length own) turns))
+  where
+    below : (n : ℕ) → n + left ≡ 2 ^ 40 → n ≤ 2 ^ 41
+    below n e = omega (arith, e)
+
 -- ---- the invariant
 
 one_more : (log new : List Moment) (m : Moment) → new ≡ log ++ m ∷ [] → length new ≡ length log + 1
@@ -85,6 +92,14 @@ grown s own new who step ok (Ok x) d = one_more own new (record { entry = record
 grown s own new who step ok (Err steps.Memory) d = ap length d ∙ omega arith
 grown s own new who step ok (Err steps.TurnsSpent) never = absurd never
 grown s own new who step ok (Err (steps.Refused refusal)) d = one_more own new (record { entry = record { who = who; step = step; reply = Refused (refusal_of refusal) }; image = d.image }) d.is
+
+-- no history passes the turns
+pub is_few : {X : Type 0} (s : Start) (own new : List Moment) (read : Read) (ok : X → Reply) (result : Result X StepRefusal) (left : ℕ) → length own + left ≡ 2 ^ 40 → left ≢ 0 → Did s own new 0 (ReadStep read) ok result → OnOk result (length new ≤ 2 ^ 40)
+is_few s own new read ok (Ok x) left turns some d = let more = grown s own new 0 (ReadStep read) ok (Ok x) d in within (length own) (length new) left turns some more
+  where
+    within : (n m left : ℕ) → n + left ≡ 2 ^ 40 → left ≢ 0 → m ≡ n + 1 → m ≤ 2 ^ 40
+    within n m left turns some more = omega (arith, turns, some, more)
+is_few s own new read ok (Err e) left turns some d = tt
 
 pub at_most_one : {X : Type 0} (result : Result X StepRefusal) → turns_of result ≤ 1
 at_most_one (Ok x) = omega arith

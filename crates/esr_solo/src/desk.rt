@@ -35,6 +35,10 @@ impl<D: Depot, K: Told, H: Shard, T: Target> Desk for Solo<D, K, H, T> {
 
     ghost holds = { λ s k. Prim.Unit {0} };
 
+    fn never_fails(&self) {
+        self.repo.never_fails();
+    }
+
     fn ask(&mut self, alloc: Global, command: &Command) -> Result<u64, StepRefusal> {
         self.repo.is_legal();
         if self.left == 0 {

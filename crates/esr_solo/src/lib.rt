@@ -1,6 +1,7 @@
 //! The desk of one thread.
 #![tactic(auto)]
 
+mod check;
 mod checking;
 mod desk;
 mod faults;

@@ -1,5 +1,5 @@
 //! Which calls of an object in memory are to fail.
-ghost use Rattle.std.specs.Prelude.{◌≡◌, IfOk, true, map};
+ghost use Rattle.std.specs.Prelude.{◌≡◌, IfOk, true, false, map};
 ghost use Rattle.esr_depot.specs.Calls.{HasCause};
 ghost use Rattle.esr_source.specs.Plan.{same_call, is_due, is_due_in, passed, plan_at, is_unplanned};
 ghost use Rattle.esr_source.specs.Sure.{ServesAll};
@@ -92,6 +92,7 @@ impl Meter {
         ensures passed { self.new.failing.items ≡ map (passed call) self.old.failing.items }
         ensures plan { is_unplanned self.new.failing.items ≡ is_unplanned self.old.failing.items }
         ensures cause { HasCause self.old.faults self.new.faults result }
+        ensures steady { result ≡ false → self.new.faults ≡ self.old.faults }
         ensures sure { ServesAll (is_unplanned self.old.failing.items) self.old.faults self.new.faults result }
     {
         let due = is_due_in(&self.failing, call);

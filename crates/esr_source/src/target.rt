@@ -33,6 +33,7 @@ pub trait Target: Counted + Drop + Send {
         ensures made_for { made_for self.new ≡ made_for self.old }
         ensures memory { is_wanting result ≡ true → Self.faults self.new ≡ Self.faults self.old }
         ensures cause { HasCause (Self.faults self.old) (Self.faults self.new) (has_failed result) }
+        ensures steady { OnOk result (Self.faults self.new ≡ Self.faults self.old) }
         ensures is_sure { is_sure self.new ≡ is_sure self.old }
         ensures sure { ServesAll (is_sure self.old) (Self.faults self.old) (Self.faults self.new) (has_failed result) };
 
@@ -44,6 +45,7 @@ pub trait Target: Counted + Drop + Send {
         ensures files { files self.new ≡ files self.old }
         ensures made_for { made_for self.new ≡ made_for self.old }
         ensures cause { HasCause (Self.faults self.old) (Self.faults self.new) (is_err result) }
+        ensures steady { OnOk result (Self.faults self.new ≡ Self.faults self.old) }
         ensures is_sure { is_sure self.new ≡ is_sure self.old }
         ensures sure { ServesAll (is_sure self.old) (Self.faults self.old) (Self.faults self.new) (is_err result) };
 
@@ -56,6 +58,7 @@ pub trait Target: Counted + Drop + Send {
         ensures kept { OnErr result (files self.new ≡ files self.old) }
         ensures made_for { made_for self.new ≡ made_for self.old }
         ensures cause { HasCause (Self.faults self.old) (Self.faults self.new) (is_err result) }
+        ensures steady { OnOk result (Self.faults self.new ≡ Self.faults self.old) }
         ensures is_sure { is_sure self.new ≡ is_sure self.old }
         ensures sure { ServesAll (is_sure self.old) (Self.faults self.old) (Self.faults self.new) (is_err result) };
 }

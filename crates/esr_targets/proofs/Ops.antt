@@ -146,6 +146,7 @@ module _ (moment : ℕ) (line : ScriptLine) (lines : List ScriptLine) (op number
   by_item es rest (items.Snapshot name indices) is same found on = ask (AskStep (command_of_line name indices moment)) es rest (ap (steps_of_item moment) is) same found on
   by_item es rest (items.Restore name place) is same found on = ask (AskStep (Restore name place)) es rest (ap (steps_of_item moment) is) same found on
   by_item es rest items.List is same found on = ask LookStep es rest (ap (steps_of_item moment) is) same found on
+  by_item es rest items.Check is same found on = ask LookStep es rest (ap (steps_of_item moment) is) same found on
   by_item es rest items.Verify is same found on = ask (ReadStep DrawTest) es rest (ap (steps_of_item moment) is) same found on
   by_item es rest item is same found on = skip es (ap (steps_of_item moment) is) (on es same found)
 
@@ -166,6 +167,7 @@ module _ (moment : ℕ) (line : ScriptLine) (earlier lines : List ScriptLine) (f
   both_by es (items.Snapshot name indices) same = both_asked (AskStep (command_of_line name indices moment)) es same
   both_by es (items.Restore name place) same = both_asked (AskStep (Restore name place)) es same
   both_by es items.List same = both_asked LookStep es same
+  both_by es items.Check same = both_asked LookStep es same
   both_by es items.Verify same = both_asked (ReadStep DrawTest) es same
   both_by es item same = on es same
 
@@ -221,6 +223,7 @@ module _ (line : ScriptLine) (lines : List ScriptLine) (p : ℕ × ℕ) where
   op_by_item es (items.Snapshot name indices) h on = op_asked es h on
   op_by_item es (items.Restore name place) h on = op_asked es h on
   op_by_item es items.List h on = op_asked es h on
+  op_by_item es items.Check h on = op_asked es h on
   op_by_item es items.Verify h on = op_asked es h on
   op_by_item es item h on = op_skip es (on es h)
 
@@ -263,6 +266,7 @@ module _ (line : ScriptLine) (lines : List ScriptLine) (first : (later : ScriptL
   one_by_item es (items.Snapshot name indices) a b on = one_asked es a b on
   one_by_item es (items.Restore name place) a b on = one_asked es a b on
   one_by_item es items.List a b on = one_asked es a b on
+  one_by_item es items.Check a b on = one_asked es a b on
   one_by_item es items.Verify a b on = one_asked es a b on
   one_by_item es item a b on = on es a b
 
@@ -282,5 +286,6 @@ restore_item moment (items.Restore n l) name place e = same (heads (AskStep (Res
     same : AskStep (Restore n l) ≡ AskStep (Restore name place) → items.Restore n l ≡ items.Restore name place
     same x = cc
 restore_item moment items.List name place e = absurd (other_command name place LookStep (λ a b x. cc) e)
+restore_item moment items.Check name place e = absurd (other_command name place LookStep (λ a b x. cc) e)
 restore_item moment items.Verify name place e = absurd (other_command name place (ReadStep DrawTest) (λ a b x. cc) e)
 restore_item moment item name place e = absurd (nothing_first (AskStep (Restore name place)) [] e)

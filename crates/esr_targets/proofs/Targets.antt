@@ -77,6 +77,8 @@ module _ (laws : ReaderLaws) (shelf_laws : ShelfLaws) (s : Start) (t : Tracked s
             shard_is = of.shard_is ∙ q_number;
             address = record { place_is = of.of.place ∙ ap (λ (q : Reader). q.place) reader_same ∙ of_line.place_is; index_is = of.of.index ∙ q_name; number_is = of.of.number ∙ q_number };
             told = of.told;
+            none_begun = of.none_begun;
+            none_failed = of.none_failed;
             counts = λ held files tells. let restored = of.restored held files tells in record { files_is = restored.count_is; bytes_is = restored.bytes_is };
             shelf = λ held shelf files h.
                 on_shelf_as laws shelf_laws s t l log legal moment lines a shelf h e.before x.back x.m x.is e.ticket x.q x.reading op held e.files e.bytes

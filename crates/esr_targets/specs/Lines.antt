@@ -35,6 +35,7 @@ abbrev pub ops_at : ScriptLine → List Entry → (List Entry → List (ℕ × �
 ops_at line es more (items.Snapshot name indices) = ops_by line.number es more
 ops_at line es more (items.Restore name place) = ops_by line.number es more
 ops_at line es more items.List = ops_by line.number es more
+ops_at line es more items.Check = ops_by line.number es more
 ops_at line es more items.Verify = ops_by line.number es more
 ops_at line es more item = more es
 

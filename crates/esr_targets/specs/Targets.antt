@@ -1,6 +1,6 @@
 -- What the targets of a run are: of each shard that a line restored exactly one, with the files that the snapshot had on the
 -- shelf when the line was asked.
-use Rattle.std.specs.Prelude.{◌≡◌, ℕ, ◌-◌, ◌^◌, true, List, [], ◌∷◌, length, min, sum_by, Some, IsSome}
+use Rattle.std.specs.Prelude.{◌≡◌, ℕ, ◌-◌, ◌^◌, true, List, [], ◌∷◌, length, min, sum_by, Some, None, IsSome}
 use Rattle.esr_model.specs.Values.{Bytes, Has, IndexRef}
 use Rattle.esr_model.specs.Shelf.{Shelved, ShelfShard, shelf_after}
 use Rattle.esr_model.specs.Places.{places, sorted_by}
@@ -58,13 +58,16 @@ pub record AreCounts (held : List (Bytes × Bytes)) (files bytes : ℕ) : Type 0
   pub bytes_is : bytes ≡ min (sum_by (λ (file : Bytes × Bytes). length file.1) held) (2 ^ 64 - 1)
 
 -- The target is that of this shard of the line, which was restored with so many files of so many bytes. Where it tells its
--- files, and the container tells too, the counts are theirs, and they are the shard's on the shelf when the line was asked.
+-- files, and the container tells too, the counts are theirs, and they are the shard's on the shelf when the line was asked. No file
+-- is begun in it, and no call of it has failed.
 pub record IsTargetOfShard {T : Type 0} (c : Telling T) (s : Start) (moment : ℕ) (lines : List ScriptLine) (log : List Moment) (a : AcceptedLine moment lines log) (p : IndexRef × ℕ) (files bytes : ℕ) (t : Restored T) : Type 0 where
   pub line_is : t.line ≡ a.line.number
   pub index_is : t.index ≡ p.0.name
   pub shard_is : t.shard ≡ p.1
   pub address : IsMadeFor (c.made_for t.target) a.place p.0.name p.1
   pub told : c.are_told ≡ true → IsSome (c.files t.target)
+  pub none_begun : c.begun t.target ≡ None
+  pub none_failed : c.faults t.target ≡ 0
   pub counts : (held : List (Bytes × Bytes)) → c.files t.target ≡ Some held → s.tells ≡ true → AreCounts held files bytes
   pub shelf : (held : List (Bytes × Bytes)) (shelf : List Shelved) → c.files t.target ≡ Some held → HasShelf s log shelf → IsOnShelfAs (shelf_at s shelf a.at.before) a.name a.uuid p.0.name p.1 held
 

@@ -84,7 +84,7 @@ fn asks(line: &ScriptLine) -> bool
         Item::Failover => false,
         Item::Wait => false,
         Item::List => true,
-        Item::Check => false,
+        Item::Check => true,
         Item::Verify => true,
     }
 }

@@ -55,7 +55,7 @@ a command that is not there yet touches nothing
 > snapshot s1 logs/1/src
 > wait
 > list
-$ check
+$ cleanup
 bad line 1
 exit 2
 ? record=none

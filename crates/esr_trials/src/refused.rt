@@ -21,6 +21,7 @@ verb what A logs/0/src
 count snapshot
 count wait now
 count list s1
+count check s1
 count restore A
 name snapshot _s
 name snapshot S1 logs/1/src
@@ -41,8 +42,7 @@ later clone s1 c1
 later clone s1 c1 logs
 later delete s1
 later cleanup
-later failover
-later check";
+later failover";
 
 /// Words that ask for nothing; the first line has none.
 const WORDS: &str = "
@@ -56,6 +56,7 @@ what
 wait
 run x
 list x
+check x
 generate
 generate 1
 generate x
@@ -79,8 +80,7 @@ failover";
 const LATER: &str = "clone s1 c1
 clone s1 c1 logs
 delete s1
-cleanup
-check";
+cleanup";
 
 /// Lets the first call of each kind of the container fail, so that its count of faults tells whether it was called.
 const WATCHED: &str = "! container begin 1 new
@@ -154,7 +154,11 @@ fn the_first_bad_line_decides(rt: HostRuntime) -> Result<(), Fail> {
             "> \r\n> \r\n> snapshot\n| what \u{1}",
             "bad line 3",
         ),
-        ("two of later", "> wait\n> cleanup\n> check", "bad line 2"),
+        (
+            "two of later",
+            "> wait\n> cleanup\n> failover",
+            "bad line 2",
+        ),
     ];
     for (title, script, printed) in rows {
         refused(&rt, rt.alloc(), title, script, "run", printed)?;

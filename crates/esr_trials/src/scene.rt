@@ -7,16 +7,16 @@
 //!   its exit status. The next run has a script of its own;
 //! - `? WHAT=TEXT`, what the container holds: its `record`, the text of a `blob NAME`, its `bytes NAME`, whether it is
 //!   `there NAME`, the number of all `blobs`, or that of its `faults`;
-//! - `! put NAME=TEXT` or `! record TEXT`, which changes the container, or `! cut TEXT`, a crash just before the swap that
-//!   brought that record;
+//! - `! put NAME=TEXT`, `! remove NAME`, `! shorten NAME` (by its last byte) or `! record TEXT`, which changes the container, or
+//!   `! cut TEXT`, a crash just before the swap that brought that record;
 //! - `! container CALL NTH LEAVES`, a call of the container that fails, and the `old` state or the `new` one that it leaves;
 //! - `! source-CALL NTH`, `! reader NTH`, `! output NTH`, a call of the source `src`, a read of the script or a write of the
 //!   output that fails, and `! room BYTES`, what the output takes;
 //! - each other line is one that is shown.
 use crate::setting::{Mishaps, calm, run_shown};
-use esr_depot::{CallError, Counted, Depot, Fetch, Stage};
+use esr_depot::{CallError, Counted, Depot, Fetch, Names, Stage};
 use esr_memdepot::{Call, Failing, Leaves, MemDepot, Plan};
-use esr_seq::{Bytes, Seq};
+use esr_seq::{Bytes, Seq, Text};
 use esr_source::{Call as SourceCall, Failing as SourceFailing};
 use std::alloc::{AllocError, Global};
 use std::process::Abort;
@@ -27,7 +27,7 @@ use std::test::Fail;
 const MOMENTS: u64 = 100;
 
 /// The calls of a container, by their names.
-static CALLS: [(&str, Call); 10] = [
+static CALLS: [(&str, Call); 16] = [
     ("begin", Call::Begin),
     ("commit", Call::Commit),
     ("replace", Call::Replace),
@@ -38,6 +38,12 @@ static CALLS: [(&str, Call); 10] = [
     ("swap-record", Call::SwapRecord),
     ("write-of-stage-1", Call::StageWrite { begin: 1 }),
     ("read-of-fetch-1", Call::FetchRead { fetch: 1 }),
+    ("read-of-fetch-2", Call::FetchRead { fetch: 2 }),
+    ("read-of-fetch-3", Call::FetchRead { fetch: 3 }),
+    ("read-of-fetch-4", Call::FetchRead { fetch: 4 }),
+    ("read-of-fetch-5", Call::FetchRead { fetch: 5 }),
+    ("read-of-fetch-6", Call::FetchRead { fetch: 6 }),
+    ("read-of-fetch-7", Call::FetchRead { fetch: 7 }),
 ];
 
 /// What a scenario has come to: the script so far, what fails, what was shown, and what is wanted.
@@ -176,7 +182,7 @@ fn set(
     let (what, value) = line.split_once(' ').unwrap_or((line, ""));
     match what {
         "cut" => return cut_before(alloc, &depot, value),
-        "put" => put(alloc, &mut depot, value)?,
+        "put" | "remove" | "shorten" => change(alloc, &mut depot, what, value)?,
         "record" => depot.swap_record(alloc, value.as_bytes())?,
         "container" => {}
         _ => set_mishap(mishaps, what, value.parse()?)?,
@@ -201,12 +207,38 @@ fn source_failing(call: SourceCall, nth: u64) -> SourceFailing {
     SourceFailing { call, nth }
 }
 
-/// Puts a blob, from its name and its text.
-fn put(alloc: Global, depot: &mut MemDepot, blob: &str) -> Result<(), CallError> {
+/// Changes a blob: what is done with it, and its name, with its text where it is put.
+fn change(alloc: Global, depot: &mut MemDepot, what: &str, blob: &str) -> Result<(), Fail> {
     let (name, text) = blob.split_once('=').unwrap_or((blob, ""));
-    let mut stage = depot.begin(alloc, name, text.len())?;
-    stage.write(text.as_bytes())?;
+    match what {
+        "remove" => Ok(remove(alloc, depot, name)?),
+        "shorten" => shorten(alloc, depot, name),
+        _ => Ok(put(alloc, depot, name, text.as_bytes())?),
+    }
+}
+
+/// Puts a blob of these bytes.
+fn put(alloc: Global, depot: &mut MemDepot, name: &str, bytes: &[u8]) -> Result<(), CallError> {
+    let mut stage = depot.begin(alloc, name, bytes.len())?;
+    stage.write(bytes)?;
     depot.replace(alloc, stage)
+}
+
+/// Takes a blob away.
+fn remove(alloc: Global, depot: &mut MemDepot, name: &str) -> Result<(), CallError> {
+    let mut names = Names::new(alloc);
+    names.push(Text::from_str(alloc, name)?)?;
+    depot.remove(&names)?;
+    Ok(())
+}
+
+/// Takes the last byte of a blob away.
+fn shorten(alloc: Global, depot: &mut MemDepot, name: &str) -> Result<(), Fail> {
+    let bytes = blob_of(alloc, depot, name)?.unwrap_or(Bytes::new(alloc));
+    let [front @ .., _] = bytes.as_slice() else {
+        return Err(Fail::new("a scenario shortens what has no byte"));
+    };
+    Ok(put(alloc, depot, name, front)?)
 }
 
 /// Whether the record has that text.

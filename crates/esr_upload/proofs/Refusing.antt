@@ -29,7 +29,8 @@ use Rattle.esr_desk.specs.Outcome.{Waited, Stepped}
 use Rattle.esr_desk.specs.Last.{IsLast}
 use Rattle.esr_desk.specs.Halts.{Halts}
 use Rattle.esr_desk.specs.Damage.{IsBase, IsBad, WasMissing, BaseFault}
-use Rattle.esr_desk.specs.Shown.{Counts, Matters, HadFault, HadRefusal, IsOf, IsUntold, FaultyShard, DepotShown, SourceShown, ReadShown, StepShown, IsShown}
+use Rattle.esr_desk.specs.Unquiet.{unquiet_last}
+use Rattle.esr_desk.specs.Shown.{Counts, Matters, NeverFailed, HadFault, HadRefusal, IsOf, IsUntold, FaultyShard, DepotShown, SourceShown, ReadShown, StepShown, IsShown}
 use Rattle.esr_upload.specs.declared.cause.Cause.{Cause}
 use Rattle.esr_upload.specs.declared.trouble.Trouble.{Trouble}
 use Rattle.esr_upload.specs.declared.trouble.Trouble.TheVariants as troubles
@@ -147,7 +148,7 @@ module _ {S F H T : Type 0} (c : Counts S F H T) (s : Start) (old new : List Mom
   depot_on (shows.Object (objects.Fetch fetch)) h = h
   depot_on (shows.Object (objects.Shard shard)) h = h
   depot_on (shows.Object (objects.Target target)) h = h
-  depot_on shows.Entry h = had_on s old new who waited h
+  depot_on shows.Entry h = (had_on s old new who waited h.0, h.1)
   depot_on shows.Nothing h = h
 
   damage_on : (b : By S F H T) (name : BlobName) → ReadShown b (IsBase (ticket_of s old who) name × BaseFault s old who name) → ReadShown b (IsBase (ticket_of s new who) name × BaseFault s new who name)
@@ -199,45 +200,48 @@ module _ {S F H T : Type 0} (c : Counts S F H T) (files : Option (List (Bytes ×
   abbrev pub Caused : Cause S F H T → Type 0
   Caused cause = IsShown c s log who (why_of cause.why) cause.by × IsChangeOfUntold files cause.why
 
-  refused_shows : (index number : ℕ) (refusal : StepRefusal) (cause : Cause S F H T) → (ticket_of s log who).work ≡ Shard index number → IsWorkRefusal s log who refusal → cause_refused {S = S} {F = F} {H = H} {T = T} refusal ≡ Ok cause → Caused cause
-  refused_shows index number steps.Memory cause work was is = cc
-  refused_shows index number steps.TurnsSpent cause work was is = cc
-  refused_shows index number (steps.Refused refusals.DepotFault) cause work was is =
+  refused_shows : (index number : ℕ) (refusal : StepRefusal) (cause : Cause S F H T) → (s.quiet ≡ true → NeverFailed log) → (ticket_of s log who).work ≡ Shard index number → IsWorkRefusal s log who refusal → cause_refused {S = S} {F = F} {H = H} {T = T} refusal ≡ Ok cause → Caused cause
+  refused_shows index number steps.Memory cause never work was is = cc
+  refused_shows index number steps.TurnsSpent cause never work was is = cc
+  refused_shows index number (steps.Refused refusals.DepotFault) cause never work was is =
       let entry : Cause S F H T = record { why = whys.Depot; by = shows.Entry } in
       let same : entry ≡ cause = cc in
       subst Caused same (
-        record {
-          front = was.0.0.1.front;
-          moment = record { entry = record { who = who; step = was.0.0.0; reply = Refused DepotFault }; image = was.0.0.1.image };
-          back = [];
-          is = was.0.0.1.is;
-          of = refl;
-          reply = refl;
-          matters = subst (λ (w : Work). Matters w was.0.0.0) (sym work) tt;
-        },
+        (
+          record {
+            front = was.0.0.1.front;
+            moment = record { entry = record { who = who; step = was.0.0.0; reply = Refused DepotFault }; image = was.0.0.1.image };
+            back = [];
+            is = was.0.0.1.is;
+            of = refl;
+            reply = refl;
+            matters = subst (λ (w : Work). Matters w was.0.0.0) (sym work) tt;
+          },
+          unquiet_last s.quiet log who was.0.0.0 never was.0.0.1,
+        ),
         tt,
       )
-  refused_shows index number (steps.Refused (refusals.CleanupRunning op)) cause work was is = cc
-  refused_shows index number (steps.Refused (refusals.NameInUse uuid)) cause work was is = cc
-  refused_shows index number (steps.Refused (refusals.TooMany limit)) cause work was is = cc
-  refused_shows index number (steps.Refused (refusals.Deposed entry)) cause work was is = cc
-  refused_shows index number (steps.Refused (refusals.Aborted by)) cause work was is = cc
-  refused_shows index number (steps.Refused (refusals.StaleTerm own now)) cause work was is = cc
-  refused_shows index number (steps.Refused (refusals.GenerationsSpent spent)) cause work was is = cc
-  refused_shows index number (steps.Refused (refusals.TermsSpent spent)) cause work was is = cc
-  refused_shows index number (steps.Refused (refusals.IdsSpent next)) cause work was is =
+  refused_shows index number (steps.Refused (refusals.CleanupRunning op)) cause never work was is = cc
+  refused_shows index number (steps.Refused (refusals.NameInUse uuid)) cause never work was is = cc
+  refused_shows index number (steps.Refused (refusals.TooMany limit)) cause never work was is = cc
+  refused_shows index number (steps.Refused (refusals.Deposed entry)) cause never work was is = cc
+  refused_shows index number (steps.Refused (refusals.Aborted by)) cause never work was is = cc
+  refused_shows index number (steps.Refused (refusals.StaleTerm own now)) cause never work was is = cc
+  refused_shows index number (steps.Refused (refusals.GenerationsSpent spent)) cause never work was is = cc
+  refused_shows index number (steps.Refused (refusals.TermsSpent spent)) cause never work was is = cc
+  refused_shows index number (steps.Refused (refusals.IdsSpent next)) cause never work was is =
       let spent : Cause S F H T = record { why = whys.IdsSpent next; by = shows.Entry } in
       let same : spent ≡ cause = cc in subst Caused same (had_last log who was.0.0.0 (IdsSpent next.number) was.0.0.1, tt)
-  refused_shows index number (steps.Refused (refusals.NameTaken name)) cause work was is =
+  refused_shows index number (steps.Refused (refusals.NameTaken name)) cause never work was is =
       let taken : Cause S F H T = record { why = whys.NameTaken name; by = shows.Entry } in
       let same : taken ≡ cause = cc in subst Caused same (had_last log who was.0.0.0 (NameTaken (name_of name)) was.0.0.1, tt)
-  refused_shows index number (steps.Refused (refusals.NoSnapshot at)) cause work was is = cc
-  refused_shows index number (steps.Refused (refusals.BeingDeleted op)) cause work was is = cc
-  refused_shows index number (steps.Refused (refusals.NoIndex place)) cause work was is = cc
-  refused_shows index number (steps.Refused (refusals.CloneRunning op)) cause work was is = cc
-  refused_shows index number (steps.Refused (refusals.RestoreRunning op)) cause work was is = cc
-  refused_shows index number (steps.Refused (refusals.BusyOp op)) cause work was is = cc
-  refused_shows index number (steps.Refused (refusals.BusyTicket ticket)) cause work was is = cc
+  refused_shows index number (steps.Refused (refusals.NoSnapshot at)) cause never work was is = cc
+  refused_shows index number (steps.Refused (refusals.BeingDeleted op)) cause never work was is = cc
+  refused_shows index number (steps.Refused (refusals.NoIndex place)) cause never work was is = cc
+  refused_shows index number (steps.Refused (refusals.CloneRunning op)) cause never work was is = cc
+  refused_shows index number (steps.Refused (refusals.RestoreRunning op)) cause never work was is = cc
+  refused_shows index number (steps.Refused (refusals.BusyOp op)) cause never work was is = cc
+  refused_shows index number (steps.Refused (refusals.BusyTicket ticket)) cause never work was is = cc
 
   -- the fault of the base, under its name
   base_shows : (at : ShardId) (base : Option Id) (cause : Cause S F H T) → (ticket_of s log who).work ≡ Shard at.index.number at.number → (ticket_of s log who).base ≡ option_map number_of base → BadBase s log who
@@ -266,23 +270,23 @@ module _ {S F H T : Type 0} (c : Counts S F H T) (files : Option (List (Bytes ×
     ],
   )
 
-  caused : (at : ShardId) (base : Option Id) (shard : H) (trouble : Trouble S F) (cause : Cause S F H T) → (ticket_of s log who).work ≡ Shard at.index.number at.number → (ticket_of s log who).base ≡ option_map number_of base
+  caused : (at : ShardId) (base : Option Id) (shard : H) (trouble : Trouble S F) (cause : Cause S F H T) → (s.quiet ≡ true → NeverFailed log) → (ticket_of s log who).work ≡ Shard at.index.number at.number → (ticket_of s log who).base ≡ option_map number_of base
       → IsOf (ticket_of s log who) (c.made_for shard) → (s.steady (c.made_for shard).place (c.made_for shard).index (c.made_for shard).number ≡ true → c.shard shard ≡ 0)
       → Shown c.stage c.fetch (c.shard shard) files s log who trouble → IsChangeUntold s (ticket_of s log who) trouble → cause_by {S = S} {F = F} {H = H} {T = T} at base shard trouble ≡ Ok cause → Caused cause
-  caused at base shard (troubles.Step refusal) cause work base_is of quiet shown untold is = refused_shows at.index.number at.number refusal cause work shown is
-  caused at base shard troubles.Source cause work base_is of quiet shown untold is =
+  caused at base shard (troubles.Step refusal) cause never work base_is of quiet shown untold is = refused_shows at.index.number at.number refusal cause never work shown is
+  caused at base shard troubles.Source cause never work base_is of quiet shown untold is =
       let made : Cause S F H T = record { why = whys.Source; by = shows.Object (objects.Shard shard) } in
       let same : made ≡ cause = cc in subst Caused same ((shard_faulty shard shown quiet, of), tt)
-  caused at base shard (troubles.Stage stage) cause work base_is of quiet shown untold is =
+  caused at base shard (troubles.Stage stage) cause never work base_is of quiet shown untold is =
       let made : Cause S F H T = record { why = whys.Depot; by = shows.Object (objects.Stage stage) } in
       let same : made ≡ cause = cc in subst Caused same (shown, tt)
-  caused at base shard (troubles.Fetch fetch) cause work base_is of quiet shown untold is =
+  caused at base shard (troubles.Fetch fetch) cause never work base_is of quiet shown untold is =
       let made : Cause S F H T = record { why = whys.Depot; by = shows.Object (objects.Fetch fetch) } in
       let same : made ≡ cause = cc in subst Caused same (shown, tt)
-  caused at base shard (troubles.Changed first second) cause work base_is of quiet shown untold is =
+  caused at base shard (troubles.Changed first second) cause never work base_is of quiet shown untold is =
       let made : Cause S F H T = record { why = whys.Changed first second; by = shows.Nothing } in
       let same : made ≡ cause = cc in subst Caused same ((two_parts first second shown.0, untold), shown.1)
-  caused at base shard troubles.Base cause work base_is of quiet shown untold is = base_shows at base cause work base_is shown is
+  caused at base shard troubles.Base cause never work base_is of quiet shown untold is = base_shows at base cause work base_is shown is
 
 -- ---- the end
 
@@ -296,13 +300,13 @@ of_on old new address worked of = record {
 
 module _ {S F H T : Type 0} (c : Counts S F H T) (files : Option (List (Bytes × Bytes))) (s : Start) (old mid : List Moment) (who : ℕ) (at : ShardId) (base : Option Id) (shard : H) (trouble : Trouble S F) (cause : Cause S F H T)
     (went : Went s old mid who) (work : (ticket_of s old who).work ≡ Shard at.index.number at.number) (base_is : (ticket_of s old who).base ≡ option_map number_of base) (of : IsOf (ticket_of s old who) (c.made_for shard))
-    (quiet : s.steady (c.made_for shard).place (c.made_for shard).index (c.made_for shard).number ≡ true → c.shard shard ≡ 0) (shown : Shown c.stage c.fetch (c.shard shard) files s mid who trouble) (untold : IsChangeUntold s (ticket_of s mid who) trouble) (is : cause_by {S = S} {F = F} {H = H} {T = T} at base shard trouble ≡ Ok cause) where
+    (quiet : s.steady (c.made_for shard).place (c.made_for shard).index (c.made_for shard).number ≡ true → c.shard shard ≡ 0) (shown : Shown c.stage c.fetch (c.shard shard) files s mid who trouble) (untold : IsChangeUntold s (ticket_of s mid who) trouble) (is : cause_by {S = S} {F = F} {H = H} {T = T} at base shard trouble ≡ Ok cause) (never : s.quiet ≡ true → NeverFailed mid) where
   -- before the report
   pub cause_shown : IsShown c s mid who (why_of cause.why) cause.by × IsChangeOfUntold files cause.why
   cause_shown =
       let work_mid : (ticket_of s mid who).work ≡ Shard at.index.number at.number = ap (λ (t : Ticket). t.work) went.worked.is ∙ work in
       let base_mid : (ticket_of s mid who).base ≡ option_map number_of base = ap (λ (t : Ticket). t.base) went.worked.is ∙ base_is in
-      caused c files s mid who at base shard trouble cause work_mid base_mid (of_on (ticket_of s old who) (ticket_of s mid who) (c.made_for shard) went.worked of) quiet shown untold is
+      caused c files s mid who at base shard trouble cause never work_mid base_mid (of_on (ticket_of s old who) (ticket_of s mid who) (c.made_for shard) went.worked of) quiet shown untold is
 
   -- the ticket has ended as failed
   pub failed_end : (new : List Moment) → Stepped s mid new who (FailedStep (why_of cause.why)) HasEnded → ticket_of s new who ≡ record (ticket_of s mid who) { out = false } → IsUnitRefused c files s old new who (units.Failed cause.why)

@@ -228,6 +228,7 @@ pub fn run_unit<Q: Desk<Shard = S::Shard>, S: Sources, G: Gate>(
         Err(trouble) => match cause_of(*at, base, shard, trouble) {
             Ok(cause) => {
                 let why = cause.why;
+                desk.never_fails();
                 desk.failed(alloc, ticket, why, cause.by)?;
                 Err(UnitRefusal::Failed(why))
             }

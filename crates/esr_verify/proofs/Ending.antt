@@ -1,8 +1,8 @@
 -- How a verification ends that went well.
-use Rattle.std.proofs.Common.{◌≡◌, ℕ, true, List, [], ◌∷◌, ◌++◌, map, Result, Ok, Err, OnOk, sym, ap, ◌∙◌, subst}
+use Rattle.std.proofs.Common.{◌≡◌, ℕ, true, List, [], ◌∷◌, ◌++◌, map, Option, Some, Result, Ok, Err, OnOk, sym, ap, ◌∙◌, subst}
 use Rattle.esr_names.specs.declared.blob.BlobName.{BlobName as CodeName}
 use Rattle.esr_names.specs.IdText.{id_text}
-use Rattle.esr_model.specs.Names.{BlobName}
+use Rattle.esr_model.specs.Names.{BlobName, TestMaster}
 use Rattle.esr_model.specs.Values.{Has}
 use Rattle.esr_core.specs.World.{Caller, no_caller}
 use Rattle.esr_core.specs.Restores.{WasRead}
@@ -29,9 +29,16 @@ use Rattle.esr_verify.proofs.Doing.{is_open}
 pub can_remove : (s : Start) (c : Caller) (id : ℕ) (names : List CodeName) → AreTests id names → HasDone s c id (map name_of names) (map name_of names) → CanRemove c (map name_of names)
 can_remove s c id names tests h = record { few = few_names id names tests; committed = h.committed }
 
-pub can_end : (s : Start) (log : List Moment) (c : Caller) (id : ℕ) (names : List BlobName) → Drew s log id → HasDone s c id names names → caller_of s log ≡ record c { removed = names ++ c.removed } → CanEnd (caller_of s log)
-can_end s log c id names drew h is = record {
+one_id : (a b : ℕ) → ◌≡◌ {A = Option ℕ} (Some a) (Some b) → a ≡ b
+one_id a b e = cc
+
+pub can_end : (s : Start) (log : List Moment) (c : Caller) (id : ℕ) (names : List BlobName) → Drew s log id → HasDone s c id names names → caller_of s log ≡ record c { removed = names ++ c.removed } → Has names (TestMaster id) → CanEnd (caller_of s log)
+can_end s log c id names drew h is master = record {
   drawn = is_open s log id drew;
+  master = λ other drawn.
+      let same : id ≡ other = one_id id other (sym drew.is_open ∙ drawn) in
+      let here : Has (caller_of s log).committed (TestMaster id) = subst (λ (d : Caller). Has d.committed (TestMaster id)) (sym is) (h.committed (TestMaster id) master) in
+      subst (λ (k : ℕ). Has (caller_of s log).committed (TestMaster k)) same here;
   found = subst (λ (d : Caller). (name : BlobName) → Has d.committed name → Has d.found name) (sym is) (λ name has. h.found name (h.only name has));
   removed = subst (λ (d : Caller). (name : BlobName) → Has d.committed name → Has d.removed name) (sym is) (λ name has. has_left names c.removed name (h.only name has));
 }

@@ -1,5 +1,5 @@
 -- How a verification ends that went wrong.
-use Rattle.std.proofs.Common.{◌≡◌, ℕ, true, List, [], Result, Ok, Err, IfOk, inl, inr, refl, sym, ap, ◌∙◌, subst}
+use Rattle.std.proofs.Common.{◌≡◌, ℕ, true, List, [], ◌∷◌, ◌++◌, Result, Ok, Err, IfOk, inl, inr, refl, sym, ap, ◌∙◌, subst}
 use Rattle.esr_core.specs.World.{Caller}
 use Rattle.esr_core.specs.Entry.{Why, OfDepot, OfSource, OfChange, OfDamage, OfTaken, OfIdsSpent, OfGenerationsSpent, OfTarget, OfPrint, OfDisagreement, Step, ReadStep, DrawTest, ReadFails, HasEnded, Refused, DeposedAt, IdsSpent, NameTaken, Moment}
 use Rattle.esr_desk.specs.declared.entry.Why.{Why as CodeWhy}
@@ -17,7 +17,8 @@ use Rattle.esr_desk.specs.declared.unit.UnitRefusal.TheVariants as units
 use Rattle.esr_desk.specs.declared.refusal.EntryRefusal.{EntryRefusal}
 use Rattle.esr_desk.specs.Refusals.{refusal_of, told_refusal}
 use Rattle.esr_desk.specs.Outcome.{Stepped, Refusing, Spends}
-use Rattle.esr_desk.specs.Shown.{ReadShown, StepShown}
+use Rattle.esr_desk.specs.Shown.{NeverFailed, ReadShown, StepShown}
+use Rattle.esr_desk.specs.Unquiet.{unquiet}
 use Rattle.esr_checking.specs.Caller.{caller_of, drawn_by}
 use Rattle.esr_checking.specs.Shown.{Counts, HadReply, HadNoId, DepotShown, IsDamaged, IsMisprinted, IsShown}
 use Rattle.esr_verify.specs.declared.cause.Cause.{Cause}
@@ -52,41 +53,43 @@ module _ {S F H T : Type 0} (c : Counts S F) (s : Start) (log : List Moment) whe
   abbrev IsShownCause : Cause S F H T → Type 0
   IsShownCause cause = IsShown c s log (caller_of s log) (why_of cause.why) cause.by
 
-  refused_shown : (e : StepRefusal) (cause : Cause S F H T) → IsStepRefusal s log e → cause_refused e ≡ Ok cause → IsShownCause cause
-  refused_shown steps.Memory cause h is = absurd cc
-  refused_shown steps.TurnsSpent cause h is = absurd cc
-  refused_shown (steps.Refused refusals.DepotFault) cause h is =
+  refused_shown : (e : StepRefusal) (cause : Cause S F H T) → (s.quiet ≡ true → NeverFailed log) → IsStepRefusal s log e → cause_refused e ≡ Ok cause → IsShownCause cause
+  refused_shown steps.Memory cause never h is = absurd cc
+  refused_shown steps.TurnsSpent cause never h is = absurd cc
+  refused_shown (steps.Refused refusals.DepotFault) cause never h is =
       let same : ◌≡◌ {A = Cause S F H T} (record { why = whys.Depot; by = shows.Entry }) cause = cc in
-      subst IsShownCause same h
-  refused_shown (steps.Refused (refusals.NameTaken name)) cause h is =
+      let was = h.1 in
+      subst IsShownCause same
+      (h, unquiet s.quiet log (was.before ++ was.draw ∷ was.between) was.moment was.back never was.is was.reply_is)
+  refused_shown (steps.Refused (refusals.NameTaken name)) cause never h is =
       let same : ◌≡◌ {A = Cause S F H T} (record { why = whys.NameTaken name; by = shows.Entry }) cause = cc in
       subst IsShownCause same h
-  refused_shown (steps.Refused (refusals.IdsSpent next)) cause h is = absurd h
-  refused_shown (steps.Refused (refusals.CleanupRunning op)) cause h is = absurd cc
-  refused_shown (steps.Refused (refusals.NameInUse uuid)) cause h is = absurd cc
-  refused_shown (steps.Refused (refusals.TooMany limit)) cause h is = absurd cc
-  refused_shown (steps.Refused (refusals.Deposed entry)) cause h is = absurd cc
-  refused_shown (steps.Refused (refusals.Aborted by)) cause h is = absurd cc
-  refused_shown (steps.Refused (refusals.StaleTerm own now)) cause h is = absurd cc
-  refused_shown (steps.Refused (refusals.GenerationsSpent spent)) cause h is = absurd cc
-  refused_shown (steps.Refused (refusals.TermsSpent spent)) cause h is = absurd cc
-  refused_shown (steps.Refused (refusals.NoSnapshot at)) cause h is = absurd cc
-  refused_shown (steps.Refused (refusals.BeingDeleted op)) cause h is = absurd cc
-  refused_shown (steps.Refused (refusals.NoIndex place)) cause h is = absurd cc
-  refused_shown (steps.Refused (refusals.CloneRunning op)) cause h is = absurd cc
-  refused_shown (steps.Refused (refusals.RestoreRunning op)) cause h is = absurd cc
-  refused_shown (steps.Refused (refusals.BusyOp op)) cause h is = absurd cc
-  refused_shown (steps.Refused (refusals.BusyTicket ticket)) cause h is = absurd cc
+  refused_shown (steps.Refused (refusals.IdsSpent next)) cause never h is = absurd h
+  refused_shown (steps.Refused (refusals.CleanupRunning op)) cause never h is = absurd cc
+  refused_shown (steps.Refused (refusals.NameInUse uuid)) cause never h is = absurd cc
+  refused_shown (steps.Refused (refusals.TooMany limit)) cause never h is = absurd cc
+  refused_shown (steps.Refused (refusals.Deposed entry)) cause never h is = absurd cc
+  refused_shown (steps.Refused (refusals.Aborted by)) cause never h is = absurd cc
+  refused_shown (steps.Refused (refusals.StaleTerm own now)) cause never h is = absurd cc
+  refused_shown (steps.Refused (refusals.GenerationsSpent spent)) cause never h is = absurd cc
+  refused_shown (steps.Refused (refusals.TermsSpent spent)) cause never h is = absurd cc
+  refused_shown (steps.Refused (refusals.NoSnapshot at)) cause never h is = absurd cc
+  refused_shown (steps.Refused (refusals.BeingDeleted op)) cause never h is = absurd cc
+  refused_shown (steps.Refused (refusals.NoIndex place)) cause never h is = absurd cc
+  refused_shown (steps.Refused (refusals.CloneRunning op)) cause never h is = absurd cc
+  refused_shown (steps.Refused (refusals.RestoreRunning op)) cause never h is = absurd cc
+  refused_shown (steps.Refused (refusals.BusyOp op)) cause never h is = absurd cc
+  refused_shown (steps.Refused (refusals.BusyTicket ticket)) cause never h is = absurd cc
 
-  pub cause_shown : (trouble : Trouble S F) (cause : Cause S F H T) → Shown c.stage c.fetch s log trouble → cause_by trouble ≡ Ok cause → IsShown c s log (caller_of s log) (why_of cause.why) cause.by
-  cause_shown (troubles.Step e) cause h is = refused_shown e cause h is
-  cause_shown (troubles.Stage stage) cause h is =
+  pub cause_shown : (trouble : Trouble S F) (cause : Cause S F H T) → (s.quiet ≡ true → NeverFailed log) → Shown c.stage c.fetch s log trouble → cause_by trouble ≡ Ok cause → IsShown c s log (caller_of s log) (why_of cause.why) cause.by
+  cause_shown (troubles.Step e) cause never h is = refused_shown e cause never h is
+  cause_shown (troubles.Stage stage) cause never h is =
       let same : ◌≡◌ {A = Cause S F H T} (record { why = whys.Depot; by = shows.Object (objects.Stage stage) }) cause = cc in
       subst IsShownCause same h
-  cause_shown (troubles.Fetch fetch) cause h is =
+  cause_shown (troubles.Fetch fetch) cause never h is =
       let same : ◌≡◌ {A = Cause S F H T} (record { why = whys.Depot; by = shows.Object (objects.Fetch fetch) }) cause = cc in
       subst IsShownCause same h
-  cause_shown (troubles.Found why) cause h is =
+  cause_shown (troubles.Found why) cause never h is =
       let same : ◌≡◌ {A = Cause S F H T} (record { why = why; by = shows.Nothing }) cause = cc in
       subst IsShownCause same (found_shown H T c s log why h)
 
@@ -101,10 +104,10 @@ ok_if {X} (Ok y) x P is h = let same : ◌≡◌ {A = X} y x = cc in subst P sam
 ok_if (Err e) x P is h = absurd cc
 
 -- after the draw
-pub may_fail : (H T : Type 0) {S F : Type 0} (c : Counts S F) (s : Start) (log : List Moment) (id : ℕ) (trouble : Trouble S F) → Drew s log id → Shown c.stage c.fetch s log trouble → IfOk (cause_by {S = S} {F = F} {H = H} {T = T} trouble) (MayFail c s log)
-may_fail H T {S} {F} c s log id trouble drew shown =
+pub may_fail : (H T : Type 0) {S F : Type 0} (c : Counts S F) (s : Start) (log : List Moment) (id : ℕ) (trouble : Trouble S F) → (s.quiet ≡ true → NeverFailed log) → Drew s log id → Shown c.stage c.fetch s log trouble → IfOk (cause_by {S = S} {F = F} {H = H} {T = T} trouble) (MayFail c s log)
+may_fail H T {S} {F} c s log id trouble never drew shown =
     if_ok (cause_by {S = S} {F = F} {H = H} {T = T} trouble) (MayFail c s log)
-    (λ (cause : Cause S F H T) (is : cause_by {S = S} {F = F} {H = H} {T = T} trouble ≡ Ok cause). record { is_open = inl (is_open s log id drew); alive = drew.alive; shown = cause_shown c s log trouble cause shown is })
+    (λ (cause : Cause S F H T) (is : cause_by {S = S} {F = F} {H = H} {T = T} trouble ≡ Ok cause). record { is_open = inl (is_open s log id drew); alive = drew.alive; shown = cause_shown c s log trouble cause never shown is })
 
 -- and by the draw, which is refused as no id is left, or in a deposed world
 draw_other : RefusesSo → (s : Start) (old new : List Moment) (x : EntryRefusal) → Stepped s old new 0 (ReadStep DrawTest) (Refused (refusal_of x)) → ((place : ℕ) → refusal_of x ≡ DeposedAt place → ⊥) → ((next : ℕ) → refusal_of x ≡ IdsSpent next → ⊥) → ⊥

@@ -39,6 +39,10 @@ told_committed : (c : Caller) (name : BlobName) (left : Option Bytes) → (calle
 told_committed c name None = refl
 told_committed c name (Some bytes) = refl
 
+told_found : (c : Caller) (name : BlobName) (left : Option Bytes) → (caller_told c name left).found ≡ name ∷ c.found
+told_found c name None = refl
+told_found c name (Some bytes) = refl
+
 pub fetched_drawn : {F : Type 0} (left : F → Option Bytes) (name : BlobName) (o : Option F) (old new : Caller) → new ≡ fetched_by left name o old → new.drawn ≡ old.drawn
 fetched_drawn left name None old new is = ap (λ (c : Caller). c.drawn) is
 fetched_drawn left name (Some f) old new is = ap (λ (c : Caller). c.drawn) is ∙ told_drawn old name (left f)
@@ -85,6 +89,9 @@ module _ (s : Start) (old new : List Moment) (id : ℕ) (name : BlobName) (bytes
   still_committed : Has (caller_of s new).committed name
   still_committed = subst (λ (l : List BlobName). Has l name) (sym (ap (λ (d : Caller). d.committed) got.own ∙ told_committed (caller_of s old) name (told_bytes s bytes))) was
 
+  was_there : Has (caller_of s new).found name
+  was_there = subst (λ (l : List BlobName). Has l name) (sym (ap (λ (d : Caller). d.found) got.own ∙ told_found (caller_of s old) name (told_bytes s bytes))) (inl refl)
+
   read_so : s.tells ≡ true → WasRead (caller_of s new).read name bytes
   read_so tells = subst (λ (d : Caller). WasRead d.read name bytes) (sym got.own) (was_read s.tells (caller_of s old) name bytes tells)
 
@@ -94,6 +101,7 @@ module _ (s : Start) (old new : List Moment) (id : ℕ) (name : BlobName) (bytes
     id = id;
     drawn = drew.is_open;
     committed = still_committed;
+    there = was_there;
     bytes = bytes;
     read = read_so;
     stated_len_is = refl;
@@ -105,11 +113,12 @@ module _ (s : Start) (old new : List Moment) (id : ℕ) (name : BlobName) (bytes
 
   pub other : (bytes ≡ id_text id → ⊥) → (2 ^ 61 ≤ length bytes) ⊎ (print_of (id_text id) ≡ print_of bytes) → IsOther s (caller_of s new) name
   unfolding formats
-  other differ (inl many) = record { id = id; drawn = drew.is_open; committed = still_committed; bytes = bytes; read = read_so; differ = differ; unprinted = inl many }
+  other differ (inl many) = record { id = id; drawn = drew.is_open; committed = still_committed; there = was_there; bytes = bytes; read = read_so; differ = differ; unprinted = inl many }
   other differ (inr same) = record {
     id = id;
     drawn = drew.is_open;
     committed = still_committed;
+    there = was_there;
     bytes = bytes;
     read = read_so;
     differ = differ;

@@ -129,6 +129,10 @@ are_tests id n names few is = record {
       omega (arith, count, nodes, same, few);
 }
 
+-- the master's is among them
+pub has_master : (id n : ℕ) (names : List CodeName) → map name_of names ≡ test_names id n → Has (map name_of names) (TestMaster id)
+has_master id n names is = subst (λ (l : List BlobName). Has l (TestMaster id)) (sym is) (inl refl)
+
 -- no more than one removal takes, also as the definitions see them
 pub few_names : (id : ℕ) (names : List CodeName) → AreTests id names → length (map name_of names) ≤ 1000
 few_names id names tests = let same : length (map name_of names) ≡ length names = map_count names in let few = tests.few in omega (arith, same, few)

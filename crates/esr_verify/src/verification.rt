@@ -1,5 +1,7 @@
 //! The verification of a container.
 ghost use Rattle.std.specs.Prelude.{◌≡◌, ◌<◌, ◌≤◌, [], ◌++◌, map, true, IfErr, IfOk, OnErr, OnOk};
+ghost use Rattle.esr_model.specs.Names.{TestMaster};
+ghost use Rattle.esr_model.specs.Values.{Has};
 ghost use Rattle.esr_formats.specs.Names.{name_of};
 ghost use Rattle.esr_desk.specs.Grew.{GrewBy};
 ghost use Rattle.esr_checking.specs.Caller.{caller_of};
@@ -37,6 +39,7 @@ fn finish<Q: VerifyDesk>(
 ) -> Result<(), StepRefusal>
     requires alone { Q.start.alone ≡ true }
     requires tests { AreTests id.number names.now }
+    requires master { Has (map name_of names.now) (TestMaster id.number) }
     requires drew { Drew Q.start (Q.seen desk.old) id.number }
     requires done { HasDone Q.start (caller_of Q.start (Q.seen desk.old)) id.number (map name_of names.now) (map name_of names.now) }
     ensures ended { OnOk result (Ended Q.start (Q.seen desk.old) (Q.seen desk.new) id.number (map name_of names.now) (ending (map name_of names.now))) }
@@ -122,6 +125,9 @@ pub fn verify<Q: VerifyDesk>(alloc: Global, desk: &mut Q, workers: u32) -> Resul
     };
     match run(alloc, desk, id, workers) {
         Ok(()) => Ok(()),
-        Err(trouble) => Err(fail(alloc, desk, trouble)),
+        Err(trouble) => {
+            desk.never_fails();
+            Err(fail(alloc, desk, trouble))
+        }
     }
 }

@@ -8,15 +8,15 @@ pub returns-in-Ok-clause-over : goal.returns-in-Ok-clause-over
 returns-in-Ok-clause-over g c = λ alone.
     let ready = c.args.unit.ready in
     filled_over c.laws.ensures g.Q.Desk.start c.requires.tracked c.requires.ops ready (g.Q.Desk.seen c.args.desk.now) (g.Q.Desk.seen c.run_unit.new.desk) c.requires.legal (is_some ready.ticket c.requires.some) c.requires.fresh alone c.run_unit.ensures.grew
-    (record { made_for = g.Q.Target.Target.made_for; files = g.Q.Target.Target.files; is_sure = g.Q.Target.Target.is_sure; are_told = g.T.Targets.is_told c.args.targets.now; are_quiet = g.T.Targets.is_quiet c.args.targets.now })
+    (record { made_for = g.Q.Target.Target.made_for; files = g.Q.Target.Target.files; is_sure = g.Q.Target.Target.is_sure; begun = g.Q.Target.Target.begun; faults = g.Q.Target.Counted.faults; are_told = g.T.Targets.is_told c.args.targets.now; are_quiet = g.T.Targets.is_quiet c.args.targets.now })
     c.in-Ok.target c.in-Ok.ensures.ok
 
 pub returns-in-Ok-clause-restored : goal.returns-in-Ok-clause-restored
 returns-in-Ok-clause-restored g c = λ alone.
     let ready = c.args.unit.ready in
     filled_target c.laws.ensures g.Q.Desk.start c.requires.tracked c.requires.ops ready (g.Q.Desk.seen c.args.desk.now) (g.Q.Desk.seen c.run_unit.new.desk) c.requires.legal (is_some ready.ticket c.requires.some) c.requires.fresh alone c.run_unit.ensures.grew
-    (record { made_for = g.Q.Target.Target.made_for; files = g.Q.Target.Target.files; is_sure = g.Q.Target.Target.is_sure; are_told = g.T.Targets.is_told c.args.targets.now; are_quiet = g.T.Targets.is_quiet c.args.targets.now })
-    c.in-Ok.target c.in-Ok.ensures.ok c.filled.result c.filled.ensures c.in-Ok.ensures.told c.in-Ok.ensures.count
+    (record { made_for = g.Q.Target.Target.made_for; files = g.Q.Target.Target.files; is_sure = g.Q.Target.Target.is_sure; begun = g.Q.Target.Target.begun; faults = g.Q.Target.Counted.faults; are_told = g.T.Targets.is_told c.args.targets.now; are_quiet = g.T.Targets.is_quiet c.args.targets.now })
+    c.in-Ok.target c.in-Ok.ensures.ok c.filled.result c.filled.ensures c.in-Ok.ensures.told c.in-Ok.ensures.count c.in-Ok.ensures.begun c.in-Ok.ensures.steady
 
 pub returns-in-Err-Failed-clause-over : goal.returns-in-Err-Failed-clause-over
 returns-in-Err-Failed-clause-over g c = λ alone.
@@ -31,7 +31,7 @@ returns-in-Err-Failed-clause-restored g c = λ alone.
     let old = g.Q.Desk.seen c.args.desk.now in
     let new = g.Q.Desk.seen c.run_unit.new.desk in
     no_targets
-    (record { made_for = g.Q.Target.Target.made_for; files = g.Q.Target.Target.files; is_sure = g.Q.Target.Target.is_sure; are_told = g.T.Targets.is_told c.args.targets.now; are_quiet = g.T.Targets.is_quiet c.args.targets.now }) s old new
+    (record { made_for = g.Q.Target.Target.made_for; files = g.Q.Target.Target.files; is_sure = g.Q.Target.Target.is_sure; begun = g.Q.Target.Target.begun; faults = g.Q.Target.Counted.faults; are_told = g.T.Targets.is_told c.args.targets.now; are_quiet = g.T.Targets.is_quiet c.args.targets.now }) s old new
     (failed_none c.laws.ensures s c.requires.tracked c.requires.ops ready old new c.requires.legal (is_some ready.ticket c.requires.some) c.requires.fresh alone c.run_unit.ensures.grew
     (record { fetch = g.Q.Fetch.Counted.faults; target = g.Q.Target.Counted.faults; made_for = g.Q.Target.Target.made_for }) c.in-Err-Failed.field-0 c.in-Err-Failed.ensures.refused c.in-Err-Failed.field-0-0 c.in-Err-Failed.field-0-is).0
 
@@ -42,7 +42,7 @@ returns-clause-restored g c = λ alone.
     let old = g.Q.Desk.seen c.args.desk.now in
     let new = g.Q.Desk.seen c.run_unit.new.desk in
     no_targets
-    (record { made_for = g.Q.Target.Target.made_for; files = g.Q.Target.Target.files; is_sure = g.Q.Target.Target.is_sure; are_told = g.T.Targets.is_told c.args.targets.now; are_quiet = g.T.Targets.is_quiet c.args.targets.now }) s old new
+    (record { made_for = g.Q.Target.Target.made_for; files = g.Q.Target.Target.files; is_sure = g.Q.Target.Target.is_sure; begun = g.Q.Target.Target.begun; faults = g.Q.Target.Counted.faults; are_told = g.T.Targets.is_told c.args.targets.now; are_quiet = g.T.Targets.is_quiet c.args.targets.now }) s old new
     (stopped_none c.laws.ensures s c.requires.tracked c.requires.ops ready old new c.requires.legal (is_some ready.ticket c.requires.some) c.requires.fresh alone c.run_unit.ensures.grew
     (record { fetch = g.Q.Fetch.Counted.faults; target = g.Q.Target.Counted.faults; made_for = g.Q.Target.Target.made_for }) c.in-Err-Stopped.field-0 c.in-Err-Stopped.ensures.refused c.in-Err-Stopped.stop c.in-Err-Stopped.field-0-is)
 

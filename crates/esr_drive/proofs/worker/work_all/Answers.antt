@@ -1,4 +1,4 @@
-use Rattle.std.proofs.Common.{◌≡◌, ◌+◌, ◌≤◌, [], ◌++◌, length, arith}
+use Rattle.std.proofs.Common.{◌≡◌, ◌+◌, ◌≤◌, [], ◌++◌, length, refl, arith}
 use Rattle.esr_core.specs.Entry.{TakeStep, NothingReady, Gave}
 use Rattle.esr_progress.specs.Units.{given_of}
 use Rattle.esr_desk.specs.Outcome.{take_reply}
@@ -12,17 +12,19 @@ use Rattle.esr_drive.proofs.Resting.{given_least, given_some, nothing_rest, unit
 use Rattle.esr_drive.proofs.Targets.{targets_none, targets_on, targets_stay, targets_taken, targets_refused, targets_as, items_on}
 use Rattle.esr_drive.proofs.Rounds.{round_longer}
 use Rattle.esr_drive.proofs.Works.{works_none, works_on, works_by, works_took, works_refused}
+use Rattle.esr_drive.specs.Takes.{idle_takes, stepped_takes, refused_takes, round_takes}
 use Rattle.esr_drive.proofs.worker.work_all.Goals as goal
 
 pub loop-round-init : goal.loop-round-init
 loop-round-init g c =
-    let telling : Telling g.row.T-Target.Denot = record { made_for = g.T.Target.Target.made_for; files = g.T.Target.Target.files; is_sure = g.T.Target.Target.is_sure; are_told = g.T.Targets.is_told c.args.targets.now; are_quiet = g.T.Targets.is_quiet c.args.targets.now } in
+    let telling : Telling g.row.T-Target.Denot = record { made_for = g.T.Target.Target.made_for; files = g.T.Target.Target.files; is_sure = g.T.Target.Target.is_sure; begun = g.T.Target.Target.begun; faults = g.T.Target.Counted.faults; are_told = g.T.Targets.is_told c.args.targets.now; are_quiet = g.T.Targets.is_quiet c.args.targets.now } in
     record {
       grew = asking_none g.Q.Desk.start (g.Q.Desk.seen c.args.desk.now);
       rest = λ alone rest. rest;
       readers = λ alone rest. rest;
       restored = λ alone. targets_as telling g.Q.Desk.start (g.Q.Desk.seen c.args.desk.now) (g.Q.Desk.seen c.args.desk.now) [] c.args.restored.now.items c.requires.none (targets_none telling g.Q.Desk.start (g.Q.Desk.seen c.args.desk.now));
       only = λ alone. works_none (g.Q.Desk.seen c.args.desk.now);
+      takes = λ alone. refl;
       rounds = omega arith;
     }
 
@@ -31,7 +33,7 @@ returns-then-is_err-clause-grew g c = c.loop-round.invariant.grew
 
 pub returns-then-is_err-clause-restored : goal.returns-then-is_err-clause-restored
 returns-then-is_err-clause-restored g c = λ alone.
-    let telling : Telling g.row.T-Target.Denot = record { made_for = g.T.Target.Target.made_for; files = g.T.Target.Target.files; is_sure = g.T.Target.Target.is_sure; are_told = g.T.Targets.is_told c.args.targets.now; are_quiet = g.T.Targets.is_quiet c.args.targets.now } in
+    let telling : Telling g.row.T-Target.Denot = record { made_for = g.T.Target.Target.made_for; files = g.T.Target.Target.files; is_sure = g.T.Target.Target.is_sure; begun = g.T.Target.Target.begun; faults = g.T.Target.Counted.faults; are_told = g.T.Targets.is_told c.args.targets.now; are_quiet = g.T.Targets.is_quiet c.args.targets.now } in
     targets_as telling g.Q.Desk.start (g.Q.Desk.seen c.args.desk.now) (g.Q.Desk.seen c.loop-round.desk) c.loop-round.restored.items c.reserve.new.self.items c.reserve.ensures.items (c.loop-round.invariant.restored alone)
 
 pub returns-in-Ok-None-clause-rest : goal.returns-in-Ok-None-clause-rest
@@ -46,7 +48,7 @@ returns-in-Ok-None-clause-readers g c alone rest =
 
 pub returns-in-Ok-None-clause-restored : goal.returns-in-Ok-None-clause-restored
 returns-in-Ok-None-clause-restored g c = λ alone.
-    let telling : Telling g.row.T-Target.Denot = record { made_for = g.T.Target.Target.made_for; files = g.T.Target.Target.files; is_sure = g.T.Target.Target.is_sure; are_told = g.T.Targets.is_told c.args.targets.now; are_quiet = g.T.Targets.is_quiet c.args.targets.now } in
+    let telling : Telling g.row.T-Target.Denot = record { made_for = g.T.Target.Target.made_for; files = g.T.Target.Target.files; is_sure = g.T.Target.Target.is_sure; begun = g.T.Target.Target.begun; faults = g.T.Target.Counted.faults; are_told = g.T.Targets.is_told c.args.targets.now; are_quiet = g.T.Targets.is_quiet c.args.targets.now } in
     let s = g.Q.Desk.start in
     let old = g.Q.Desk.seen c.args.desk.now in
     let mid = g.Q.Desk.seen c.loop-round.desk in
@@ -67,7 +69,7 @@ returns-in-Err-clause-stopped g c = take_stopped g.Q.Desk.start (g.Q.Desk.seen c
 
 pub returns-in-Err-clause-restored : goal.returns-in-Err-clause-restored
 returns-in-Err-clause-restored g c = λ alone.
-    let telling : Telling g.row.T-Target.Denot = record { made_for = g.T.Target.Target.made_for; files = g.T.Target.Target.files; is_sure = g.T.Target.Target.is_sure; are_told = g.T.Targets.is_told c.args.targets.now; are_quiet = g.T.Targets.is_quiet c.args.targets.now } in
+    let telling : Telling g.row.T-Target.Denot = record { made_for = g.T.Target.Target.made_for; files = g.T.Target.Target.files; is_sure = g.T.Target.Target.is_sure; begun = g.T.Target.Target.begun; faults = g.T.Target.Counted.faults; are_told = g.T.Targets.is_told c.args.targets.now; are_quiet = g.T.Targets.is_quiet c.args.targets.now } in
     let s = g.Q.Desk.start in
     let old = g.Q.Desk.seen c.args.desk.now in
     let mid = g.Q.Desk.seen c.loop-round.desk in
@@ -92,7 +94,7 @@ do_next-requires-clause-some g c κs within =
 
 pub returns-in-Err-do_next-clause-restored : goal.returns-in-Err-do_next-clause-restored
 returns-in-Err-do_next-clause-restored g c = λ alone.
-    let telling : Telling g.row.T-Target.Denot = record { made_for = g.T.Target.Target.made_for; files = g.T.Target.Target.files; is_sure = g.T.Target.Target.is_sure; are_told = g.T.Targets.is_told c.args.targets.now; are_quiet = g.T.Targets.is_quiet c.args.targets.now } in
+    let telling : Telling g.row.T-Target.Denot = record { made_for = g.T.Target.Target.made_for; files = g.T.Target.Target.files; is_sure = g.T.Target.Target.is_sure; begun = g.T.Target.Target.begun; faults = g.T.Target.Counted.faults; are_told = g.T.Targets.is_told c.args.targets.now; are_quiet = g.T.Targets.is_quiet c.args.targets.now } in
     let s = g.Q.Desk.start in
     let old = g.Q.Desk.seen c.args.desk.now in
     let mid = g.Q.Desk.seen c.loop-round.desk in
@@ -127,7 +129,7 @@ returns-in-Err-do_next-clause-grew g c =
 
 pub loop-round-preserved : goal.loop-round-preserved
 loop-round-preserved g c =
-    let telling : Telling g.row.T-Target.Denot = record { made_for = g.T.Target.Target.made_for; files = g.T.Target.Target.files; is_sure = g.T.Target.Target.is_sure; are_told = g.T.Targets.is_told c.args.targets.now; are_quiet = g.T.Targets.is_quiet c.args.targets.now } in
+    let telling : Telling g.row.T-Target.Denot = record { made_for = g.T.Target.Target.made_for; files = g.T.Target.Target.files; is_sure = g.T.Target.Target.is_sure; begun = g.T.Target.Target.begun; faults = g.T.Target.Counted.faults; are_told = g.T.Targets.is_told c.args.targets.now; are_quiet = g.T.Targets.is_quiet c.args.targets.now } in
     let s = g.Q.Desk.start in
     let old = g.Q.Desk.seen c.args.desk.now in
     let mid = g.Q.Desk.seen c.loop-round.desk in
@@ -148,6 +150,7 @@ loop-round-preserved g c =
       restored = λ alone. targets_as telling s old new (c.loop-round.restored.items ++ filled_of c.in-Ok.target) c.keep.new.restored.items items (targets_on telling s old mid new c.loop-round.restored.items (filled_of c.in-Ok.target) (inv.restored alone)
           (targets_on telling s mid took new [] (filled_of c.in-Ok.target) (targets_taken telling s mid took (Gave unit.ready.ticket unit.ready.op (given_of unit.ready)) alone gave) (c.in-Ok.ensures.restored alone)));
       only = λ alone. works_on old mid new (inv.only alone) (works_on mid took new (works_took s mid took (Gave unit.ready.ticket unit.ready.op (given_of unit.ready)) alone gave) (works_by s unit.ready.ticket took new alone some c.do_next.ensures.grew));
+      takes = λ alone. round_takes s old mid took new unit.ready.ticket unit.ready.op (given_of unit.ready) alone some (inv.takes alone) gave c.do_next.ensures.grew;
       rounds = omega (arith, longer, rounds);
     }
 
@@ -189,3 +192,43 @@ returns-in-Err-do_next-clause-only g c alone =
 
 pub returns-clause-only : goal.returns-clause-only
 returns-clause-only g c = c.loop-round.invariant.only
+
+pub returns-then-is_err-clause-takes : goal.returns-then-is_err-clause-takes
+returns-then-is_err-clause-takes g c alone =
+    let same : idle_takes (g.Q.Desk.seen c.loop-round.desk) ≡ idle_takes (g.Q.Desk.seen c.args.desk.now) = c.loop-round.invariant.takes alone in
+    omega (arith, same)
+
+pub returns-in-Ok-None-clause-takes : goal.returns-in-Ok-None-clause-takes
+returns-in-Ok-None-clause-takes g c alone =
+    let s = g.Q.Desk.start in
+    let mid = g.Q.Desk.seen c.loop-round.desk in
+    let new = g.Q.Desk.seen c.take.new.self in
+    let same : idle_takes mid ≡ idle_takes (g.Q.Desk.seen c.args.desk.now) = c.loop-round.invariant.takes alone in
+    let one : idle_takes new ≡ idle_takes mid + 1 = stepped_takes s mid new TakeStep NothingReady alone (took_none s mid new c.in-Ok-None.field-0 c.in-Ok-None.field-0-is c.in-Ok-None.ensures.step) in
+    omega (arith, same, one)
+
+pub returns-in-Err-clause-takes : goal.returns-in-Err-clause-takes
+returns-in-Err-clause-takes g c alone =
+    let mid = g.Q.Desk.seen c.loop-round.desk in
+    let new = g.Q.Desk.seen c.take.new.self in
+    let same : idle_takes mid ≡ idle_takes (g.Q.Desk.seen c.args.desk.now) = c.loop-round.invariant.takes alone in
+    let none : idle_takes new ≡ idle_takes mid = refused_takes g.Q.Desk.start mid new TakeStep (told_refusal c.in-Err.refusal) alone (λ r. refl) c.in-Err.ensures.step.0 in
+    omega (arith, same, none)
+
+pub returns-in-Err-do_next-clause-takes : goal.returns-in-Err-do_next-clause-takes
+returns-in-Err-do_next-clause-takes g c alone =
+    let s = g.Q.Desk.start in
+    let old = g.Q.Desk.seen c.args.desk.now in
+    let mid = g.Q.Desk.seen c.loop-round.desk in
+    let took = g.Q.Desk.seen c.take.new.self in
+    let new = g.Q.Desk.seen c.do_next.new.desk in
+    let unit = c.in-Ok-Some.unit in
+    let gave = took_some s mid took c.in-Ok-Some.field-0 unit c.in-Ok-Some.field-0-is c.in-Ok-Some.ensures.step in
+    let some = given_some c.laws.ensures s mid took unit.ready.ticket unit.ready.op (given_of unit.ready) c.requires.numbered gave in
+    let same : idle_takes new ≡ idle_takes old = round_takes s old mid took new unit.ready.ticket unit.ready.op (given_of unit.ready) alone some (c.loop-round.invariant.takes alone) gave c.do_next.ensures.grew in
+    omega (arith, same)
+
+pub returns-clause-takes : goal.returns-clause-takes
+returns-clause-takes g c alone =
+    let same : idle_takes (g.Q.Desk.seen c.loop-round.desk) ≡ idle_takes (g.Q.Desk.seen c.args.desk.now) = c.loop-round.invariant.takes alone in
+    omega (arith, same)

@@ -101,7 +101,7 @@ fail-requires-in-Some-failed_by-clause-shown g c κs within =
     let put = c.in-Err-Step in
     let told : c.failed_by.result ≡ failed_by put.refusal = rw put.field-0-is at c.failed_by.ensures in
     step_shown (record { stage = g.Q.Stage.Counted.faults; fetch = g.Q.Fetch.Counted.faults; shard = g.Q.Shard.Counted.faults; target = g.Q.Target.Counted.faults; made_for = λ h. (g.Q.Shard.Shard.origin h).address }) s mid who put.refusal c.in-Some-failed_by.why
-    (sym told ∙ c.in-Some-failed_by.is) (was_refused s g.Q.Stage.Counted.faults mid who put.field-0 put.refusal put.field-0-is put.ensures.refused)
+    (sym told ∙ c.in-Some-failed_by.is) (was_refused s g.Q.Stage.Counted.faults mid who put.field-0 put.refusal put.field-0-is put.ensures.refused) c.never_fails.ensures
 
 pub returns-in-Some-failed_by-clause-refused : goal.returns-in-Some-failed_by-clause-refused
 returns-in-Some-failed_by-clause-refused g c =
@@ -115,7 +115,7 @@ returns-in-Some-failed_by-clause-refused g c =
     let told : c.failed_by.result ≡ failed_by put.refusal = rw put.field-0-is at c.failed_by.ensures in
     let why = c.in-Some-failed_by.why in
     fail_ends s faults old mid new who (info_of_code c.in-Finalize.info) (root_of c.in-Some.root) why c.fail-in-Some-failed_by.result (may_write g (goal.at.returns-in-Some-failed_by-clause-refused g c).In-Some) c.write_swap.ensures.went
-    (by_step s faults mid who put.refusal why (sym told ∙ c.in-Some-failed_by.is) (was_refused s faults mid who put.field-0 put.refusal put.field-0-is put.ensures.refused))
+    (by_step s faults mid who put.refusal why (sym told ∙ c.in-Some-failed_by.is) (was_refused s faults mid who put.field-0 put.refusal put.field-0-is put.ensures.refused) c.never_fails.ensures)
     c.fail-in-Some-failed_by.ensures.reported
 
 pub returns-in-None-clause-refused : goal.returns-in-None-clause-refused

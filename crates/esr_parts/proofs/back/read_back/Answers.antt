@@ -39,6 +39,12 @@ returns-then-got-within-clause-back g c =
     inv.piece inv.taken c.args.size c.loop-got.missing inv.count (g.T.Target.begun c.args.target.now) (g.T.Target.begun c.loop-got.target) inv.grew
     (g.T.Target.begun c.write.new.self) c.in-Ok.got c.min-within.result c.next_piece.new.buf c.in-Ok.ensures.next front past wrote
 
+pub returns-then-got-eq0-clause-steady : goal.returns-then-got-eq0-clause-steady
+returns-then-got-eq0-clause-steady g c = c.loop-got.invariant.steady
+
+pub returns-then-got-within-clause-steady : goal.returns-then-got-within-clause-steady
+returns-then-got-within-clause-steady g c = on_ok _ c.write.result (sym c.is_err.ensures.value ∙ c.if-is_err.false) c.write.ensures.steady ∙ c.loop-got.invariant.steady
+
 pub loop-got-preserved : goal.loop-got-preserved
 loop-got-preserved g c =
     let inv = c.loop-got.invariant in
@@ -60,7 +66,7 @@ loop-got-preserved g c =
       target = omega (arith, c.write.ensures.cause.later, inv.target);
       fetch_sure = c.next_piece.ensures.sure ∙ inv.fetch_sure;
       target_sure = c.write.ensures.is_sure ∙ inv.target_sure;
-      steady = λ sure. c.write.ensures.sure.count (inv.target_sure ∙ sure) ∙ inv.steady sure;
+      steady = on_ok _ c.write.result (sym c.is_err.ensures.value ∙ c.if-is_err.false) c.write.ensures.steady ∙ inv.steady;
       piece = inv.piece ++ piece;
       taken = taken_more a b d c.args.hasher.now c.loop-got.hasher c.next_piece.new.hasher inv.piece inv.taken piece next.taken;
       grew = grown_more o (g.T.Target.begun c.loop-got.target) (g.T.Target.begun c.write.new.self) inv.piece piece inv.grew

@@ -1,4 +1,4 @@
-use Rattle.std.proofs.Common.{◌≡◌, ◌+◌, ◌≤◌, true, List, ℕ, length, option_map}
+use Rattle.std.proofs.Common.{◌≡◌, ◌+◌, ◌≤◌, List, ℕ, length, option_map}
 use Rattle.esr_source.specs.Begun.{more}
 use Rattle.esr_parts.specs.Back.{Taken}
 use Rattle.esr_parts.proofs.back.read_back.Given as goal
@@ -13,7 +13,7 @@ invariant-loop-got g l =
       target : g.T.Counted.faults l.fn.target ≤ g.T.Counted.faults l.target;
       fetch_sure : g.F.Fetch.is_sure l.fetch ≡ g.F.Fetch.is_sure l.fn.fetch;
       target_sure : g.T.Target.is_sure l.target ≡ g.T.Target.is_sure l.fn.target;
-      steady : g.T.Target.is_sure l.fn.target ≡ true → g.T.Counted.faults l.target ≡ g.T.Counted.faults l.fn.target;
+      steady : g.T.Counted.faults l.target ≡ g.T.Counted.faults l.fn.target;
       piece : List ℕ;
       taken : Taken (g.F.Fetch.left l.fn.fetch) (g.F.Fetch.left l.fetch) l.fn.hasher l.hasher piece;
       grew : g.T.Target.begun l.target ≡ option_map (more piece) (g.T.Target.begun l.fn.target);

@@ -29,3 +29,6 @@ returns-in-Ok-clause-restored g c =
     restored_file s (reader_of s (g.Q.Desk.seen c.read_parts.new.desk) who) c.read_parts.new.hasher (g.Q.Target.Target.begun c.begin_file.new.target) (g.Q.Target.Target.begun c.read_parts.new.target) c.args.at e c.end.result c.in_ok-is_exact.is_exact
     (g.Q.Target.Target.files c.args.target.now) (g.Q.Target.Target.files c.read_parts.new.target) (g.Q.Target.Target.files c.end-2.new.self)
     c.in_ok-is_exact.ensures.read c.end.ensures.joined well.0 well.1 c.in_ok-begin_file.ensures.begun (c.read_parts.ensures.files ∙ c.begin_file.ensures.files) c.in-Ok.ensures.added
+
+pub returns-in-Ok-clause-steady : goal.returns-in-Ok-clause-steady
+returns-in-Ok-clause-steady g c = c.in-Ok.ensures.steady ∙ c.in_ok-is_exact.ensures.steady ∙ c.in_ok-begin_file.ensures.steady

@@ -14,6 +14,7 @@ loop-entry-init g c = record {
   holds = c.requires.mine;
   buffer = refl;
   begun = c.requires.none_begun;
+  steady = refl;
   made_for = refl;
   is_sure = refl;
   went = went_none g.Q.Desk.start (g.Q.Desk.seen c.args.desk.now) c.args.ticket;
@@ -58,6 +59,7 @@ loop-entry-preserved g c =
       holds = done.holds;
       buffer = done.buffer ∙ inv.buffer;
       begun = done.begun;
+      steady = done.steady ∙ inv.steady;
       made_for = done.made_for ∙ inv.made_for;
       is_sure = done.is_sure ∙ inv.is_sure;
       went = went_on s (g.Q.Desk.seen c.args.desk.now) mid new who inv.went done.went;
@@ -77,3 +79,9 @@ pub restore_file-requires-clause-new : goal.restore_file-requires-clause-new
 restore_file-requires-clause-new g c κs within =
     let here = at_same c.files-entry-items.result.now c.args.snap.now.files c.loop-entry.entry-index c.entry-item.result c.files-entry-items.ensures.files c.loop-entry-test.true c.entry-item.is in
     file_unread (g.Q.Desk.seen c.args.desk.now) (g.Q.Desk.seen c.loop-entry.desk) c.args.ticket c.args.at c.args.snap.now c.loop-entry.entry-index c.entry-item.result c.files-entry-items.ensures.whole here.0 here.1 c.requires.new c.loop-entry.invariant.reads
+
+pub returns-clause-begun : goal.returns-clause-begun
+returns-clause-begun g c = c.loop-entry.invariant.begun
+
+pub returns-clause-steady : goal.returns-clause-steady
+returns-clause-steady g c = c.loop-entry.invariant.steady

@@ -39,3 +39,12 @@ returns-in-Ok-Long-clause-read g c =
     part_read s (reader_of s (g.Q.Desk.seen c.args.desk.now) who) (reader_of s (g.Q.Desk.seen c.fetch.new.desk) who) (name_of c.args.name) (g.Q.Fetch.Fetch.left c.in_ok-blob.blob) (g.Q.Fetch.Fetch.left c.read_back.new.fetch) (g.Q.Fetch.Fetch.is_sure c.in_ok-blob.blob)
     c.args.hasher.now c.read_back.new.hasher (g.Q.Target.Target.begun c.args.target.now) (g.Q.Target.Target.begun c.read_back.new.target) c.args.size Long c.in_ok-blob.ensures.came
     (subst (λ (x : Extent). ReadBack (g.Q.Fetch.Fetch.left c.in_ok-blob.blob) (g.Q.Fetch.Fetch.left c.read_back.new.fetch) c.args.hasher.now c.read_back.new.hasher (g.Q.Target.Target.begun c.args.target.now) (g.Q.Target.Target.begun c.read_back.new.target) c.args.size x) c.in-Ok-Long.field-0-is c.in-Ok-Long.ensures.back)
+
+pub returns-in-Ok-Whole-clause-steady : goal.returns-in-Ok-Whole-clause-steady
+returns-in-Ok-Whole-clause-steady g c = c.in-Ok-Whole.ensures.steady
+
+pub returns-in-Ok-Short-clause-steady : goal.returns-in-Ok-Short-clause-steady
+returns-in-Ok-Short-clause-steady g c = c.in-Ok-Short.ensures.steady
+
+pub returns-in-Ok-Long-clause-steady : goal.returns-in-Ok-Long-clause-steady
+returns-in-Ok-Long-clause-steady g c = c.in-Ok-Long.ensures.steady

@@ -22,6 +22,7 @@ loop-number-init g c = record {
   holds = c.requires.mine;
   buffer = refl;
   files = refl;
+  steady = refl;
   made_for = refl;
   is_sure = refl;
   went = went_none g.Q.Desk.start (g.Q.Desk.seen c.args.desk.now) c.args.ticket;
@@ -95,6 +96,7 @@ loop-number-preserved g c =
       holds = done.holds;
       buffer = done.buffer ∙ inv.buffer;
       files = done.files ∙ inv.files;
+      steady = done.steady ∙ inv.steady;
       made_for = done.made_for ∙ inv.made_for;
       is_sure = done.is_sure ∙ inv.is_sure;
       went = went_on s old mid new who inv.went done.went;
@@ -124,3 +126,6 @@ read_part-requires-clause-new g c κs within =
 
 pub returns-clause-reads : goal.returns-clause-reads
 returns-clause-reads g c = parts_all (g.Q.Desk.seen c.args.desk.now) (g.Q.Desk.seen c.loop-number.desk) c.args.ticket c.args.at c.args.entry.now c.loop-number.number c.loop-number.invariant.reads
+
+pub returns-clause-steady : goal.returns-clause-steady
+returns-clause-steady g c = c.loop-number.invariant.steady

@@ -12,6 +12,7 @@ invariant-loop-number g l =
       holds : g.Q.Desk.holds l.desk l.ticket;
       buffer : length l.buf ≡ length l.fn.buf;
       files : g.Q.Target.Target.files l.target ≡ g.Q.Target.Target.files l.fn.target;
+      steady : g.Q.Target.Counted.faults l.target ≡ g.Q.Target.Counted.faults l.fn.target;
       made_for : g.Q.Target.Target.made_for l.target ≡ g.Q.Target.Target.made_for l.fn.target;
       is_sure : g.Q.Target.Target.is_sure l.target ≡ g.Q.Target.Target.is_sure l.fn.target;
       went : Went g.Q.Desk.start (g.Q.Desk.seen l.fn.desk) (g.Q.Desk.seen l.desk) l.ticket;

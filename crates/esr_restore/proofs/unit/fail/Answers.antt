@@ -11,7 +11,7 @@ pub unrestored-requires-clause-shown : goal.unrestored-requires-clause-shown
 unrestored-requires-clause-shown g c =
     let s = g.Q.Desk.start in
     cause_shown (record { fetch = g.Q.Fetch.Counted.faults; target = g.Q.Target.Counted.faults; made_for = g.Q.Target.Target.made_for }) s (g.Q.Desk.seen c.args.desk.now) c.args.ticket (g.Q.Target.Target.is_sure c.args.target) c.args.target c.args.trouble c.in-Ok.cause
-    c.requires.sure c.requires.of c.requires.trouble (sym c.cause_of.ensures ∙ c.in-Ok.is)
+    c.never_fails.ensures c.requires.sure c.requires.of c.requires.trouble (sym c.cause_of.ensures ∙ c.in-Ok.is)
 
 pub returns-in-Ok-unrestored-clause-refused : goal.returns-in-Ok-unrestored-clause-refused
 returns-in-Ok-unrestored-clause-refused g c =
@@ -23,7 +23,7 @@ returns-in-Ok-unrestored-clause-refused g c =
       (reader_of s old who, worked_none (reader_of s old who), done.own),
       has_failed (record { fetch = g.Q.Fetch.Counted.faults; target = g.Q.Target.Counted.faults; made_for = g.Q.Target.Target.made_for }) s old new who c.in-Ok.cause.why c.in-Ok.cause.by
           (cause_shown (record { fetch = g.Q.Fetch.Counted.faults; target = g.Q.Target.Counted.faults; made_for = g.Q.Target.Target.made_for }) s old who (g.Q.Target.Target.is_sure c.args.target) c.args.target c.args.trouble c.in-Ok.cause
-          c.requires.sure c.requires.of c.requires.trouble (sym c.cause_of.ensures ∙ c.in-Ok.is)) done.step,
+          c.never_fails.ensures c.requires.sure c.requires.of c.requires.trouble (sym c.cause_of.ensures ∙ c.in-Ok.is)) done.step,
     )
 
 pub returns-in-Ok-unrestored-clause-grew : goal.returns-in-Ok-unrestored-clause-grew

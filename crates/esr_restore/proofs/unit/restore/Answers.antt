@@ -33,3 +33,9 @@ pub restore_files-requires-clause-new : goal.restore_files-requires-clause-new
 restore_files-requires-clause-new g c κs within =
     let old = g.Q.Desk.seen c.args.desk.now in
     files_unread old (g.Q.Desk.seen c.fetch_snap.new.desk) c.args.ticket c.args.at c.args.uuid.number c.in_ok-snap.snap.files (λ name. none_unread old c.args.ticket name c.requires.new) c.in_ok-snap.ensures.reads
+
+pub returns-clause-begun : goal.returns-clause-begun
+returns-clause-begun g c = c.in_ok-restore_files.ensures.begun
+
+pub returns-clause-steady : goal.returns-clause-steady
+returns-clause-steady g c = c.in_ok-restore_files.ensures.steady

@@ -105,6 +105,12 @@ returns-in_ok-finish-in-Ok-restore-clause-told g c =
 pub returns-in_ok-finish-in-Ok-restore-clause-count : goal.returns-in_ok-finish-in-Ok-restore-clause-count
 returns-in_ok-finish-in-Ok-restore-clause-count g c = λ quiet. c.restore.ensures.is_sure ∙ c.in-Ok.ensures.sure quiet
 
+pub returns-in_ok-finish-in-Ok-restore-clause-begun : goal.returns-in_ok-finish-in-Ok-restore-clause-begun
+returns-in_ok-finish-in-Ok-restore-clause-begun g c = c.in-Ok-restore.ensures.begun
+
+pub returns-in_ok-finish-in-Ok-restore-clause-steady : goal.returns-in_ok-finish-in-Ok-restore-clause-steady
+returns-in_ok-finish-in-Ok-restore-clause-steady g c = c.in-Ok-restore.ensures.steady ∙ c.in-Ok.ensures.count
+
 pub returns-in_ok-finish-in-Ok-restore-clause-grew : goal.returns-in_ok-finish-in-Ok-restore-clause-grew
 returns-in_ok-finish-in-Ok-restore-clause-grew g c =
     let s = g.Q.Desk.start in

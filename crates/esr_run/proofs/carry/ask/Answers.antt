@@ -5,6 +5,7 @@ use Rattle.esr_run.proofs.Asking.{askable}
 use Rattle.esr_run.proofs.Making.{rests_by, made_refused, spent_by, accepted_none}
 use Rattle.esr_run.specs.Made.{LineMade}
 use Rattle.esr_run.proofs.Verifying.{none_asked, line_verifies}
+use Rattle.esr_run.proofs.Taking.{line_takes}
 use Rattle.esr_run.proofs.carry.ask.Goals as goal
 
 pub ask-requires : goal.ask-requires
@@ -19,12 +20,12 @@ returns-clause-rests g c alone was =
     rests_by c.steps_stay.ensures g.Q.Desk.start c.requires.numbered c.requires.ops alone (g.Q.Desk.seen c.args.desk.now) (g.Q.Desk.seen c.ask.new.self) (AskStep (asked_of c.in-Ok.command)) (λ op. Accepted op) (Err c.in-Err.refusal) (inl (asked_of c.in-Ok.command, refl)) accepted_none c.in-Err.ensures was
 
 pub returns-in-Ok-ask-clause-verified : goal.returns-in-Ok-ask-clause-verified
-returns-in-Ok-ask-clause-verified g c workers alone may =
-    line_verifies g.Q.Desk.start workers (g.Q.Desk.seen c.args.desk.now) (g.Q.Desk.seen c.ask.new.self) (AskStep (asked_of c.in-Ok.command)) (λ op. Accepted op) (Ok c.in-Ok-ask.field-0) (inl (asked_of c.in-Ok.command, refl)) alone c.in-Ok-ask.ensures may
+returns-in-Ok-ask-clause-verified g c workers checks alone may =
+    line_verifies g.Q.Desk.start workers checks (g.Q.Desk.seen c.args.desk.now) (g.Q.Desk.seen c.ask.new.self) (AskStep (asked_of c.in-Ok.command)) (λ op. Accepted op) (Ok c.in-Ok-ask.field-0) (inl (asked_of c.in-Ok.command, refl)) alone c.in-Ok-ask.ensures may
 
 pub returns-clause-verified : goal.returns-clause-verified
-returns-clause-verified g c workers alone may =
-    line_verifies g.Q.Desk.start workers (g.Q.Desk.seen c.args.desk.now) (g.Q.Desk.seen c.ask.new.self) (AskStep (asked_of c.in-Ok.command)) (λ op. Accepted op) (Err c.in-Err.refusal) (inl (asked_of c.in-Ok.command, refl)) alone c.in-Err.ensures may
+returns-clause-verified g c workers checks alone may =
+    line_verifies g.Q.Desk.start workers checks (g.Q.Desk.seen c.args.desk.now) (g.Q.Desk.seen c.ask.new.self) (AskStep (asked_of c.in-Ok.command)) (λ op. Accepted op) (Err c.in-Err.refusal) (inl (asked_of c.in-Ok.command, refl)) alone c.in-Err.ensures may
 
 pub returns-in_default-clause-made : goal.returns-in_default-clause-made
 returns-in_default-clause-made g c = none_asked g.Q.Desk.start _ (g.Q.Desk.seen c.args.desk.now) (g.Q.Desk.seen c.args.desk.now) refl
@@ -36,3 +37,14 @@ returns-clause-made g c =
 
 pub returns-clause-spent : goal.returns-clause-spent
 returns-clause-spent g c alone = spent_by g.Q.Desk.start (g.Q.Desk.seen c.args.desk.now) (g.Q.Desk.seen c.ask.new.self) (AskStep (asked_of c.in-Ok.command)) (λ op. Accepted op) (Err c.in-Err.refusal) alone c.in-Err.ensures
+
+pub returns-in_default-clause-takes : goal.returns-in_default-clause-takes
+returns-in_default-clause-takes g c alone = refl
+
+pub returns-in-Ok-ask-clause-takes : goal.returns-in-Ok-ask-clause-takes
+returns-in-Ok-ask-clause-takes g c alone =
+    line_takes g.Q.Desk.start (g.Q.Desk.seen c.args.desk.now) (g.Q.Desk.seen c.ask.new.self) (AskStep (asked_of c.in-Ok.command)) (λ op. Accepted op) (Ok c.in-Ok-ask.field-0) (inl (asked_of c.in-Ok.command, refl)) alone c.in-Ok-ask.ensures
+
+pub returns-clause-takes : goal.returns-clause-takes
+returns-clause-takes g c alone =
+    line_takes g.Q.Desk.start (g.Q.Desk.seen c.args.desk.now) (g.Q.Desk.seen c.ask.new.self) (AskStep (asked_of c.in-Ok.command)) (λ op. Accepted op) (Err c.in-Err.refusal) (inl (asked_of c.in-Ok.command, refl)) alone c.in-Err.ensures

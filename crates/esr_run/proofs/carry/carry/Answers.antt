@@ -1,6 +1,9 @@
-use Rattle.std.proofs.Common.{◌≡◌, ◌⊎◌, true, Result, Ok, Err, OnOk}
+use Rattle.std.proofs.Common.{◌≡◌, ◌⊎◌, ◌+◌, ◌≤◌, true, Result, Ok, Err, OnOk, arith}
+use Rattle.esr_drive.specs.Takes.{idle_takes}
+use Rattle.esr_run.specs.Waits.{waits_of}
 use Rattle.std.specs.declared.alloc.AllocError.{AllocError}
 use Rattle.esr_complete.specs.Answers.{IsIdle}
+use Rattle.esr_run.specs.Checked.{asks_check}
 use Rattle.esr_run.specs.Made.{HasStopped, WasLeft, AreIn, AreDone}
 use Rattle.esr_complete.specs.Lines.{steps_of}
 use Rattle.esr_run.proofs.Filling.{fills_then}
@@ -23,4 +26,15 @@ pub returns-in-Ok-clause-filled : goal.returns-in-Ok-clause-filled
 returns-in-Ok-clause-filled g c = fills_then _ g.Q.Desk.start (g.Q.Desk.seen c.args.desk.now) (g.Q.Desk.seen c.carry_lines.new.desk) (g.Q.Desk.seen c.work_out.new.desk) c.args.filled.now.items c.carry_lines.new.filled.items c.work_out.new.filled.items c.work_out.result c.in-Ok.ensures.filled c.work_out.ensures.filled
 
 pub returns-in-Ok-clause-whole : goal.returns-in-Ok-clause-whole
-returns-in-Ok-clause-whole g c = c.work_out.ensures.whole c.args.workers c.requires.alone c.carry_lines.ensures.whole
+returns-in-Ok-clause-whole g c = c.work_out.ensures.whole c.args.workers (asks_check c.args.lines.now) c.requires.alone c.carry_lines.ensures.whole
+
+pub returns-in-Ok-clause-takes : goal.returns-in-Ok-clause-takes
+returns-in-Ok-clause-takes g c =
+    let few : idle_takes (g.Q.Desk.seen c.carry_lines.new.desk) ≤ idle_takes (g.Q.Desk.seen c.args.desk.now) + waits_of c.args.lines.now = c.carry_lines.ensures.takes in
+    let last : idle_takes (g.Q.Desk.seen c.work_out.new.desk) ≤ idle_takes (g.Q.Desk.seen c.carry_lines.new.desk) + 1 = c.work_out.ensures.takes c.requires.alone in
+    omega (arith, few, last)
+
+pub returns-in-Err-clause-takes : goal.returns-in-Err-clause-takes
+returns-in-Err-clause-takes g c =
+    let few : idle_takes (g.Q.Desk.seen c.carry_lines.new.desk) ≤ idle_takes (g.Q.Desk.seen c.args.desk.now) + waits_of c.args.lines.now = c.carry_lines.ensures.takes in
+    omega (arith, few)

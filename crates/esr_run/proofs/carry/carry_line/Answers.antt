@@ -1,3 +1,8 @@
+use Rattle.std.proofs.Common.{◌≡◌, ◌+◌, ◌≤◌, Bool, true, sym, ap, subst, arith}
+use Rattle.esr_drive.specs.Takes.{idle_takes}
+use Rattle.esr_run.specs.Checked.{is_check}
+use Rattle.esr_run.specs.Verified.{MayVerify, VerifiesOn}
+use Rattle.esr_run.specs.Waits.{waits_in}
 use Rattle.esr_run.proofs.Filling.{line_fills_none}
 use Rattle.esr_run.proofs.carry.carry_line.Goals as goal
 
@@ -11,16 +16,59 @@ pub returns-in-List-clause-filled : goal.returns-in-List-clause-filled
 returns-in-List-clause-filled g c alone = line_fills_none _ g.Q.Desk.start (g.Q.Desk.seen c.args.desk.now) (g.Q.Desk.seen c.list.new.desk) c.args.filled.now.items c.list.result (c.list.ensures.none alone)
 
 pub returns-in-Snapshot-clause-verified : goal.returns-in-Snapshot-clause-verified
-returns-in-Snapshot-clause-verified g c = c.ask.ensures.verified c.args.workers c.requires.alone c.requires.may
+returns-in-Snapshot-clause-verified g c checks asks may = c.ask.ensures.verified c.args.workers checks c.requires.alone may
 
 pub returns-in-Restore-clause-verified : goal.returns-in-Restore-clause-verified
-returns-in-Restore-clause-verified g c = c.restore.ensures.verified c.args.workers c.requires.alone c.requires.may
+returns-in-Restore-clause-verified g c checks asks may = c.restore.ensures.verified c.args.workers checks c.requires.alone may
 
 pub returns-in-Wait-clause-verified : goal.returns-in-Wait-clause-verified
-returns-in-Wait-clause-verified g c = c.wait.ensures.verified c.args.workers c.requires.alone c.requires.may
+returns-in-Wait-clause-verified g c checks asks may = c.wait.ensures.verified c.args.workers checks c.requires.alone may
 
 pub returns-in-List-clause-verified : goal.returns-in-List-clause-verified
-returns-in-List-clause-verified g c = c.list.ensures.verified c.args.workers c.requires.alone c.requires.may
+returns-in-List-clause-verified g c checks asks may = c.list.ensures.verified c.args.workers checks c.requires.alone may
 
 pub returns-in-Verify-clause-filled : goal.returns-in-Verify-clause-filled
 returns-in-Verify-clause-filled g c alone = line_fills_none _ g.Q.Desk.start (g.Q.Desk.seen c.args.desk.now) (g.Q.Desk.seen c.verify.new.desk) c.args.filled.now.items c.verify.result c.verify.ensures.none
+
+pub returns-in-Verify-clause-verified : goal.returns-in-Verify-clause-verified
+returns-in-Verify-clause-verified g c checks asks may = c.verify.ensures.verified checks may
+
+pub returns-in-Check-clause-filled : goal.returns-in-Check-clause-filled
+returns-in-Check-clause-filled g c alone = line_fills_none _ g.Q.Desk.start (g.Q.Desk.seen c.args.desk.now) (g.Q.Desk.seen c.check.new.desk) c.args.filled.now.items c.check.result c.check.ensures.none
+
+pub returns-in-Check-clause-verified : goal.returns-in-Check-clause-verified
+returns-in-Check-clause-verified g c checks asks may =
+    let yes_check : true ≡ checks = sym (asks (ap is_check c.in-Check.is)) in
+    subst (λ (b : Bool). VerifiesOn g.Q.Desk.start c.args.workers b (g.Q.Desk.seen c.check.new.desk) c.check.result) yes_check
+    (c.check.ensures.verified c.args.workers (subst (λ (b : Bool). MayVerify g.Q.Desk.start c.args.workers b (g.Q.Desk.seen c.args.desk.now)) (sym yes_check) may))
+
+pub returns-in-Snapshot-clause-takes : goal.returns-in-Snapshot-clause-takes
+returns-in-Snapshot-clause-takes g c =
+    let same : idle_takes (g.Q.Desk.seen c.ask.new.desk) ≡ idle_takes (g.Q.Desk.seen c.args.desk.now) = c.ask.ensures.takes c.requires.alone in
+    omega (arith, same)
+
+pub returns-in-Restore-clause-takes : goal.returns-in-Restore-clause-takes
+returns-in-Restore-clause-takes g c =
+    let same : idle_takes (g.Q.Desk.seen c.restore.new.desk) ≡ idle_takes (g.Q.Desk.seen c.args.desk.now) = c.restore.ensures.takes c.requires.alone in
+    omega (arith, same)
+
+pub returns-in-Wait-clause-takes : goal.returns-in-Wait-clause-takes
+returns-in-Wait-clause-takes g c =
+    let more : idle_takes (g.Q.Desk.seen c.wait.new.desk) ≤ idle_takes (g.Q.Desk.seen c.args.desk.now) + 1 = c.wait.ensures.takes c.requires.alone in
+    let one : waits_in c.args.item.now ≡ 1 = ap waits_in c.in-Wait.is in
+    omega (arith, more, one)
+
+pub returns-in-List-clause-takes : goal.returns-in-List-clause-takes
+returns-in-List-clause-takes g c =
+    let same : idle_takes (g.Q.Desk.seen c.list.new.desk) ≡ idle_takes (g.Q.Desk.seen c.args.desk.now) = c.list.ensures.takes c.requires.alone in
+    omega (arith, same)
+
+pub returns-in-Verify-clause-takes : goal.returns-in-Verify-clause-takes
+returns-in-Verify-clause-takes g c =
+    let same : idle_takes (g.Q.Desk.seen c.verify.new.desk) ≡ idle_takes (g.Q.Desk.seen c.args.desk.now) = c.verify.ensures.takes in
+    omega (arith, same)
+
+pub returns-in-Check-clause-takes : goal.returns-in-Check-clause-takes
+returns-in-Check-clause-takes g c =
+    let same : idle_takes (g.Q.Desk.seen c.check.new.desk) ≡ idle_takes (g.Q.Desk.seen c.args.desk.now) = c.check.ensures.takes in
+    omega (arith, same)

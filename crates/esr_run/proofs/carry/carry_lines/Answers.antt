@@ -1,12 +1,16 @@
-use Rattle.std.proofs.Common.{Err, inl, inr}
+use Rattle.std.proofs.Common.{◌+◌, ◌≤◌, Err, inl, inr, arith}
+use Rattle.esr_drive.specs.Takes.{idle_takes}
 use Rattle.esr_complete.specs.Lines.{steps_of_item}
+use Rattle.esr_run.specs.Checked.{asks_check}
 use Rattle.esr_run.proofs.Filling.{fills_same, fills_on, fills_spent, fills_refused}
-use Rattle.esr_run.proofs.Making.{front_none, front_made, front_all, front_step, good_next, none_left, asks_first, made_stopped, spent_turns, refused_line, ended_refused, as_refused, rests_refused}
+use Rattle.esr_run.proofs.Making.{front_none, front_made, front_all, front_step, good_next, none_left, asks_first, made_stopped, spent_turns, refused_line, ended_refused, as_refused, rests_refused, asks_here, look_refused}
 use Rattle.esr_run.proofs.Verifying.{refused_may, verified_whole}
+use Rattle.esr_run.specs.Waits.{waits_of}
+use Rattle.esr_run.proofs.Taking.{waits_on, waits_end}
 use Rattle.esr_run.proofs.carry.carry_lines.Goals as goal
 
 pub loop-left-init : goal.loop-left-init
-loop-left-init g c = record { front = front_none g.Q.Desk.start c.args.moment c.args.lines.now (g.Q.Desk.seen c.args.desk.now); good = c.requires.carried; filled = λ alone. fills_same _ g.Q.Desk.start (g.Q.Desk.seen c.args.desk.now) c.args.filled.now.items; may = c.requires.may }
+loop-left-init g c = record { front = front_none g.Q.Desk.start c.args.moment c.args.lines.now (g.Q.Desk.seen c.args.desk.now); good = c.requires.carried; filled = λ alone. fills_same _ g.Q.Desk.start (g.Q.Desk.seen c.args.desk.now) c.args.filled.now.items; may = c.requires.may; takes = omega arith }
 
 pub loop-left-preserved-in-Ok : goal.loop-left-preserved-in-Ok
 loop-left-preserved-in-Ok g c =
@@ -16,11 +20,12 @@ loop-left-preserved-in-Ok g c =
     let new = g.Q.Desk.seen c.carry_line.new.desk in
     let inv = c.loop-left.invariant in
     record {
-      front = front_step s c.args.moment c.line-item.result c.loop-left.left.now c.args.lines.now old mid new c.in-len1-up.len_at_least c.line-item.is inv.front c.in-Ok.ensures.made
+      front = front_step s c.args.moment c.line-item.result c.loop-left.left.now c.args.lines.now old mid new c.in-len1-up.len_at_least c.line-item.is inv.front c.in-Ok.ensures.made (λ check. inl (c.in-Ok.ensures.checked check))
           (λ alone none. inl (c.in-Ok.ensures.rests alone none, λ wait. c.in-Ok.ensures.ended wait alone));
       good = good_next c.loop-left.left.now inv.good;
       filled = λ alone. fills_on _ s old mid new c.args.filled.now.items c.loop-left.filled.items c.carry_line.new.filled.items (inv.filled alone) (c.in-Ok.ensures.filled alone);
-      may = c.in-Ok.ensures.verified;
+      may = c.in-Ok.ensures.verified (asks_check c.args.lines.now) (asks_here s c.args.moment c.line-item.result c.loop-left.left.now c.args.lines.now old mid c.in-len1-up.len_at_least c.line-item.is inv.front) inv.may;
+      takes = waits_on c.line-item.result c.loop-left.left.now (idle_takes old) (idle_takes mid) (idle_takes new) (waits_of c.args.lines.now) c.in-len1-up.len_at_least c.line-item.is inv.takes c.carry_line.ensures.takes;
     }
 
 pub loop-left-preserved : goal.loop-left-preserved
@@ -34,13 +39,16 @@ loop-left-preserved g c =
     let made = as_refused s (steps_of_item c.args.moment item) mid new c.in-Err-Refused.field-0 c.in-Err-Refused.field-0-0 c.in-Err-Refused.field-0-is c.in-Err-Refused.ensures.made in
     record {
       front = front_step s c.args.moment c.line-item.result c.loop-left.left.now c.args.lines.now old mid new c.in-len1-up.len_at_least c.line-item.is inv.front made
+          (λ check. inr (look_refused mid new c.in-Err-Refused.field-0 c.in-Err-Refused.field-0-0 c.in-Err-Refused.field-0-is (c.in-Err-Refused.ensures.checked check)))
           (λ alone none. refused_line s item new
           (rests_refused s new c.in-Err-Refused.field-0 c.in-Err-Refused.field-0-0 c.in-Err-Refused.field-0-is (c.in-Err-Refused.ensures.rests alone none))
           (λ wait. ended_refused new c.in-Err-Refused.field-0 c.in-Err-Refused.field-0-0 c.in-Err-Refused.field-0-is (c.in-Err-Refused.ensures.ended wait alone)));
       good = good_next c.loop-left.left.now inv.good;
       filled = λ alone. fills_on _ s old mid new c.args.filled.now.items c.loop-left.filled.items c.carry_line.new.filled.items (inv.filled alone)
           (fills_refused _ s mid new c.loop-left.filled.items c.carry_line.new.filled.items c.in-Err-Refused.field-0 c.in-Err-Refused.field-0-0 c.in-Err-Refused.field-0-is (c.in-Err-Refused.ensures.filled alone));
-      may = refused_may s c.args.workers new c.in-Err-Refused.field-0 c.in-Err-Refused.field-0-0 c.in-Err-Refused.field-0-is c.in-Err-Refused.ensures.verified;
+      may = refused_may s c.args.workers (asks_check c.args.lines.now) new c.in-Err-Refused.field-0 c.in-Err-Refused.field-0-0 c.in-Err-Refused.field-0-is
+          (c.in-Err-Refused.ensures.verified (asks_check c.args.lines.now) (asks_here s c.args.moment c.line-item.result c.loop-left.left.now c.args.lines.now old mid c.in-len1-up.len_at_least c.line-item.is inv.front) inv.may);
+      takes = waits_on c.line-item.result c.loop-left.left.now (idle_takes old) (idle_takes mid) (idle_takes new) (waits_of c.args.lines.now) c.in-len1-up.len_at_least c.line-item.is inv.takes c.carry_line.ensures.takes;
     }
 
 pub returns-in-Err-Memory-clause-made : goal.returns-in-Err-Memory-clause-made
@@ -71,10 +79,41 @@ returns-in-Err-TurnsSpent-clause-filled g c alone =
     (fills_spent _ s (g.Q.Desk.seen c.loop-left.desk) (g.Q.Desk.seen c.carry_line.new.desk) c.loop-left.filled.items c.carry_line.new.filled.items c.in-Err-TurnsSpent.field-0 c.in-Err-TurnsSpent.field-0-is (c.in-Err-TurnsSpent.ensures.filled alone))
 
 pub returns-in-Err-Memory-clause-whole : goal.returns-in-Err-Memory-clause-whole
-returns-in-Err-Memory-clause-whole g c = verified_whole g.Q.Desk.start c.args.workers (g.Q.Desk.seen c.carry_line.new.desk) (Err c.in-Err-Memory.field-0) c.in-Err-Memory.ensures.verified
+returns-in-Err-Memory-clause-whole g c =
+    let s = g.Q.Desk.start in
+    let checks = asks_check c.args.lines.now in
+    verified_whole s c.args.workers checks (g.Q.Desk.seen c.carry_line.new.desk) (Err c.in-Err-Memory.field-0)
+    (c.in-Err-Memory.ensures.verified checks
+    (asks_here s c.args.moment c.line-item.result c.loop-left.left.now c.args.lines.now (g.Q.Desk.seen c.args.desk.now) (g.Q.Desk.seen c.loop-left.desk) c.in-len1-up.len_at_least c.line-item.is c.loop-left.invariant.front) c.loop-left.invariant.may)
 
 pub returns-in-Err-TurnsSpent-clause-whole : goal.returns-in-Err-TurnsSpent-clause-whole
-returns-in-Err-TurnsSpent-clause-whole g c = verified_whole g.Q.Desk.start c.args.workers (g.Q.Desk.seen c.carry_line.new.desk) (Err c.in-Err-TurnsSpent.field-0) c.in-Err-TurnsSpent.ensures.verified
+returns-in-Err-TurnsSpent-clause-whole g c =
+    let s = g.Q.Desk.start in
+    let checks = asks_check c.args.lines.now in
+    verified_whole s c.args.workers checks (g.Q.Desk.seen c.carry_line.new.desk) (Err c.in-Err-TurnsSpent.field-0)
+    (c.in-Err-TurnsSpent.ensures.verified checks
+    (asks_here s c.args.moment c.line-item.result c.loop-left.left.now c.args.lines.now (g.Q.Desk.seen c.args.desk.now) (g.Q.Desk.seen c.loop-left.desk) c.in-len1-up.len_at_least c.line-item.is c.loop-left.invariant.front) c.loop-left.invariant.may)
 
 pub returns-clause-whole : goal.returns-clause-whole
 returns-clause-whole g c = c.loop-left.invariant.may.whole
+
+pub returns-in-Err-Memory-clause-takes : goal.returns-in-Err-Memory-clause-takes
+returns-in-Err-Memory-clause-takes g c =
+    waits_end c.line-item.result c.loop-left.left.now (idle_takes (g.Q.Desk.seen c.args.desk.now)) (idle_takes (g.Q.Desk.seen c.loop-left.desk)) (idle_takes (g.Q.Desk.seen c.carry_line.new.desk)) (waits_of c.args.lines.now) c.in-len1-up.len_at_least c.line-item.is
+    c.loop-left.invariant.takes c.carry_line.ensures.takes
+
+pub returns-in-Err-TurnsSpent-clause-takes : goal.returns-in-Err-TurnsSpent-clause-takes
+returns-in-Err-TurnsSpent-clause-takes g c =
+    waits_end c.line-item.result c.loop-left.left.now (idle_takes (g.Q.Desk.seen c.args.desk.now)) (idle_takes (g.Q.Desk.seen c.loop-left.desk)) (idle_takes (g.Q.Desk.seen c.carry_line.new.desk)) (waits_of c.args.lines.now) c.in-len1-up.len_at_least c.line-item.is
+    c.loop-left.invariant.takes c.carry_line.ensures.takes
+
+pub returns-clause-takes : goal.returns-clause-takes
+returns-clause-takes g c =
+    let all : idle_takes (g.Q.Desk.seen c.loop-left.desk) + waits_of c.loop-left.left.now ≤ idle_takes (g.Q.Desk.seen c.args.desk.now) + waits_of c.args.lines.now = c.loop-left.invariant.takes in
+    omega (arith, all)
+
+pub carry_line-requires-clause-idle : goal.carry_line-requires-clause-idle
+carry_line-requires-clause-idle g c κs within = c.loop-left.invariant.may.idle
+
+pub carry_line-requires-clause-legal : goal.carry_line-requires-clause-legal
+carry_line-requires-clause-legal g c κs within = c.loop-left.invariant.may.legal

@@ -4,6 +4,7 @@ use Rattle.esr_formats.specs.Refs.{ref_of_code}
 use Rattle.esr_desk.specs.declared.unit.AcceptedRestore.{AcceptedRestore as Answer}
 use Rattle.esr_run.proofs.Making.{rests_by, made_refused, spent_by, restore_none}
 use Rattle.esr_run.proofs.Verifying.{line_verifies}
+use Rattle.esr_run.proofs.Taking.{line_takes}
 use Rattle.esr_run.proofs.carry.restore.Goals as goal
 
 pub returns-in-Err-clause-rests : goal.returns-in-Err-clause-rests
@@ -17,15 +18,23 @@ returns-clause-rests g c alone was =
     (inl (Restore c.args.name.now c.args.place.now, refl)) (λ a. restore_none a.op a.uuid.number (map ref_of_code a.indices)) c.in_default.ensures was
 
 pub returns-in-Err-clause-verified : goal.returns-in-Err-clause-verified
-returns-in-Err-clause-verified g c workers alone may =
-    line_verifies g.Q.Desk.start workers (g.Q.Desk.seen c.args.desk.now) (g.Q.Desk.seen c.restore.new.self) (AskStep (Restore c.args.name.now c.args.place.now)) (λ (a : Answer). AcceptedRestore a.op a.uuid.number (map ref_of_code a.indices)) (Err c.in-Err.refusal) (inl (Restore c.args.name.now c.args.place.now, refl)) alone c.in-Err.ensures may
+returns-in-Err-clause-verified g c workers checks alone may =
+    line_verifies g.Q.Desk.start workers checks (g.Q.Desk.seen c.args.desk.now) (g.Q.Desk.seen c.restore.new.self) (AskStep (Restore c.args.name.now c.args.place.now)) (λ (a : Answer). AcceptedRestore a.op a.uuid.number (map ref_of_code a.indices)) (Err c.in-Err.refusal) (inl (Restore c.args.name.now c.args.place.now, refl)) alone c.in-Err.ensures may
 
 pub returns-clause-verified : goal.returns-clause-verified
-returns-clause-verified g c workers alone may =
-    line_verifies g.Q.Desk.start workers (g.Q.Desk.seen c.args.desk.now) (g.Q.Desk.seen c.restore.new.self) (AskStep (Restore c.args.name.now c.args.place.now)) (λ (a : Answer). AcceptedRestore a.op a.uuid.number (map ref_of_code a.indices)) (Ok c.in_default.field-0) (inl (Restore c.args.name.now c.args.place.now, refl)) alone c.in_default.ensures may
+returns-clause-verified g c workers checks alone may =
+    line_verifies g.Q.Desk.start workers checks (g.Q.Desk.seen c.args.desk.now) (g.Q.Desk.seen c.restore.new.self) (AskStep (Restore c.args.name.now c.args.place.now)) (λ (a : Answer). AcceptedRestore a.op a.uuid.number (map ref_of_code a.indices)) (Ok c.in_default.field-0) (inl (Restore c.args.name.now c.args.place.now, refl)) alone c.in_default.ensures may
 
 pub returns-in-Err-clause-made : goal.returns-in-Err-clause-made
 returns-in-Err-clause-made g c = made_refused g.Q.Desk.start (g.Q.Desk.seen c.args.desk.now) (g.Q.Desk.seen c.restore.new.self) (AskStep (Restore c.args.name.now c.args.place.now)) c.in-Err.refusal refl c.in-Err.ensures.0
 
 pub returns-in-Err-clause-spent : goal.returns-in-Err-clause-spent
 returns-in-Err-clause-spent g c alone = spent_by g.Q.Desk.start (g.Q.Desk.seen c.args.desk.now) (g.Q.Desk.seen c.restore.new.self) (AskStep (Restore c.args.name.now c.args.place.now)) (λ (a : Answer). AcceptedRestore a.op a.uuid.number (map ref_of_code a.indices)) (Err c.in-Err.refusal) alone c.in-Err.ensures
+
+pub returns-in-Err-clause-takes : goal.returns-in-Err-clause-takes
+returns-in-Err-clause-takes g c alone =
+    line_takes g.Q.Desk.start (g.Q.Desk.seen c.args.desk.now) (g.Q.Desk.seen c.restore.new.self) (AskStep (Restore c.args.name.now c.args.place.now)) (λ (a : Answer). AcceptedRestore a.op a.uuid.number (map ref_of_code a.indices)) (Err c.in-Err.refusal) (inl (Restore c.args.name.now c.args.place.now, refl)) alone c.in-Err.ensures
+
+pub returns-clause-takes : goal.returns-clause-takes
+returns-clause-takes g c alone =
+    line_takes g.Q.Desk.start (g.Q.Desk.seen c.args.desk.now) (g.Q.Desk.seen c.restore.new.self) (AskStep (Restore c.args.name.now c.args.place.now)) (λ (a : Answer). AcceptedRestore a.op a.uuid.number (map ref_of_code a.indices)) (Ok c.in_default.field-0) (inl (Restore c.args.name.now c.args.place.now, refl)) alone c.in_default.ensures

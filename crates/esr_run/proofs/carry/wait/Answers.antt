@@ -10,17 +10,17 @@ pub returns-clause-ended : goal.returns-clause-ended
 returns-clause-ended g c alone = ends_by g.Q.Desk.start (g.Q.Desk.seen c.work-worked.new.desk) c.work-worked.result.stop c.answer.result c.answer.ensures c.work-worked.ensures.idle c.work-worked.ensures.stopped alone
 
 pub returns-clause-verified : goal.returns-clause-verified
-returns-clause-verified g c workers alone may =
-    verifies_by g.Q.Desk.start workers (g.Q.Desk.seen c.work-worked.new.desk) c.answer.result (works_may c.work_leaves.ensures g.Q.Desk.start workers (g.Q.Desk.seen c.args.desk.now) (g.Q.Desk.seen c.work-worked.new.desk) (c.work-worked.ensures.only alone) c.work-worked.ensures.grew.legal may)
+returns-clause-verified g c workers checks alone may =
+    verifies_by g.Q.Desk.start workers checks (g.Q.Desk.seen c.work-worked.new.desk) c.answer.result (works_may c.work_leaves.ensures g.Q.Desk.start workers checks (g.Q.Desk.seen c.args.desk.now) (g.Q.Desk.seen c.work-worked.new.desk) (c.work-worked.ensures.only alone) c.work-worked.ensures.grew.legal may)
 
 pub returns-clause-whole : goal.returns-clause-whole
-returns-clause-whole g c workers alone was = works_whole g.Q.Desk.start workers (g.Q.Desk.seen c.args.desk.now) (g.Q.Desk.seen c.work-worked.new.desk) (c.work-worked.ensures.only alone) was
+returns-clause-whole g c workers checks alone was = works_whole g.Q.Desk.start workers checks (g.Q.Desk.seen c.args.desk.now) (g.Q.Desk.seen c.work-worked.new.desk) (c.work-worked.ensures.only alone) was
 
 pub returns-then-is_err-clause-verified : goal.returns-then-is_err-clause-verified
-returns-then-is_err-clause-verified g c workers alone may = works_whole g.Q.Desk.start workers (g.Q.Desk.seen c.args.desk.now) (g.Q.Desk.seen c.work-worked.new.desk) (c.work-worked.ensures.only alone) may.whole
+returns-then-is_err-clause-verified g c workers checks alone may = works_whole g.Q.Desk.start workers checks (g.Q.Desk.seen c.args.desk.now) (g.Q.Desk.seen c.work-worked.new.desk) (c.work-worked.ensures.only alone) may.whole
 
 pub returns-then-is_err-clause-whole : goal.returns-then-is_err-clause-whole
-returns-then-is_err-clause-whole g c workers alone was = works_whole g.Q.Desk.start workers (g.Q.Desk.seen c.args.desk.now) (g.Q.Desk.seen c.work-worked.new.desk) (c.work-worked.ensures.only alone) was
+returns-then-is_err-clause-whole g c workers checks alone was = works_whole g.Q.Desk.start workers checks (g.Q.Desk.seen c.args.desk.now) (g.Q.Desk.seen c.work-worked.new.desk) (c.work-worked.ensures.only alone) was
 
 pub returns-clause-closed : goal.returns-clause-closed
 returns-clause-closed g c alone legal closed = works_closed c.work_leaves.ensures g.Q.Desk.start (g.Q.Desk.seen c.args.desk.now) (g.Q.Desk.seen c.work-worked.new.desk) (c.work-worked.ensures.only alone) c.work-worked.ensures.grew.legal legal closed
@@ -30,3 +30,9 @@ returns-then-is_err-clause-closed g c alone legal closed = works_closed c.work_l
 
 pub returns-clause-spent : goal.returns-clause-spent
 returns-clause-spent g c alone = spends_by g.Q.Desk.start (g.Q.Desk.seen c.work-worked.new.desk) c.work-worked.result.stop c.answer.result c.answer.ensures c.work-worked.ensures.stopped alone
+
+pub returns-then-is_err-clause-takes : goal.returns-then-is_err-clause-takes
+returns-then-is_err-clause-takes g c = c.work-worked.ensures.takes
+
+pub returns-clause-takes : goal.returns-clause-takes
+returns-clause-takes g c = c.work-worked.ensures.takes

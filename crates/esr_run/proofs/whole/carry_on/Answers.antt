@@ -4,8 +4,10 @@ use Rattle.esr_drive.specs.Restored.{AreTargetsOf}
 use Rattle.esr_run.specs.Made.{HasFallen, AreDone}
 use Rattle.esr_run.proofs.Making.{done_on}
 use Rattle.esr_run.proofs.Falling.{done_fallen}
+use Rattle.esr_run.specs.Checked.{asks_check}
 use Rattle.esr_run.specs.Verified.{AreWhole}
 use Rattle.esr_run.proofs.Verifying.{begun_may}
+use Rattle.esr_run.proofs.Taking.{takes_few}
 use Rattle.esr_run.proofs.Restoring.{filled_on, unless_filled, unless_done}
 use Rattle.esr_run.proofs.whole.carry_on.Goals as goal
 
@@ -19,11 +21,16 @@ returns-clause-done g c =
 
 pub returns-clause-filled : goal.returns-clause-filled
 returns-clause-filled g c =
-    unless_filled (AreTargetsOf (record { made_for = g.T.Target.Target.made_for; files = g.T.Target.Target.files; is_sure = g.T.Target.Target.is_sure; are_told = g.T.Targets.is_told c.args.targets.now; are_quiet = g.T.Targets.is_quiet c.args.targets.now }) g.K.Told.start [] c.into_parts-repo.result.0) c.carry-carried.result c.carry-carried.new.filled.items c.unless_wanting.result c.unless_wanting.ensures
-    (filled_on (record { made_for = g.T.Target.Target.made_for; files = g.T.Target.Target.files; is_sure = g.T.Target.Target.is_sure; are_told = g.T.Targets.is_told c.args.targets.now; are_quiet = g.T.Targets.is_quiet c.args.targets.now }) g.K.Told.start c.new-desk.result c.carry-carried.new.desk c.into_parts-repo.result.0 c.new-filled.result.items c.carry-carried.new.filled.items c.carry-carried.result c.carry-carried.ensures.filled c.into_parts-repo.ensures.repo c.new-desk.ensures c.new-filled.ensures.items c.requires.alone)
+    unless_filled (AreTargetsOf (record { made_for = g.T.Target.Target.made_for; files = g.T.Target.Target.files; is_sure = g.T.Target.Target.is_sure; begun = g.T.Target.Target.begun; faults = g.T.Target.Counted.faults; are_told = g.T.Targets.is_told c.args.targets.now; are_quiet = g.T.Targets.is_quiet c.args.targets.now }) g.K.Told.start [] c.into_parts-repo.result.0) c.carry-carried.result c.carry-carried.new.filled.items c.unless_wanting.result c.unless_wanting.ensures
+    (filled_on (record { made_for = g.T.Target.Target.made_for; files = g.T.Target.Target.files; is_sure = g.T.Target.Target.is_sure; begun = g.T.Target.Target.begun; faults = g.T.Target.Counted.faults; are_told = g.T.Targets.is_told c.args.targets.now; are_quiet = g.T.Targets.is_quiet c.args.targets.now }) g.K.Told.start c.new-desk.result c.carry-carried.new.desk c.into_parts-repo.result.0 c.new-filled.result.items c.carry-carried.new.filled.items c.carry-carried.result c.carry-carried.ensures.filled c.into_parts-repo.ensures.repo c.new-desk.ensures c.new-filled.ensures.items c.requires.alone)
 
 pub carry-carried-requires-clause-may : goal.carry-carried-requires-clause-may
-carry-carried-requires-clause-may g c κs within = begun_may g.K.Told.start c.args.asked.now.workers c.new-desk.result c.new-desk.ensures c.requires.nobody
+carry-carried-requires-clause-may g c κs within = begun_may g.K.Told.start c.args.asked.now.workers _ c.new-desk.result c.new-desk.ensures c.requires.nobody
 
 pub returns-clause-whole : goal.returns-clause-whole
-returns-clause-whole g c = subst (AreWhole g.K.Told.start c.args.asked.now.workers) (sym c.into_parts-repo.ensures.repo) c.carry-carried.ensures.whole
+returns-clause-whole g c =
+    subst (AreWhole g.K.Told.start c.args.asked.now.workers (asks_check c.args.asked.now.script)) (sym c.into_parts-repo.ensures.repo)
+    (subst (λ (lines : List ScriptLine). AreWhole g.K.Told.start c.args.asked.now.workers (asks_check lines) c.carry-carried.new.desk) c.as_slice-lines.ensures c.carry-carried.ensures.whole)
+
+pub returns-clause-takes : goal.returns-clause-takes
+returns-clause-takes g c = takes_few c.new-desk.result c.carry-carried.new.desk c.into_parts-repo.result.0 c.as_slice-lines.result.now c.args.asked.now.script c.carry-carried.ensures.takes c.into_parts-repo.ensures.repo c.new-desk.ensures c.as_slice-lines.ensures

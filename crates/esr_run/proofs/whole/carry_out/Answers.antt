@@ -15,7 +15,7 @@ returns-in-Err-clause-run g c = inl (untouched (record { files = g.S.Sources.fil
 pub returns-in-Err-clause-told : goal.returns-in-Err-clause-told
 returns-in-Err-clause-told g c =
     let given : Given = record { words = c.args.words.now; script = g.I.Lines.left c.args.script.now; faults = g.I.Counted.faults c.args.script.now; moment = c.args.moment } in
-    verdict_stopped c.ended_at.result.verdict.status c.ended_at.result.verdict.text (record { stage = g.D.Stage.Counted.faults; fetch = g.D.Fetch.Counted.faults; shard = g.S.Shard.Counted.faults; target = g.T.Target.Counted.faults; made_for = λ h. (g.S.Shard.Shard.origin h).address; target_for = g.T.Target.Target.made_for; held = g.T.Target.Target.files; is_sure = g.T.Target.Target.is_sure }) given (record { files = g.S.Sources.files c.args.sources.now; is_there = g.S.Sources.is_there c.args.sources.now; is_quiet = g.S.Sources.is_quiet c.args.sources.now; targets_quiet = g.T.Targets.is_quiet c.args.targets.now; targets_told = g.T.Targets.is_told c.args.targets.now }) (g.I.Counted.faults c.asked_for.new.script) (g.D.Depot.look c.args.depot) (g.D.Depot.look c.ended_at.result.depot)
+    verdict_stopped c.ended_at.result.verdict.status c.ended_at.result.verdict.text (record { stage = g.D.Stage.Counted.faults; fetch = g.D.Fetch.Counted.faults; shard = g.S.Shard.Counted.faults; target = g.T.Target.Counted.faults; made_for = λ h. (g.S.Shard.Shard.origin h).address; target_for = g.T.Target.Target.made_for; held = g.T.Target.Target.files; is_sure = g.T.Target.Target.is_sure; begun = g.T.Target.Target.begun }) given (record { files = g.S.Sources.files c.args.sources.now; is_there = g.S.Sources.is_there c.args.sources.now; is_quiet = g.S.Sources.is_quiet c.args.sources.now; targets_quiet = g.T.Targets.is_quiet c.args.targets.now; targets_told = g.T.Targets.is_told c.args.targets.now }) (g.I.Counted.faults c.asked_for.new.script) (g.D.Depot.look c.args.depot) (g.D.Depot.look c.ended_at.result.depot)
     (g.D.Counted.faults c.args.depot) (g.D.Counted.faults c.ended_at.result.depot) c.ended_at.result.history c.new.result (end_of c.in-Err.stop) c.ended_at.ensures.told c.in-Err.ensures.err
     (untouched (record { files = g.S.Sources.files c.args.sources.now; is_there = g.S.Sources.is_there c.args.sources.now; is_quiet = g.S.Sources.is_quiet c.args.sources.now; targets_quiet = g.T.Targets.is_quiet c.args.targets.now; targets_told = g.T.Targets.is_told c.args.targets.now }) (g.D.Depot.look c.args.depot) (g.D.Depot.look c.ended_at.result.depot) c.ended_at.result.history c.new.result (ap g.D.Depot.look c.ended_at.ensures.depot) c.only_now.ensures c.ended_at.ensures.history c.new.ensures)
 
@@ -25,7 +25,7 @@ returns-clause-run g c = inl (untouched (record { files = g.S.Sources.files c.ar
 pub returns-in-Ok-room_for_one-clause-told : goal.returns-in-Ok-room_for_one-clause-told
 returns-in-Ok-room_for_one-clause-told g c =
     let given : Given = record { words = c.args.words.now; script = g.I.Lines.left c.args.script.now; faults = g.I.Counted.faults c.args.script.now; moment = c.args.moment } in
-    verdict_opened c.open_and_carry.result.0.verdict.status c.open_and_carry.result.0.verdict.text (record { stage = g.D.Stage.Counted.faults; fetch = g.D.Fetch.Counted.faults; shard = g.S.Shard.Counted.faults; target = g.T.Target.Counted.faults; made_for = λ h. (g.S.Shard.Shard.origin h).address; target_for = g.T.Target.Target.made_for; held = g.T.Target.Target.files; is_sure = g.T.Target.Target.is_sure }) given (record { files = g.S.Sources.files c.args.sources.now; is_there = g.S.Sources.is_there c.args.sources.now; is_quiet = g.S.Sources.is_quiet c.args.sources.now; targets_quiet = g.T.Targets.is_quiet c.args.targets.now; targets_told = g.T.Targets.is_told c.args.targets.now }) (g.I.Counted.faults c.asked_for.new.script) c.in-Ok.asked.part_size c.in-Ok.asked.workers
+    verdict_opened c.open_and_carry.result.0.verdict.status c.open_and_carry.result.0.verdict.text (record { stage = g.D.Stage.Counted.faults; fetch = g.D.Fetch.Counted.faults; shard = g.S.Shard.Counted.faults; target = g.T.Target.Counted.faults; made_for = λ h. (g.S.Shard.Shard.origin h).address; target_for = g.T.Target.Target.made_for; held = g.T.Target.Target.files; is_sure = g.T.Target.Target.is_sure; begun = g.T.Target.Target.begun }) given (record { files = g.S.Sources.files c.args.sources.now; is_there = g.S.Sources.is_there c.args.sources.now; is_quiet = g.S.Sources.is_quiet c.args.sources.now; targets_quiet = g.T.Targets.is_quiet c.args.targets.now; targets_told = g.T.Targets.is_told c.args.targets.now }) (g.I.Counted.faults c.asked_for.new.script) c.in-Ok.asked.part_size c.in-Ok.asked.workers
     (g.D.Depot.look c.args.depot) (g.D.Depot.look c.open_and_carry.result.0.depot) (g.D.Counted.faults c.args.depot) (g.D.Counted.faults c.open_and_carry.result.0.depot) c.in-Ok.asked.script
     c.open_and_carry.result.0.history c.open_and_carry.result.1 c.in-Ok.ensures.size c.in-Ok.ensures.workers (c.in-Ok.ensures.script c.args.moment) c.open_and_carry.ensures.told
 

@@ -2,7 +2,9 @@ use Rattle.std.proofs.Common.{◌≡◌, ◌⊎◌, List, [], sym, subst}
 use Rattle.esr_core.specs.Entry.{Moment}
 use Rattle.esr_desk.specs.Once.{AreOnce, NoneTwice}
 use Rattle.esr_checking.specs.Tested.{AreTested}
+use Rattle.esr_run.specs.Checked.{asks_check}
 use Rattle.esr_run.specs.Verified.{AreWhole}
+use Rattle.esr_run.specs.Waits.{TakesFew}
 use Rattle.esr_run.specs.Made.{HasFallen, AreDone}
 use Rattle.esr_run.proofs.Making.{done_or}
 use Rattle.esr_repo.specs.Log.{image_at, log_of}
@@ -12,7 +14,7 @@ use Rattle.esr_run.proofs.Restoring.{by_lines}
 use Rattle.esr_run.proofs.whole.run_told.Goals as goal
 
 pub returns-clause-shown : goal.returns-clause-shown
-returns-clause-shown g c = logged (record { stage = g.D.Stage.Counted.faults; fetch = g.D.Fetch.Counted.faults; shard = g.S.Shard.Counted.faults; target = g.T.Target.Counted.faults; made_for = λ h. (g.S.Shard.Shard.origin h).address; target_for = g.T.Target.Target.made_for; held = g.T.Target.Target.files; is_sure = g.T.Target.Target.is_sure }) g.K.Told.start c.carry_on-worked.result.repo (log_of (g.D.Depot.look c.into_parts-depot.result.0) g.K.Told.clock c.into_parts-depot.result.1) c.carry_on-worked.result.faults c.into_parts-depot.ensures.log c.carry_on-worked.ensures.shown
+returns-clause-shown g c = logged (record { stage = g.D.Stage.Counted.faults; fetch = g.D.Fetch.Counted.faults; shard = g.S.Shard.Counted.faults; target = g.T.Target.Counted.faults; made_for = λ h. (g.S.Shard.Shard.origin h).address; target_for = g.T.Target.Target.made_for; held = g.T.Target.Target.files; is_sure = g.T.Target.Target.is_sure; begun = g.T.Target.Target.begun }) g.K.Told.start c.carry_on-worked.result.repo (log_of (g.D.Depot.look c.into_parts-depot.result.0) g.K.Told.clock c.into_parts-depot.result.1) c.carry_on-worked.result.faults c.into_parts-depot.ensures.log c.carry_on-worked.ensures.shown
 
 pub returns-clause-once : goal.returns-clause-once
 returns-clause-once g c = subst (λ (l : List Moment). AreOnce g.K.Told.start l) (sym c.into_parts-depot.ensures.log) c.carry_on-worked.ensures.once
@@ -32,7 +34,7 @@ returns-clause-done g c =
 pub returns-clause-restored : goal.returns-clause-restored
 returns-clause-restored g c =
     let look = g.D.Depot.look c.into_parts-depot.result.0 in
-    by_lines c.each_target_is_of_its_line.ensures (record { made_for = g.T.Target.Target.made_for; files = g.T.Target.Target.files; is_sure = g.T.Target.Target.is_sure; are_told = g.T.Targets.is_told c.args.targets.now; are_quiet = g.T.Targets.is_quiet c.args.targets.now }) g.K.Told.start c.args.moment c.args.asked.now.script c.carry_on-worked.result.repo (log_of look g.K.Told.clock c.into_parts-depot.result.1) c.into_parts-depot.result.1
+    by_lines c.each_target_is_of_its_line.ensures (record { made_for = g.T.Target.Target.made_for; files = g.T.Target.Target.files; is_sure = g.T.Target.Target.is_sure; begun = g.T.Target.Target.begun; faults = g.T.Target.Counted.faults; are_told = g.T.Targets.is_told c.args.targets.now; are_quiet = g.T.Targets.is_quiet c.args.targets.now }) g.K.Told.start c.args.moment c.args.asked.now.script c.carry_on-worked.result.repo (log_of look g.K.Told.clock c.into_parts-depot.result.1) c.into_parts-depot.result.1
     c.requires.begun.order.tracked c.requires.begun.read_tracked c.into_parts-depot.ensures.repo.2.steady.legal c.requires.lines c.carry_on-worked.ensures.made c.requires.alone c.into_parts-depot.ensures.log (entries_are (image_at look) g.K.Told.clock c.into_parts-depot.result.1)
     c.carry_on-worked.result.filled c.targets_by_lines-listed.result c.verdict_after-verdict.result.1 c.verdict_after-verdict.result.0.status c.carry_on-worked.ensures.filled c.targets_by_lines-listed.ensures.listed c.targets_by_lines-listed.ensures.wanting c.verdict_after-verdict.ensures.wanting c.verdict_after-verdict.ensures.targets
 
@@ -42,4 +44,7 @@ returns-clause-legal g c =
     record { clock_is = is.clock_is; legal = is.steady.legal; image = is.steady.image }
 
 pub returns-clause-verified : goal.returns-clause-verified
-returns-clause-verified g c = subst (AreWhole g.K.Told.start c.args.asked.now.workers) (sym c.into_parts-depot.ensures.log) c.carry_on-worked.ensures.whole
+returns-clause-verified g c = subst (AreWhole g.K.Told.start c.args.asked.now.workers (asks_check c.args.asked.now.script)) (sym c.into_parts-depot.ensures.log) c.carry_on-worked.ensures.whole
+
+pub returns-clause-takes : goal.returns-clause-takes
+returns-clause-takes g c = subst (TakesFew c.args.asked.now.script) (sym c.into_parts-depot.ensures.log) c.carry_on-worked.ensures.takes

@@ -43,7 +43,7 @@ failed-requires-clause-shown g c =
     let quiet = steady_shard s told (g.S.Sources.is_there c.args.sources.now) (g.S.Sources.is_quiet c.args.sources.now) c.as_str.result.now c.as_str-2.result.now at.number (g.S.Shard.Shard.origin c.work.new.shard).address
     (g.S.Shard.Shard.origin c.in-Ok.shard).is_sure (g.S.Shard.Counted.faults c.in-Ok.shard) (g.S.Shard.Counted.faults c.work.new.shard) c.requires.sources (ap (λ (o : Origin). o.address) refused.origin ∙ made.address) made.sure made.count refused.steady in
     (cause_shown (record { stage = g.Q.Stage.Counted.faults; fetch = g.Q.Fetch.Counted.faults; shard = g.S.Shard.Counted.faults; target = g.Q.Target.Counted.faults; made_for = λ h. (g.S.Shard.Shard.origin h).address })
-    (told_of told ready.work) s old mid who at ready.copy.base c.work.new.shard trouble c.in-Ok-cause_of.cause refused.went took.0 took.1 of quiet shown refused.untold (sym c.cause_of.ensures ∙ c.in-Ok-cause_of.is)).0
+    (told_of told ready.work) s old mid who at ready.copy.base c.work.new.shard trouble c.in-Ok-cause_of.cause refused.went took.0 took.1 of quiet shown refused.untold (sym c.cause_of.ensures ∙ c.in-Ok-cause_of.is) c.never_fails.ensures).0
 
 pub returns-in_ok-failed-in-Ok-cause_of-clause-refused : goal.returns-in_ok-failed-in-Ok-cause_of-clause-refused
 returns-in_ok-failed-in-Ok-cause_of-clause-refused g c =
@@ -69,7 +69,7 @@ returns-in_ok-failed-in-Ok-cause_of-clause-refused g c =
     (g.S.Shard.Shard.origin c.in-Ok.shard).is_sure (g.S.Shard.Counted.faults c.in-Ok.shard) (g.S.Shard.Counted.faults c.work.new.shard) c.requires.sources (ap (λ (o : Origin). o.address) refused.origin ∙ made.address) made.sure made.count refused.steady in
     let reported = c.in_ok-failed-in-Ok-cause_of.ensures in
     failed_end (record { stage = g.Q.Stage.Counted.faults; fetch = g.Q.Fetch.Counted.faults; shard = g.S.Shard.Counted.faults; target = g.Q.Target.Counted.faults; made_for = λ h. (g.S.Shard.Shard.origin h).address })
-    (told_of told ready.work) s old mid who at ready.copy.base c.work.new.shard trouble c.in-Ok-cause_of.cause refused.went took.0 took.1 of quiet shown refused.untold (sym c.cause_of.ensures ∙ c.in-Ok-cause_of.is)
+    (told_of told ready.work) s old mid who at ready.copy.base c.work.new.shard trouble c.in-Ok-cause_of.cause refused.went took.0 took.1 of quiet shown refused.untold (sym c.cause_of.ensures ∙ c.in-Ok-cause_of.is) c.never_fails.ensures
     (g.Q.Desk.seen c.failed.new.self) reported.step reported.own
 
 pub returns-in_err-failed-in-Ok-cause_of-clause-grew : goal.returns-in_err-failed-in-Ok-cause_of-clause-grew

@@ -20,7 +20,7 @@ verified-requires-clause-may g c =
     let mid = g.Q.Desk.seen c.remove_tests.new.self in
     let names = map name_of c.args.names.now in
     let grew = outcome_further s old mid (RemoveTests names) (λ x. WasRemoved) c.remove_tests.result c.requires.alone tt c.remove_tests.ensures.step in
-    can_end s mid (caller_of s old) c.args.id.number names (drew_on c.laws.ensures.deposes s old mid c.args.id.number grew c.requires.drew (removed_drawn (caller_of s old) (caller_of s mid) (map name_of c.args.names.now) c.in_ok-remove_tests.ensures.own)) c.requires.done c.in_ok-remove_tests.ensures.own
+    can_end s mid (caller_of s old) c.args.id.number names (drew_on c.laws.ensures.deposes s old mid c.args.id.number grew c.requires.drew (removed_drawn (caller_of s old) (caller_of s mid) (map name_of c.args.names.now) c.in_ok-remove_tests.ensures.own)) c.requires.done c.in_ok-remove_tests.ensures.own c.requires.master
 
 pub returns-in_err-remove_tests-clause-refused : goal.returns-in_err-remove_tests-clause-refused
 returns-in_err-remove_tests-clause-refused g c =

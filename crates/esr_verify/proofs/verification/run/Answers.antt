@@ -4,6 +4,7 @@ use Rattle.esr_verify.specs.declared.trouble.Trouble.TheVariants.{Step}
 use Rattle.esr_verify.proofs.Going.{further_none, further_on, unverified_on, kept_none, kept_on}
 use Rattle.esr_verify.proofs.Refusing.{passed, any_err}
 use Rattle.esr_verify.proofs.Judging.{wanting}
+use Rattle.esr_verify.proofs.Naming.{has_master}
 use Rattle.esr_verify.proofs.Ending.{ended_all}
 use Rattle.esr_verify.proofs.verification.run.Goals as goal
 
@@ -40,6 +41,9 @@ returns-in_err-read_all-clause-kept g c =
 pub returns-in_err-read_all-clause-grew : goal.returns-in_err-read_all-clause-grew
 returns-in_err-read_all-clause-grew g c =
     further_on g.Q.Desk.start (g.Q.Desk.seen c.args.desk.now) (g.Q.Desk.seen c.write_all.new.desk) (g.Q.Desk.seen c.read_all.new.desk) c.write_all.ensures.kept.grew c.read_all.ensures.kept.grew
+
+pub finish-requires-clause-master : goal.finish-requires-clause-master
+finish-requires-clause-master g c κs within = has_master c.args.id.number c.args.workers c.in_ok-names.names c.in_ok-names.ensures.names
 
 pub returns-in_err-finish-clause-trouble : goal.returns-in_err-finish-clause-trouble
 returns-in_err-finish-clause-trouble g c =

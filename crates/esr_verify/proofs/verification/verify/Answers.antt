@@ -75,7 +75,7 @@ returns-in-Ok-run-clause-grew g c =
 
 pub fail-requires-in-Err-run-clause-may : goal.fail-requires-in-Err-run-clause-may
 fail-requires-in-Err-run-clause-may g c κs within =
-    may_fail g.row.Q-Shard.Denot g.row.Q-Target.Denot (record { stage = g.Q.Stage.Counted.faults; fetch = g.Q.Fetch.Counted.faults }) g.Q.Desk.start (g.Q.Desk.seen c.run.new.desk) c.in-Ok.id.number c.in-Err-run.trouble c.in-Err-run.ensures.kept.drew c.in-Err-run.ensures.trouble
+    may_fail g.row.Q-Shard.Denot g.row.Q-Target.Denot (record { stage = g.Q.Stage.Counted.faults; fetch = g.Q.Fetch.Counted.faults }) g.Q.Desk.start (g.Q.Desk.seen c.run.new.desk) c.in-Ok.id.number c.in-Err-run.trouble c.never_fails.ensures c.in-Err-run.ensures.kept.drew c.in-Err-run.ensures.trouble
 
 pub returns-in-Err-run-clause-refused : goal.returns-in-Err-run-clause-refused
 returns-in-Err-run-clause-refused g c =

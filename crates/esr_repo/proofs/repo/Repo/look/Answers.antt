@@ -1,4 +1,4 @@
-use Rattle.std.proofs.Common.{◌∙◌, ap, map, w64, rules}
+use Rattle.std.proofs.Common.{◌∙◌, ℤ, ◌≤ℤ◌, negsuc, sym, ap, subst, map, w64, rules}
 use Rattle.std.proofs.lemmas.Int.{to_z-of_z}
 use Rattle.esr_model.specs.Values.{RootData}
 use Rattle.esr_root.specs.Root.{Root}
@@ -11,5 +11,8 @@ pub note-requires-clause-may : goal.note-requires-clause-may
 note-requires-clause-may g c =
     may_look g.K.Told.start c.check.new.self _ _ _
     (ap (map root_snap_of) (c.in_ok-snapshots.ensures ∙ c.in_ok-listing.ensures ∙ ap (λ (r : Root). r.snapshots) c.behind-self.view_is) ∙ ap (λ (r : RootData). r.snapshots) c.safe_root.ensures)
-    (ap count_of (to_z-of_z w64 c.safe-safe.result (search rules)) ∙ c.safe-safe.ensures)
+    (ap count_of (to_z-of_z w64 c.safe-safe.result (search rules)) ∙ c.safe-safe.ensures.count)
     c.next_id-next.ensures.number
+
+pub returns-clause-least : goal.returns-clause-least
+returns-clause-least g c = subst (λ (z : ℤ). negsuc 0 ≤ℤ z) (sym (to_z-of_z w64 c.safe-safe.result (search rules))) c.safe-safe.ensures.least

@@ -1,3 +1,4 @@
+use Rattle.std.proofs.Common.{inl}
 use Rattle.esr_core.specs.Entry.{ReadStep, ReadFails}
 use Rattle.esr_desk.specs.Entries.{why_of}
 use Rattle.esr_solo.proofs.Stepping.{outcome, waited, waited_as, spends}
@@ -20,7 +21,7 @@ invariant_of-self g c = (c.self.invariant.0, same_objects _ g.K.Told.start c.sel
 pub invariant_of-self-2 : goal.invariant_of-self-2
 invariant_of-self-2 g c =
     keeps_verify_report _ g.K.Told.start c.self.inside.repo c.args.self.now c.unverified-answer.new.self (why_of c.args.why) c.unverified-answer.result c.self.inside.faults.items c.reserve.new.self.items c.keep.new.faults.items c.self.inside.left c.turns.result 1099511627776 c.args.by
-    c.self.invariant c.if-self-eq0.false c.turns.ensures c.self.view_is c.requires.shown c.reserve.ensures.items c.keep.ensures c.unverified-answer.ensures.step
+    c.self.invariant c.if-self-eq0.false c.turns.ensures c.self.view_is (inl c.requires.shown) c.reserve.ensures.items c.keep.ensures c.unverified-answer.ensures.step
 
 pub returns-clause-step : goal.returns-clause-step
 returns-clause-step g c = outcome g.K.Told.start c.self.inside.repo c.args.self.now c.unverified-answer.new.self 0 (ReadStep (ReadFails (why_of c.args.why))) _ c.unverified-answer.result c.self.view_is c.is_legal.ensures c.unverified-answer.ensures.step

@@ -1,15 +1,15 @@
 use Rattle.esr_solo.proofs.Stepping.{keeps, outcome, waited, spends}
 use Rattle.esr_solo.proofs.desk.SoloDesk.look.Goals as goal
 
-pub returns-then-self-eq0 : goal.returns-then-self-eq0
-returns-then-self-eq0 g c = (
+pub returns-then-self-eq0-clause-step : goal.returns-then-self-eq0-clause-step
+returns-then-self-eq0-clause-step g c = (
   waited g.K.Told.start c.self.inside.repo c.args.self.now 0 c.self.view_is c.is_legal.ensures,
   spends g.K.Told.start c.self.inside.repo c.args.self.now c.self.inside.left c.self.view_is c.self.invariant.0 c.if-self-eq0.true,
 )
 
 pub invariant_of-self : goal.invariant_of-self
 invariant_of-self g c =
-    keeps _ g.K.Told.start c.self.inside.repo c.look-answer.new.self 0 _ _ c.look-answer.result c.self.inside.faults.items c.self.inside.left c.turns.result _ c.self.invariant c.if-self-eq0.false c.turns.ensures (λ x why e d. cc) (λ name e no_metadata noted. cc) (λ single. absurd single) c.look-answer.ensures tt
+    keeps _ g.K.Told.start c.self.inside.repo c.look-answer.new.self 0 _ _ c.look-answer.result c.self.inside.faults.items c.self.inside.left c.turns.result _ c.self.invariant c.if-self-eq0.false c.turns.ensures (λ x why e d. cc) (λ name e no_metadata noted. cc) (λ single. absurd single) c.look-answer.ensures.step tt
 
-pub returns : goal.returns
-returns g c = outcome g.K.Told.start c.self.inside.repo c.args.self.now c.look-answer.new.self 0 _ _ c.look-answer.result c.self.view_is c.is_legal.ensures c.look-answer.ensures
+pub returns-clause-step : goal.returns-clause-step
+returns-clause-step g c = outcome g.K.Told.start c.self.inside.repo c.args.self.now c.look-answer.new.self 0 _ _ c.look-answer.result c.self.view_is c.is_legal.ensures c.look-answer.ensures.step

@@ -1,0 +1,4 @@
+pub mod Texts
+pub mod Members
+pub mod Served
+pub mod Loops

@@ -1,0 +1,6 @@
+use Rattle.std.proofs.Common.{sym, ◌∙◌}
+use Rattle.esr_agreement.proofs.Served.{same_bytes-is}
+use Rattle.esr_agreement.proofs.agreement.is_snap_named.Goals as goal
+
+pub returns : goal.returns
+returns c = c.eq.ensures ∙ sym (same_bytes-is c.args.a.now c.args.b.now)

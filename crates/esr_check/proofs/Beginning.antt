@@ -1,0 +1,148 @@
+-- What a check adds to a history.
+use Rattle.std.proofs.Common.{◌≡◌, inl, inr, ⊎_elim, ℕ, true, List, [], ◌∷◌, ◌++◌, append-nil, append_assoc, Option, Some, None, Result, Ok, Err, refl, sym, ap, ◌∙◌}
+use Rattle.esr_model.specs.Names.{BlobName}
+use Rattle.esr_model.specs.Values.{Has}
+use Rattle.esr_core.specs.Entry.{Read, ReadBlob, CheckedAll, Step, LookStep, ReadStep, Reply, Refusal, Refused, HasEnded, Moment}
+use Rattle.esr_desk.specs.declared.unit.UnitRefusal.{UnitRefusal}
+use Rattle.esr_desk.specs.declared.unit.UnitRefusal.TheVariants as units
+use Rattle.esr_desk.specs.declared.refusal.StepRefusal.{StepRefusal}
+use Rattle.esr_desk.specs.declared.refusal.StepRefusal.TheVariants as steps
+use Rattle.esr_desk.specs.Refusals.{refusal_of, told_refusal}
+use Rattle.esr_desk.specs.Start.{Start}
+use Rattle.esr_desk.specs.Outcome.{Stepped, Refusing, Outcome}
+use Rattle.esr_desk.specs.Grew.{GrewBy, AllOf}
+use Rattle.esr_checking.specs.CheckShown.{AllFetches}
+use Rattle.esr_reach.specs.Members.{has_either}
+use Rattle.esr_check.specs.Began.{IsOfCheck, AllOfCheck, HasBegun, NotBegun, Begun, AsksOne, NoneChecked}
+use Rattle.esr_check.specs.Went.{Went}
+use Rattle.esr_check.specs.Fails.{GrewOfCheck}
+use Rattle.esr_check.proofs.Living.{front_is, moment_of, stepped_is}
+
+-- ---- further steps
+
+of_check_both : (a b : List Moment) → AllOfCheck a → AllOfCheck b → AllOfCheck (a ++ b)
+of_check_both [] b one two = two
+of_check_both (m ∷ a) b one two = (one.0, one.1, of_check_both a b one.2 two)
+
+of_check_fetches : (ms : List Moment) → AllFetches ms → AllOfCheck ms
+of_check_fetches [] all = tt
+of_check_fetches (m ∷ ms) all = (all.0, (ReadBlob all.1.0, all.1.1, tt), of_check_fetches ms all.2)
+
+of_check_own : (ms : List Moment) → AllOfCheck ms → AllOf 0 ms
+of_check_own [] all = tt
+of_check_own (m ∷ ms) all = (all.0, of_check_own ms all.2)
+
+pub of_check_none : (s : Start) (log : List Moment) → GrewOfCheck s log log
+of_check_none s log = record { more = []; is = sym (append-nil log); legal = λ was. was; all = tt }
+
+pub of_check_on : (s : Start) (old mid new : List Moment) → GrewOfCheck s old mid → GrewOfCheck s mid new → GrewOfCheck s old new
+of_check_on s old mid new first second = record {
+  more = first.more ++ second.more;
+  is = second.is ∙ ap (λ (log : List Moment). log ++ second.more) first.is ∙ append_assoc old first.more second.more;
+  legal = λ was. second.legal (first.legal was);
+  all = of_check_both first.more second.more first.all second.all;
+}
+
+pub went_of_check : (s : Start) (old new : List Moment) (P : BlobName → Type 0) → Went s old new P → GrewOfCheck s old new
+went_of_check s old new P went = record { more = went.more; is = went.is; legal = went.grew.legal; all = of_check_fetches went.more went.all }
+
+pub of_check_grew : (s : Start) (old new : List Moment) → GrewOfCheck s old new → GrewBy s 0 old new
+of_check_grew s old new g = record { more = g.more; is = g.is; legal = g.legal; own = λ alone. of_check_own g.more g.all }
+
+-- by a step
+stepped_of_check : (s : Start) (old new : List Moment) (read : Read) (reply : Reply) → s.alone ≡ true → IsOfCheck read → Stepped s old new 0 (ReadStep read) reply → GrewOfCheck s old new
+stepped_of_check s old new read reply alone of h = record {
+  more = moment_of s old new (ReadStep read) reply alone h ∷ [];
+  is = stepped_is s old new (ReadStep read) reply alone h;
+  legal = λ was. h.legal;
+  all = (refl, (read, refl, of), tt);
+}
+
+refusing_of_check : (s : Start) (old new : List Moment) (read : Read) (refusal : Option Refusal) → s.alone ≡ true → IsOfCheck read → Refusing s old new 0 (ReadStep read) refusal → GrewOfCheck s old new
+refusing_of_check s old new read None alone of h = record { more = []; is = front_is s old new 0 alone h ∙ sym (append-nil old); legal = λ was. h.legal; all = tt }
+refusing_of_check s old new read (Some refusal) alone of h = stepped_of_check s old new read (Refused refusal) alone of h
+
+pub outcome_of_check : {X : Type 0} (s : Start) (old new : List Moment) (read : Read) (ok : X → Reply) (result : Result X StepRefusal) → s.alone ≡ true → IsOfCheck read → Outcome s old new 0 (ReadStep read) ok result → GrewOfCheck s old new
+outcome_of_check s old new read ok (Ok x) alone of h = stepped_of_check s old new read (ok x) alone of h
+outcome_of_check s old new read ok (Err e) alone of h = refusing_of_check s old new read (told_refusal e) alone of h.0
+
+-- ---- by a look
+
+looked_begun : (s : Start) (old new : List Moment) (reply : Reply) → s.alone ≡ true → Stepped s old new 0 LookStep reply → HasBegun old new
+looked_begun s old new reply alone h = record {
+  look = moment_of s old new LookStep reply alone h;
+  rest = [];
+  is = stepped_is s old new LookStep reply alone h;
+  looker = refl;
+  looks = refl;
+  all = tt;
+}
+
+-- and further steps
+pub begun_on : (s : Start) (old mid new : List Moment) (reply : Reply) → s.alone ≡ true → Stepped s old mid 0 LookStep reply → GrewOfCheck s mid new → HasBegun old new
+begun_on s old mid new reply alone step g =
+    let h = looked_begun s old mid reply alone step in
+    record {
+      look = h.look;
+      rest = h.rest ++ g.more;
+      is = g.is ∙ ap (λ (log : List Moment). log ++ g.more) h.is ∙ append_assoc old (h.look ∷ h.rest) g.more;
+      looker = h.looker;
+      looks = h.looks;
+      all = of_check_both h.rest g.more h.all g.all;
+    }
+
+pub asks_begun : {X : Type 0} (old new : List Moment) (result : Result X UnitRefusal) → HasBegun old new → AsksOne old new result
+asks_begun old new (Ok x) h = h
+asks_begun old new (Err (units.Failed why)) h = h
+asks_begun old new (Err (units.Stopped (steps.Refused refusal))) h = h
+asks_begun old new (Err (units.Stopped steps.Memory)) h = Begun h
+asks_begun old new (Err (units.Stopped steps.TurnsSpent)) h = Begun h
+
+-- the look was refused
+pub asks_look : (X : Type 0) (s : Start) (old new : List Moment) (e : StepRefusal) → s.alone ≡ true → Refusing s old new 0 LookStep (told_refusal e) → AsksOne {X = X} old new (Err (units.Stopped e))
+asks_look X s old new steps.Memory alone h = NotBegun (front_is s old new 0 alone h)
+asks_look X s old new steps.TurnsSpent alone h = NotBegun (front_is s old new 0 alone h)
+asks_look X s old new (steps.Refused x) alone h = looked_begun s old new (Refused (refusal_of x)) alone h
+
+-- ---- no check ended well
+
+pub unchecked_none : (log : List Moment) → NoneChecked log log
+unchecked_none log = record { more = []; is = sym (append-nil log); none = λ m snapshots blobs has. absurd has }
+
+pub unchecked_on : (old mid new : List Moment) → NoneChecked old mid → NoneChecked mid new → NoneChecked old new
+unchecked_on old mid new first second = record {
+  more = first.more ++ second.more;
+  is = second.is ∙ ap (λ (log : List Moment). log ++ second.more) first.is ∙ append_assoc old first.more second.more;
+  none = λ m snapshots blobs has at ended.
+      ⊎_elim (λ (a : Has first.more m). first.none m snapshots blobs a at ended) (λ (b : Has second.more m). second.none m snapshots blobs b at ended) (has_either first.more second.more m has);
+}
+
+fetches_unchecked : (ms : List Moment) (m : Moment) (snapshots blobs : ℕ) → AllFetches ms → Has ms m → m.entry.step ≡ ReadStep (CheckedAll snapshots blobs) → ⊥
+fetches_unchecked [] m snapshots blobs all none is = none
+fetches_unchecked (x ∷ ms) m snapshots blobs all (inl same) is =
+    let other : ReadStep (ReadBlob all.1.0) ≡ ReadStep (CheckedAll snapshots blobs) = sym all.1.1 ∙ ap (λ (n : Moment). n.entry.step) same ∙ is in cc
+fetches_unchecked (x ∷ ms) m snapshots blobs all (inr has) is = fetches_unchecked ms m snapshots blobs all.2 has is
+
+pub went_unchecked : (s : Start) (old new : List Moment) (P : BlobName → Type 0) → Went s old new P → NoneChecked old new
+went_unchecked s old new P went = record { more = went.more; is = went.is; none = λ m snapshots blobs has at ended. fetches_unchecked went.more m snapshots blobs went.all has at }
+
+-- by a step that is another, or was answered otherwise
+stepped_unchecked : (s : Start) (old new : List Moment) (step : Step) (reply : Reply) → s.alone ≡ true → ((snapshots blobs : ℕ) → step ≡ ReadStep (CheckedAll snapshots blobs) → reply ≡ HasEnded → ⊥) → Stepped s old new 0 step reply → NoneChecked old new
+stepped_unchecked s old new step reply alone other h =
+    let one = moment_of s old new step reply alone h in
+    record {
+      more = one ∷ [];
+      is = stepped_is s old new step reply alone h;
+      none = λ m snapshots blobs has at ended.
+          ⊎_elim
+          (λ (same : one ≡ m). other snapshots blobs (ap (λ (n : Moment). n.entry.step) same ∙ at) (ap (λ (n : Moment). n.entry.reply) same ∙ ended))
+          (λ none. absurd none) has;
+    }
+
+pub refusing_unchecked : (s : Start) (old new : List Moment) (step : Step) (refusal : Option Refusal) → s.alone ≡ true → Refusing s old new 0 step refusal → NoneChecked old new
+refusing_unchecked s old new step None alone h = record { more = []; is = front_is s old new 0 alone h ∙ sym (append-nil old); none = λ m snapshots blobs has. absurd has }
+refusing_unchecked s old new step (Some refusal) alone h = stepped_unchecked s old new step (Refused refusal) alone (λ snapshots blobs at ended. cc) h
+
+pub outcome_unchecked : {X : Type 0} (s : Start) (old new : List Moment) (step : Step) (ok : X → Reply) (result : Result X StepRefusal) → s.alone ≡ true → ((snapshots blobs : ℕ) → step ≡ ReadStep (CheckedAll snapshots blobs) → ⊥) → Outcome s old new 0 step ok result → NoneChecked old new
+outcome_unchecked s old new step ok (Ok x) alone other h = stepped_unchecked s old new step (ok x) alone (λ snapshots blobs at ended. other snapshots blobs at) h
+outcome_unchecked s old new step ok (Err e) alone other h = refusing_unchecked s old new step (told_refusal e) alone h.0

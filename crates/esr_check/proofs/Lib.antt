@@ -1,0 +1,17 @@
+pub mod Living
+pub mod Going
+pub mod Counting
+pub mod Refusing
+pub mod Reading
+pub mod Reaching
+pub mod Listing
+pub mod Naming
+pub mod Parting
+pub mod Judging
+pub mod Snapping
+pub mod Sharding
+pub mod Ending
+pub mod Rooted
+pub mod Failing
+pub mod Beginning
+pub mod Closing

@@ -1,0 +1,61 @@
+-- What the rule of roots says of one that was read.
+use Rattle.std.proofs.Common.{◌≡◌, ◌⊎◌, inl, inr, ℕ, ◌&&◌, ◌||◌, Bool, true, false, List, [], ◌∷◌, map, Some, refl, sym, ap, ◌∙◌, subst, eqb-true}
+use Rattle.std.specs.List.{list_all, list_any}
+use Rattle.esr_names.specs.declared.ids.Id.{Id}
+use Rattle.esr_root.specs.Ids.{same_id}
+use Rattle.esr_root.specs.Snaps.{lists}
+use Rattle.esr_root.specs.Indices.{AreIndices, IsListed}
+use Rattle.esr_root.specs.Root.{Root, IsRoot}
+use Rattle.esr_root.specs.declared.snaps.RootSnap.{RootSnap as CodeSnap}
+use Rattle.esr_root.specs.declared.indices.RootIndex.{RootIndex as CodeIndex}
+use Rattle.esr_formats.specs.Ids.{number_of}
+use Rattle.esr_formats.specs.Roots.{root_of, root_snap_of, root_index_of}
+use Rattle.esr_model.specs.Values.{Has, RootSnap, RootIndex}
+use Rattle.esr_model.specs.Image.{Generation, at_shard}
+use Rattle.esr_reach.specs.Members.{has_map, in_map, all_has}
+use Rattle.esr_reach.specs.Reached.{generation_at}
+use Rattle.esr_reach.proofs.Apart.{indices_once, one_each}
+use Rattle.esr_check.proofs.Ending.{AreListed}
+
+-- ---- tests of lists
+
+both : (a b : Bool) → (a && b) ≡ true → (a ≡ true) × (b ≡ true)
+both true b h = (refl, h)
+both false b h = absurd cc
+
+either : (a b : Bool) → (a || b) ≡ true → (a ≡ true) ⊎ (b ≡ true)
+either true b h = inl refl
+either false b h = inr h
+
+pass_has : {A : Type 0} (p : A → Bool) (xs : List A) (x : A) → list_all p xs ≡ true → Has xs x → p x ≡ true
+pass_has p [] x all none = absurd none
+pass_has p (y ∷ ys) x all (inl here) = ap p (sym here) ∙ (both (p y) (list_all p ys) all).0
+pass_has p (y ∷ ys) x all (inr later) = pass_has p ys x (both (p y) (list_all p ys) all).1 later
+
+any_has : {A : Type 0} (p : A → Bool) (xs : List A) → list_any p xs ≡ true → (x : A) × Has xs x × (p x ≡ true)
+any_has p [] none = absurd cc
+any_has p (y ∷ ys) some = elim (either (p y) (list_any p ys) some) [
+  | inl here ↦ (y, inl refl, here)
+  | inr later ↦ let found = any_has p ys later in (found.0, inr found.1, found.2)
+]
+
+-- ---- the snapshots of its indices are listed
+
+listed_id : (snaps : List CodeSnap) (u : Id) → lists snaps u ≡ true → (snap : RootSnap) × Has (map root_snap_of snaps) snap × (snap.uuid ≡ u.number)
+listed_id snaps u is =
+    let found = any_has (λ (s : CodeSnap). same_id s.uuid u) snaps is in
+    (root_snap_of found.0, in_map root_snap_of snaps found.0 found.1, eqb-true found.0.uuid.number u.number found.2)
+
+pub are_listed : (root : Root) → IsRoot root → AreListed (root_of root)
+are_listed root rule x u there named =
+    let index = has_map root_index_of root.indices x there in
+    let own = subst (λ (y : RootIndex). Has y.snapshots u) (sym index.2) named in
+    let id = has_map number_of index.0.snapshots u own in
+    let passes = pass_has (lists root.snapshots) index.0.snapshots id.0 (all_has (IsListed root.snapshots) root.indices index.0 rule.listed index.1) id.1 in
+    let snap = listed_id root.snapshots id.0 passes in
+    (snap.0, snap.1, snap.2 ∙ id.2)
+
+-- ---- the generations of its indices
+
+pub has_generation : (root : Root) (index : CodeIndex) → AreIndices root.indices → Has (map root_index_of root.indices) (root_index_of index) → (k g : ℕ) → at_shard (root_index_of index).generations k ≡ Some g → Generation (root_of root) index.id.number k g
+has_generation root index rule there k g is = generation_at (root_of root) (one_each (map root_index_of root.indices) (indices_once root.indices rule)) (root_index_of index) there k g is

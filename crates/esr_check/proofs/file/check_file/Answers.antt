@@ -1,0 +1,23 @@
+use Rattle.esr_formats.specs.Shards.{shard_index_of}
+use Rattle.esr_checking.specs.Caller.{caller_of}
+use Rattle.esr_check.proofs.Going.{held_more}
+use Rattle.esr_check.proofs.Judging.{judged_so, judged_well, has_file}
+use Rattle.esr_check.proofs.file.check_file.Goals as goal
+
+pub returns-in-Some-clause-trouble : goal.returns-in-Some-clause-trouble
+returns-in-Some-clause-trouble g c =
+    let s = g.Q.Desk.start in
+    let old = g.Q.Desk.seen c.args.desk.now in
+    let new = g.Q.Desk.seen c.read_parts.new.desk in
+    let at = c.args.at in
+    let held = shard_index_of c.args.held.now in
+    judged_so s new c.read_parts.new.hasher at c.args.generation held c.args.entry.now c.end.result c.in_ok-is_exact.is_exact
+    (held_more s (caller_of s old) (caller_of s new) c.read_parts.ensures.went.grown at.index.number at.number c.args.generation.number held c.requires.held)
+    c.requires.listed c.in_ok-is_exact.ensures.read c.end.ensures.joined c.judge.result c.in-Some.why c.judge.ensures c.in-Some.is
+
+pub returns-clause-file : goal.returns-clause-file
+returns-clause-file g c =
+    let s = g.Q.Desk.start in
+    let e = c.args.entry.now in
+    has_file s (caller_of s (g.Q.Desk.seen c.read_parts.new.desk)) c.read_parts.new.hasher c.args.at e c.end.result c.in_ok-is_exact.is_exact c.in_ok-is_exact.ensures.read c.end.ensures.joined
+    (judged_well c.args.at c.args.generation e c.end.result c.in_ok-is_exact.is_exact c.judge.result c.judge.ensures c.in_default.is)

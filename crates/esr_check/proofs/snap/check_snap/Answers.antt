@@ -1,0 +1,97 @@
+use Rattle.esr_model.specs.Names.{Snap, Meta}
+use Rattle.esr_desk.specs.Start.{formats_of}
+use Rattle.esr_formats.specs.Infos.{info_of_code}
+use Rattle.esr_formats.specs.Roots.{root_of, root_snap_of}
+use Rattle.esr_checking.specs.Caller.{caller_of}
+use Rattle.esr_check.specs.Names.{Just, IsOfSnap, IsMetaIn}
+use Rattle.esr_check.proofs.Going.{went_as, went_both, went_on, some_new, still_new, read_more, root_on}
+use Rattle.esr_check.proofs.Naming.{info_of_snap, global_of_snap, metas_of_snap, global_no_info, metas_no_info, metas_no_global}
+use Rattle.esr_check.proofs.Snapping.{has_info}
+use Rattle.esr_check.proofs.snap.check_snap.Goals as goal
+
+pub check_info-requires-clause-new : goal.check_info-requires-clause-new
+check_info-requires-clause-new g c κs within =
+    let s = g.Q.Desk.start in
+    let uuid = c.args.snap.now.uuid.number in
+    some_new (caller_of s (g.Q.Desk.seen c.args.desk.now)) (IsOfSnap uuid) (Just (Snap uuid)) (λ name own. info_of_snap uuid name own) c.requires.new
+
+pub returns-in_err-info-clause-went : goal.returns-in_err-info-clause-went
+returns-in_err-info-clause-went g c =
+    let uuid = c.args.snap.now.uuid.number in
+    went_as g.Q.Desk.start (g.Q.Desk.seen c.args.desk.now) (g.Q.Desk.seen c.check_info.new.desk) (Just (Snap uuid)) (IsOfSnap uuid) (λ name own. info_of_snap uuid name own) c.check_info.ensures.went
+
+-- ---- the global metadata
+
+pub check_global-requires-clause-root : goal.check_global-requires-clause-root
+check_global-requires-clause-root g c κs within =
+    root_on g.Q.Desk.start (g.Q.Desk.seen c.args.desk.now) (g.Q.Desk.seen c.check_info.new.desk) (Just (Snap c.args.snap.now.uuid.number)) c.args.number (root_of c.args.root.now) c.check_info.ensures.went c.requires.root
+
+pub check_global-requires-clause-new : goal.check_global-requires-clause-new
+check_global-requires-clause-new g c κs within =
+    let s = g.Q.Desk.start in
+    let old = g.Q.Desk.seen c.args.desk.now in
+    let uuid = c.args.snap.now.uuid.number in
+    still_new s old (g.Q.Desk.seen c.check_info.new.desk) (Just (Snap uuid)) (Just (Meta uuid)) (λ name own other. global_no_info uuid name own other)
+    (some_new (caller_of s old) (IsOfSnap uuid) (Just (Meta uuid)) (λ name own. global_of_snap uuid name own) c.requires.new) c.check_info.ensures.went
+
+pub returns-in_err-check_global-clause-went : goal.returns-in_err-check_global-clause-went
+returns-in_err-check_global-clause-went g c =
+    let uuid = c.args.snap.now.uuid.number in
+    went_both g.Q.Desk.start (g.Q.Desk.seen c.args.desk.now) (g.Q.Desk.seen c.check_info.new.desk) (g.Q.Desk.seen c.check_global.new.desk) (Just (Snap uuid)) (Just (Meta uuid)) (IsOfSnap uuid)
+    (λ name own. info_of_snap uuid name own) (λ name own. global_of_snap uuid name own) c.check_info.ensures.went c.check_global.ensures.went
+
+-- ---- that of its indices
+
+pub check_metas-requires-clause-root : goal.check_metas-requires-clause-root
+check_metas-requires-clause-root g c κs within =
+    let s = g.Q.Desk.start in
+    let mid = g.Q.Desk.seen c.check_info.new.desk in
+    let uuid = c.args.snap.now.uuid.number in
+    let root = root_of c.args.root.now in
+    root_on s mid (g.Q.Desk.seen c.check_global.new.desk) (Just (Meta uuid)) c.args.number root c.check_global.ensures.went
+    (root_on s (g.Q.Desk.seen c.args.desk.now) mid (Just (Snap uuid)) c.args.number root c.check_info.ensures.went c.requires.root)
+
+pub check_metas-requires-clause-info : goal.check_metas-requires-clause-info
+check_metas-requires-clause-info g c κs within =
+    let s = g.Q.Desk.start in
+    read_more s (caller_of s (g.Q.Desk.seen c.check_info.new.desk)) (caller_of s (g.Q.Desk.seen c.check_global.new.desk)) c.check_global.ensures.went.grown (Snap c.args.snap.now.uuid.number) (formats_of s).info (info_of_code c.in_ok-info.info) c.in_ok-info.ensures.read
+
+pub check_metas-requires-clause-new : goal.check_metas-requires-clause-new
+check_metas-requires-clause-new g c κs within =
+    let s = g.Q.Desk.start in
+    let old = g.Q.Desk.seen c.args.desk.now in
+    let mid = g.Q.Desk.seen c.check_info.new.desk in
+    let uuid = c.args.snap.now.uuid.number in
+    still_new s mid (g.Q.Desk.seen c.check_global.new.desk) (Just (Meta uuid)) (IsMetaIn uuid) (λ name own other. metas_no_global uuid name own other)
+    (still_new s old mid (Just (Snap uuid)) (IsMetaIn uuid) (λ name own other. metas_no_info uuid name own other)
+    (some_new (caller_of s old) (IsOfSnap uuid) (IsMetaIn uuid) (λ name own. metas_of_snap uuid name own) c.requires.new) c.check_info.ensures.went) c.check_global.ensures.went
+
+pub returns-in_err-check_metas-clause-went : goal.returns-in_err-check_metas-clause-went
+returns-in_err-check_metas-clause-went g c =
+    let s = g.Q.Desk.start in
+    let old = g.Q.Desk.seen c.args.desk.now in
+    let mid = g.Q.Desk.seen c.check_info.new.desk in
+    let next = g.Q.Desk.seen c.check_global.new.desk in
+    let new = g.Q.Desk.seen c.check_metas.new.desk in
+    let uuid = c.args.snap.now.uuid.number in
+    went_on s old next new (IsOfSnap uuid)
+    (went_both s old mid next (Just (Snap uuid)) (Just (Meta uuid)) (IsOfSnap uuid) (λ name own. info_of_snap uuid name own) (λ name own. global_of_snap uuid name own) c.check_info.ensures.went c.check_global.ensures.went)
+    (went_as s next new (IsMetaIn uuid) (IsOfSnap uuid) (λ name own. metas_of_snap uuid name own) c.check_metas.ensures.went)
+
+pub returns-clause-went : goal.returns-clause-went
+returns-clause-went g c =
+    let s = g.Q.Desk.start in
+    let old = g.Q.Desk.seen c.args.desk.now in
+    let mid = g.Q.Desk.seen c.check_info.new.desk in
+    let next = g.Q.Desk.seen c.check_global.new.desk in
+    let new = g.Q.Desk.seen c.check_metas.new.desk in
+    let uuid = c.args.snap.now.uuid.number in
+    went_on s old next new (IsOfSnap uuid)
+    (went_both s old mid next (Just (Snap uuid)) (Just (Meta uuid)) (IsOfSnap uuid) (λ name own. info_of_snap uuid name own) (λ name own. global_of_snap uuid name own) c.check_info.ensures.went c.check_global.ensures.went)
+    (went_as s next new (IsMetaIn uuid) (IsOfSnap uuid) (λ name own. metas_of_snap uuid name own) c.check_metas.ensures.went)
+
+pub returns-clause-info : goal.returns-clause-info
+returns-clause-info g c =
+    let uuid = c.args.snap.now.uuid.number in
+    has_info g.Q.Desk.start (g.Q.Desk.seen c.check_info.new.desk) (g.Q.Desk.seen c.check_global.new.desk) (g.Q.Desk.seen c.check_metas.new.desk) (root_of c.args.root.now) (root_snap_of c.args.snap.now) (info_of_code c.in_ok-info.info) (Just (Meta uuid)) (IsMetaIn uuid)
+    c.check_global.ensures.went c.check_metas.ensures.went c.in_ok-info.ensures.read c.in_ok-info.ensures.agrees c.in_ok-check_global.ensures.read c.in_ok-check_metas.ensures.metas

@@ -1,0 +1,11 @@
+pub mod Law
+pub mod Names
+pub mod Began
+pub mod Checked
+pub mod Went
+pub mod Pieces
+pub mod Parts
+pub mod Trouble
+pub mod Cause
+pub mod Refused
+pub mod Fails

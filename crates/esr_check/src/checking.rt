@@ -1,0 +1,141 @@
+//! The check of a repository.
+ghost use Rattle.std.specs.Prelude.{◌≡◌, ◌<◌, ◌^◌, [], suc, true, length, IfSome, IfErr, IfOk, OnOk, OnErr};
+ghost use Rattle.esr_formats.specs.Clusters.{count_of};
+ghost use Rattle.esr_desk.specs.Grew.{GrewBy};
+ghost use Rattle.esr_desk.specs.Start.{world_of};
+ghost use Rattle.esr_checking.specs.Caller.{caller_of};
+ghost use Rattle.esr_check.specs.Began.{AsksOne, NoneChecked};
+ghost use Rattle.esr_check.specs.Cause.{cause_by};
+ghost use Rattle.esr_check.specs.Checked.{last_root, HasChecked, HasReadAll};
+ghost use Rattle.esr_check.specs.Fails.{MayFail, FailsBy, GrewOfCheck};
+ghost use Rattle.esr_check.specs.Names.{IsAny};
+ghost use Rattle.esr_check.specs.Refused.{IsCheckRefused};
+ghost use Rattle.esr_check.specs.Trouble.{Shown};
+ghost use Rattle.esr_check.specs.Went.{IsSoFar, Went};
+
+use crate::cause::cause_of;
+use crate::index::check_indices;
+use crate::law::laws;
+use crate::root::fetch_root;
+use crate::snap::check_snaps;
+use crate::trouble::Trouble;
+use esr_checking::CheckDesk;
+use esr_desk::{Desk, Look, UnitRefusal};
+use std::alloc::Global;
+
+/// What a check has read: so many listed snapshots, and so many blobs.
+#[derive(Clone, Copy, Debug, PartialEq, Eq)]
+pub struct Checked {
+    pub snapshots: u64,
+    pub blobs: u64,
+}
+
+/// How many snapshots are listed.
+fn listed_count(look: &Look) -> u64
+    ensures { result ≡ length look.now.listing }
+{
+    look.listing.as_slice().len() as u64
+}
+
+/// The generation of the safe root, or none.
+fn last_root(safe: i64) -> Option<u64>
+    ensures place { result ≡ last_root safe }
+    ensures few { IfSome result (λ n. n < 2 ^ 63) }
+{
+    if safe < 0 { None } else { Some(safe as u64) }
+}
+
+/// Reads the safe root, of this generation, and all that it reaches, once each, and answers how many blobs these are.
+fn read_root<Q: CheckDesk>(
+    alloc: Global,
+    desk: &mut Q,
+    number: u64,
+) -> Result<u64, Trouble<Q::Fetch>>
+    requires alone { Q.start.alone ≡ true }
+    requires number { number < 2 ^ 63 }
+    requires safe { (world_of Q.start (Q.seen desk.old)).safe ≡ suc number }
+    requires first { (caller_of Q.start (Q.seen desk.old)).fetched ≡ [] }
+    requires so_far { IsSoFar Q.start (Q.seen desk.old) 0 }
+    ensures read { OnOk result (HasReadAll Q.start (Q.seen desk.new)) }
+    ensures so_far { IfOk result (IsSoFar Q.start (Q.seen desk.new)) }
+    ensures trouble { IfErr result (Shown Q.Fetch.faults Q.start (Q.seen desk.new)) }
+    ensures went { Went Q.start (Q.seen desk.old) (Q.seen desk.new) IsAny }
+{
+    let mut count = 0;
+    let root = fetch_root(alloc, desk, &mut count, number)?;
+    let infos = check_snaps(alloc, desk, &mut count, &root, number)?;
+    check_indices(alloc, desk, &mut count, &root, infos.as_slice())?;
+    Ok(count)
+}
+
+/// The same; none where there is no root.
+fn read_all<Q: CheckDesk>(alloc: Global, desk: &mut Q, safe: i64) -> Result<u64, Trouble<Q::Fetch>>
+    requires alone { Q.start.alone ≡ true }
+    requires safe { count_of safe ≡ (world_of Q.start (Q.seen desk.old)).safe }
+    requires first { (caller_of Q.start (Q.seen desk.old)).fetched ≡ [] }
+    requires so_far { IsSoFar Q.start (Q.seen desk.old) 0 }
+    ensures read { OnOk result (HasReadAll Q.start (Q.seen desk.new)) }
+    ensures rootless { IfOk result (λ n. count_of safe ≡ 0 → n ≡ 0) }
+    ensures so_far { IfOk result (IsSoFar Q.start (Q.seen desk.new)) }
+    ensures trouble { IfErr result (Shown Q.Fetch.faults Q.start (Q.seen desk.new)) }
+    ensures went { Went Q.start (Q.seen desk.old) (Q.seen desk.new) IsAny }
+{
+    match last_root(safe) {
+        Some(number) => read_root(alloc, desk, number),
+        None => Ok(0),
+    }
+}
+
+/// Ends the check for a trouble, unless that stops it.
+fn fail<Q: CheckDesk>(alloc: Global, desk: &mut Q, trouble: Trouble<Q::Fetch>) -> UnitRefusal
+    requires alone { Q.start.alone ≡ true }
+    requires may { IfOk (cause_by {S = Q.Stage} {H = Q.Shard} {T = Q.Target} trouble)
+        (MayFail (record { stage = Q.Stage.faults; fetch = Q.Fetch.faults }) Q.start (Q.seen desk.old)) }
+    ensures failed { FailsBy (record { stage = Q.Stage.faults; fetch = Q.Fetch.faults }) Q.start (Q.seen desk.old) (Q.seen desk.new)
+        (cause_by {S = Q.Stage} {H = Q.Shard} {T = Q.Target} trouble) result }
+    ensures unchecked { NoneChecked (Q.seen desk.old) (Q.seen desk.new) }
+    ensures grew { GrewOfCheck Q.start (Q.seen desk.old) (Q.seen desk.new) }
+{
+    laws();
+    match cause_of(trouble) {
+        Ok(cause) => {
+            let why = cause.why;
+            match desk.unchecked(alloc, why, cause.by) {
+                Ok(()) => UnitRefusal::Failed(why),
+                Err(refusal) => UnitRefusal::Stopped(refusal),
+            }
+        }
+        Err(refusal) => UnitRefusal::Stopped(refusal),
+    }
+}
+
+/// Checks the repository: looks, reads the safe root and each blob that it reaches, once, compares what it read, and ends the
+/// check. Where a fetch failed, or a blob is absent, doesn't read, has another print than is stated or disagrees with one that was
+/// read before, the check ends as failed, with the first of these.
+pub fn check<Q: CheckDesk>(alloc: Global, desk: &mut Q) -> Result<Checked, UnitRefusal>
+    requires alone { Q.start.alone ≡ true }
+    ensures ok { IfOk result (λ c. HasChecked Q.start (Q.seen desk.old) (Q.seen desk.new) c.snapshots c.blobs) }
+    ensures refused { IfErr result (IsCheckRefused (record { stage = Q.Stage.faults; fetch = Q.Fetch.faults }) Q.start
+        (Q.seen desk.old) (Q.seen desk.new)) }
+    ensures asked { AsksOne (Q.seen desk.old) (Q.seen desk.new) result }
+    ensures unchecked { OnErr result (NoneChecked (Q.seen desk.old) (Q.seen desk.new)) }
+    ensures grew { GrewBy Q.start 0 (Q.seen desk.old) (Q.seen desk.new) }
+{
+    laws();
+    let look = match desk.look(alloc) {
+        Ok(look) => look,
+        Err(refusal) => return Err(UnitRefusal::Stopped(refusal)),
+    };
+    let snapshots = listed_count(&look);
+    let blobs = match read_all(alloc, desk, look.safe) {
+        Ok(blobs) => blobs,
+        Err(trouble) => {
+            desk.never_fails();
+            return Err(fail(alloc, desk, trouble));
+        }
+    };
+    match desk.checked(alloc, snapshots, blobs) {
+        Ok(()) => Ok(Checked { snapshots, blobs }),
+        Err(refusal) => Err(UnitRefusal::Stopped(refusal)),
+    }
+}

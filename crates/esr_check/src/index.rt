@@ -1,0 +1,64 @@
+//! The indices of the root: their shards.
+ghost use Rattle.std.specs.Prelude.{◌≡◌, ◌<◌, true, map, length, IfErr, OnOk};
+ghost use Rattle.esr_formats.specs.Infos.{info_of_code};
+ghost use Rattle.esr_formats.specs.Roots.{root_of};
+ghost use Rattle.esr_checking.specs.Caller.{caller_of};
+ghost use Rattle.esr_check.specs.Names.{IsOfAnyShard, AreUnfetched};
+ghost use Rattle.esr_check.specs.Pieces.{HasSafe, HasInfos, HasIndices};
+ghost use Rattle.esr_check.specs.Trouble.{Shown};
+ghost use Rattle.esr_check.specs.Went.{IsSoFar, Went};
+
+use crate::shard::check_shards;
+use crate::trouble::Trouble;
+use esr_checking::CheckDesk;
+use esr_meta::SnapInfo;
+use esr_root::RootData;
+use std::alloc::Global;
+
+/// Index by index, shard by shard.
+fn check_each<Q: CheckDesk>(
+    alloc: Global,
+    desk: &mut Q,
+    count: &mut u64,
+    root: &RootData,
+    infos: &[SnapInfo],
+    buf: &mut [u8],
+) -> Result<(), Trouble<Q::Fetch>>
+    requires alone { Q.start.alone ≡ true }
+    requires root { HasSafe Q.start (Q.seen desk.old) (root_of root.now) }
+    requires infos { HasInfos Q.start (caller_of Q.start (Q.seen desk.old)) (root_of root.now) (map info_of_code infos.now) }
+    requires buffer { 0 < length buf.old }
+    requires new { AreUnfetched (caller_of Q.start (Q.seen desk.old)) IsOfAnyShard }
+    requires so_far { IsSoFar Q.start (Q.seen desk.old) count.old }
+    ensures indices { OnOk result (HasIndices Q.start (caller_of Q.start (Q.seen desk.new)) (root_of root.now) (map info_of_code infos.now) (root_of root.now).indices) }
+    ensures so_far { OnOk result (IsSoFar Q.start (Q.seen desk.new) count.new) }
+    ensures trouble { IfErr result (Shown Q.Fetch.faults Q.start (Q.seen desk.new)) }
+    ensures went { Went Q.start (Q.seen desk.old) (Q.seen desk.new) IsOfAnyShard }
+{
+    for index in root.indices.as_slice() {
+        check_shards(alloc, desk, count, root, infos, index, buf)?;
+    }
+    Ok(())
+}
+
+/// All that the root reaches beside the listed snapshots.
+pub fn check_indices<Q: CheckDesk>(
+    alloc: Global,
+    desk: &mut Q,
+    count: &mut u64,
+    root: &RootData,
+    infos: &[SnapInfo],
+) -> Result<(), Trouble<Q::Fetch>>
+    requires alone { Q.start.alone ≡ true }
+    requires root { HasSafe Q.start (Q.seen desk.old) (root_of root.now) }
+    requires infos { HasInfos Q.start (caller_of Q.start (Q.seen desk.old)) (root_of root.now) (map info_of_code infos.now) }
+    requires new { AreUnfetched (caller_of Q.start (Q.seen desk.old)) IsOfAnyShard }
+    requires so_far { IsSoFar Q.start (Q.seen desk.old) count.old }
+    ensures indices { OnOk result (HasIndices Q.start (caller_of Q.start (Q.seen desk.new)) (root_of root.now) (map info_of_code infos.now) (root_of root.now).indices) }
+    ensures so_far { OnOk result (IsSoFar Q.start (Q.seen desk.new) count.new) }
+    ensures trouble { IfErr result (Shown Q.Fetch.faults Q.start (Q.seen desk.new)) }
+    ensures went { Went Q.start (Q.seen desk.old) (Q.seen desk.new) IsOfAnyShard }
+{
+    let mut buf = [0; 65536];
+    check_each(alloc, desk, count, root, infos, &mut buf)
+}

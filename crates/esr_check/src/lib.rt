@@ -1,0 +1,17 @@
+//! The check of a repository: the safe root and each blob that it reaches is read, once, and what was read agrees.
+#![tactic(auto)]
+
+mod cause;
+mod checking;
+mod fetch;
+mod file;
+mod index;
+mod law;
+mod lists;
+mod part;
+mod root;
+mod shard;
+mod snap;
+mod trouble;
+
+pub use checking::{Checked, check};

@@ -1,0 +1,98 @@
+//! The parts of a file, read back one after another for the print of the file.
+ghost use Rattle.std.specs.Prelude.{◌≡◌, ◌+◌, ◌<◌, ◌^◌, true, [], length, IfOk, IfErr};
+ghost use Rattle.esr_model.specs.Values.{Has};
+ghost use Rattle.esr_model.specs.Image.{Generation};
+ghost use Rattle.esr_hash.specs.Fed.{fed_count, HasFed};
+ghost use Rattle.esr_names.specs.Layout.{IsName};
+ghost use Rattle.esr_formats.specs.Names.{name_of};
+ghost use Rattle.esr_formats.specs.Roots.{root_of};
+ghost use Rattle.esr_formats.specs.Shards.{entry_of, shard_index_of};
+ghost use Rattle.esr_shardidx.specs.Entries.{IsEntry};
+ghost use Rattle.esr_checking.specs.Caller.{caller_of};
+ghost use Rattle.esr_checking.specs.Checks.{CanCheck};
+ghost use Rattle.esr_check.specs.Names.{Just, IsOfFile, AreUnfetched};
+ghost use Rattle.esr_check.specs.Parts.{ReadPart, ReadParts};
+ghost use Rattle.esr_check.specs.Pieces.{HasSafe, HasHeld};
+ghost use Rattle.esr_check.specs.Trouble.{Shown};
+ghost use Rattle.esr_check.specs.Went.{IsSoFar, Went};
+
+use crate::fetch::fetch;
+use crate::trouble::Trouble;
+use esr_checking::CheckDesk;
+use esr_hash::Hasher;
+use esr_names::{BlobName, Id, ShardId};
+use esr_parts::{Extent, hash_back, part_plan};
+use esr_root::RootData;
+use esr_shardidx::{FileEntry, ShardIndex, part_count, part_name};
+use std::alloc::Global;
+
+/// Reads a part of `size` bytes, and hashes what it reads. It answers whether the part has exactly that size.
+fn read_part<Q: CheckDesk>(
+    alloc: Global,
+    desk: &mut Q,
+    count: &mut u64,
+    name: BlobName,
+    size: u64,
+    hasher: &mut Hasher,
+    buf: &mut [u8],
+) -> Result<bool, Trouble<Q::Fetch>>
+    requires alone { Q.start.alone ≡ true }
+    requires layout { IsName name }
+    requires may { CanCheck Q.start (Q.seen desk.old) (name_of name) }
+    requires bound { fed_count hasher.old + size + 1 < 2 ^ 61 }
+    requires buffer { 0 < length buf.old }
+    requires so_far { IsSoFar Q.start (Q.seen desk.old) count.old }
+    ensures buffer { length buf.new ≡ length buf.old }
+    ensures read { IfOk result (ReadPart Q.start (caller_of Q.start (Q.seen desk.new)) hasher.old hasher.new (name_of name) size) }
+    ensures so_far { IfOk result (λ w. IsSoFar Q.start (Q.seen desk.new) count.new) }
+    ensures trouble { IfErr result (Shown Q.Fetch.faults Q.start (Q.seen desk.new)) }
+    ensures went { Went Q.start (Q.seen desk.old) (Q.seen desk.new) (Just (name_of name)) }
+{
+    let mut blob = fetch(alloc, desk, count, name)?;
+    match hash_back(&mut blob, hasher, size, buf) {
+        Ok(Extent::Whole) => Ok(true),
+        Ok(Extent::Short) => Ok(false),
+        Ok(Extent::Long) => Ok(false),
+        Err(_) => Err(Trouble::Fetch { fetch: blob }),
+    }
+}
+
+/// Reads the parts of a file, and hashes what it reads. It answers whether each has exactly the size that is stated.
+pub fn read_parts<Q: CheckDesk>(
+    alloc: Global,
+    desk: &mut Q,
+    count: &mut u64,
+    root: &RootData,
+    at: ShardId,
+    generation: Id,
+    held: &ShardIndex,
+    entry: &FileEntry,
+    hasher: &mut Hasher,
+    buf: &mut [u8],
+) -> Result<bool, Trouble<Q::Fetch>>
+    requires alone { Q.start.alone ≡ true }
+    requires root { HasSafe Q.start (Q.seen desk.old) (root_of root.now) }
+    requires few { at.number < 1024 }
+    requires generation { Generation (root_of root.now) at.index.number at.number generation.number }
+    requires held { HasHeld Q.start (caller_of Q.start (Q.seen desk.old)) at.index.number at.number generation.number (shard_index_of held.now) }
+    requires entry { IsEntry entry.now }
+    requires listed { Has (shard_index_of held.now).files (entry_of entry.now) }
+    requires fresh { HasFed hasher.old [] }
+    requires buffer { 0 < length buf.old }
+    requires new { AreUnfetched (caller_of Q.start (Q.seen desk.old)) (IsOfFile at.index.number at.number entry.now.name.number) }
+    requires so_far { IsSoFar Q.start (Q.seen desk.old) count.old }
+    ensures buffer { length buf.new ≡ length buf.old }
+    ensures read { IfOk result (ReadParts Q.start (caller_of Q.start (Q.seen desk.new)) hasher.new at entry.now) }
+    ensures so_far { IfOk result (λ e. IsSoFar Q.start (Q.seen desk.new) count.new) }
+    ensures trouble { IfErr result (Shown Q.Fetch.faults Q.start (Q.seen desk.new)) }
+    ensures went { Went Q.start (Q.seen desk.old) (Q.seen desk.new) (IsOfFile at.index.number at.number entry.now.name.number) }
+{
+    let mut is_exact = true;
+    for number in 0..part_count(entry.print.len, entry.part_size) {
+        let (_, size) = part_plan(entry.print.len, entry.part_size, number);
+        let name = part_name(at, entry, number);
+        let is_whole = read_part(alloc, desk, count, name, size, hasher, buf)?;
+        is_exact = is_exact && is_whole;
+    }
+    Ok(is_exact)
+}

@@ -1,0 +1,151 @@
+-- What shows why a check failed.
+use Rattle.std.specs.Prelude.{◌≡◌, ◌⊎◌, ℕ, ◌<◌, true, false, List, [], ◌∷◌, ◌++◌, length, Some, None}
+use Rattle.esr_model.specs.Names.{BlobName, Root, Latest, Snap, Meta, IndexMeta, ShardSnap, ShardIndex, File, Part, TestMaster, TestNode}
+use Rattle.esr_model.specs.Values.{Bytes, Has, IndexRef, RootSnap, RootData, SnapInfo, GlobalMeta, IndexMetadata, FileEntry, ShardSnapshot, ShardFiles, Kind, Formats}
+use Rattle.std.specs.List.{concat}
+use Rattle.esr_model.specs.Image.{Lists, global_of}
+use Rattle.esr_model.specs.Parts.{part_names}
+use Rattle.esr_model.specs.Agreement.{Agrees, IsListOf}
+use Rattle.esr_core.specs.World.{Caller}
+use Rattle.esr_core.specs.Restores.{WasRead}
+use Rattle.esr_core.specs.Allowed.{IsChecking}
+use Rattle.esr_core.specs.Entry.{Why, OfDepot, OfSource, OfChange, OfDamage, OfTaken, OfIdsSpent, OfGenerationsSpent, OfTarget, OfPrint, OfDisagreement, LookStep, ReadStep, ReadBlob, WasAbsent, Reply, Refused, DepotFault, Moment}
+use Rattle.esr_desk.specs.declared.fault.FailedObject.TheVariants as objects
+use Rattle.esr_desk.specs.declared.fault.By.{By}
+use Rattle.esr_desk.specs.declared.fault.By.TheVariants as by
+use Rattle.esr_desk.specs.Start.{Start, formats_of, world_of}
+use Rattle.esr_desk.specs.Shown.{Faulty, ReadShown}
+use Rattle.esr_reading.specs.Parts.{AreFronts, AreExact}
+use Rattle.esr_checking.specs.Caller.{caller_of}
+use Rattle.esr_checking.specs.Shown.{Counts}
+
+-- ---- what was asked and answered
+
+-- each of these steps is a fetch of who 0
+abbrev pub AllFetches : List Moment → Type 0
+AllFetches [] = Unit {0}
+AllFetches (m ∷ more) = (m.entry.who ≡ 0) × ((name : BlobName) × (m.entry.step ≡ ReadStep (ReadBlob name))) × AllFetches more
+
+-- a fetch of the check that is open was answered so: between the look that began it and now there are fetches alone
+pub record HadAnswer (log : List Moment) (name : BlobName) (reply : Reply) : Type 0 where
+  pub before : List Moment
+  pub look : Moment
+  pub between : List Moment
+  pub moment : Moment
+  pub back : List Moment
+  pub is : log ≡ before ++ look ∷ between ++ moment ∷ back
+  pub looker : look.entry.who ≡ 0
+  pub looks : look.entry.step ≡ LookStep
+  pub earlier : AllFetches between
+  pub of : moment.entry.who ≡ 0
+  pub step : moment.entry.step ≡ ReadStep (ReadBlob name)
+  pub reply_is : moment.entry.reply ≡ reply
+  pub later : AllFetches back
+
+-- the blob was fetched and was there; where the container tells, these are its bytes
+pub record HasFetched (s : Start) (c : Caller) (name : BlobName) (bytes : Bytes) : Type 0 where
+  pub found : Has c.found name
+  pub read : s.tells ≡ true → WasRead c.read name bytes
+
+-- and they read as this value
+pub record ReadAs {V : Type 0} (s : Start) (c : Caller) (name : BlobName) (kind : Kind V) (v : V) : Type 0 where
+  pub bytes : Bytes
+  pub fetched : HasFetched s c name bytes
+  pub reads : kind.read bytes ≡ Some v
+
+-- ---- absent, or unreadable
+
+-- the bytes don't read as the kind of the blob's name
+abbrev pub IsUnreadable : Formats → BlobName → Bytes → Type 0
+IsUnreadable f (Root n) bytes = f.root.read bytes ≡ None
+IsUnreadable f Latest bytes = ⊥
+IsUnreadable f (Snap u) bytes = f.info.read bytes ≡ None
+IsUnreadable f (Meta u) bytes = f.global.read bytes ≡ None
+IsUnreadable f (IndexMeta i u) bytes = f.index_meta.read bytes ≡ None
+IsUnreadable f (ShardSnap i k u) bytes = f.shard_snap.read bytes ≡ None
+IsUnreadable f (ShardIndex i k g) bytes = f.shard_index.read bytes ≡ None
+IsUnreadable f (File i k x) bytes = ⊥
+IsUnreadable f (Part i k x p) bytes = ⊥
+IsUnreadable f (TestMaster v) bytes = ⊥
+IsUnreadable f (TestNode v n) bytes = ⊥
+
+-- a reached blob was absent, or what was fetched doesn't read
+abbrev pub IsDamaged : Start → List Moment → BlobName → Type 0
+IsDamaged s log name = HadAnswer log name WasAbsent ⊎ ((bytes : Bytes) × HasFetched s (caller_of s log) name bytes × IsUnreadable (formats_of s) name bytes)
+
+-- ---- prints
+
+-- The index of a shard, as it was read, lists the file whose blob without a part number has this name, and this was read of its parts.
+pub record HasReadFile (s : Start) (c : Caller) (name : BlobName) (fronts : List Bytes) : Type 0 where
+  pub index : ℕ
+  pub shard : ℕ
+  pub generation : ℕ
+  pub held : ShardFiles
+  pub held_read : ReadAs s c (ShardIndex index shard generation) (formats_of s).shard_index held
+  pub e : FileEntry
+  pub listed : Has held.files e
+  pub name_is : name ≡ File index shard e.name
+  pub found : (part : BlobName) → Has (part_names index shard e) part → Has c.found part
+  pub read : s.tells ≡ true → AreFronts (WasRead c.read) index shard e fronts
+
+-- the print of what was read of a file isn't the stated one
+pub record IsMisprinted (s : Start) (c : Caller) (name : BlobName) (stated_len : ℕ) (stated_digest : Bytes) (found_len : ℕ) (found_digest : Bytes) : Type 0 where
+  pub fronts : List Bytes
+  pub file : HasReadFile s c name fronts
+  pub stated_len_is : stated_len ≡ file.e.len
+  pub stated_digest_is : stated_digest ≡ file.e.digest
+  pub found_len_is : found_len ≡ length (concat fronts)
+  pub found_digest_is : found_digest ≡ (formats_of s).digest (concat fronts)
+  pub differ : stated_len ≡ found_len → stated_digest ≡ found_digest → ⊥
+
+-- ---- two blobs that disagree
+
+-- Two blobs that were read disagree, the second one being that which was read before.
+pub data Disagree (s : Start) (c : Caller) : BlobName → BlobName → Type 0 where
+  -- the info of a listed snapshot, beside the root
+  InfoBeside : (n : ℕ) (root : RootData) (snap : RootSnap) (info : SnapInfo) → ReadAs s c (Root n) (formats_of s).root root → Has root.snapshots snap → ReadAs s c (Snap snap.uuid) (formats_of s).info info → (Agrees root snap info → ⊥)
+      → Disagree s c (Snap snap.uuid) (Root n)
+  -- its metadata, beside its info
+  GlobalBeside : (uuid : ℕ) (info : SnapInfo) (meta : GlobalMeta) → ReadAs s c (Snap uuid) (formats_of s).info info → ReadAs s c (Meta uuid) (formats_of s).global meta → (meta ≡ global_of info → ⊥) → Disagree s c (Meta uuid) (Snap uuid)
+  IndexMetaBeside : (uuid : ℕ) (info : SnapInfo) (r : IndexRef) (meta : IndexMetadata) → ReadAs s c (Snap uuid) (formats_of s).info info → Has info.indices r → ReadAs s c (IndexMeta r.id uuid) (formats_of s).index_meta meta
+      → (meta ≡ record { index = r; uuid = uuid } → ⊥) → Disagree s c (IndexMeta r.id uuid) (Snap uuid)
+  -- the index of a shard that its info has, beside its info: it doesn't list the snapshot
+  IndexBeside : (uuid : ℕ) (info : SnapInfo) (r : IndexRef) (index shard generation : ℕ) (held : ShardFiles) → ReadAs s c (Snap uuid) (formats_of s).info info → Has info.indices r → r.id ≡ index → shard < r.shards
+      → ReadAs s c (ShardIndex index shard generation) (formats_of s).shard_index held → (IsListOf held uuid → ⊥) → Disagree s c (ShardIndex index shard generation) (Snap uuid)
+  -- what the snapshot has of a shard of its info, beside the index of the shard: other files are listed
+  SnapBeside : (uuid : ℕ) (info : SnapInfo) (r : IndexRef) (index shard generation : ℕ) (held : ShardFiles) (snap : ShardSnapshot) → ReadAs s c (Snap uuid) (formats_of s).info info → Has info.indices r → r.id ≡ index → shard < r.shards
+      → ReadAs s c (ShardIndex index shard generation) (formats_of s).shard_index held → ReadAs s c (ShardSnap index shard uuid) (formats_of s).shard_snap snap → (Lists held uuid snap.files → ⊥)
+      → Disagree s c (ShardSnap index shard uuid) (ShardIndex index shard generation)
+  -- a file of the stated print, beside the index of its shard: its parts are cut otherwise
+  FileBeside : (name : BlobName) (fronts : List Bytes) (file : HasReadFile s c name fronts) → length (concat fronts) ≡ file.e.len → (formats_of s).digest (concat fronts) ≡ file.e.digest → (AreExact file.index file.shard file.e fronts → ⊥)
+      → Disagree s c name (ShardIndex file.index file.shard file.generation)
+
+-- ---- by its cause
+
+-- the container isn't quiet, and a fetch has failed, or the container did in a fetch
+abbrev pub DepotShown : {S F H T : Type 0} → Counts S F → Start → List Moment → By S F H T → Type 0
+DepotShown c s log (by.Object (objects.Stage stage)) = ⊥
+DepotShown c s log (by.Object (objects.Fetch fetch)) = Faulty s (c.fetch fetch)
+DepotShown c s log (by.Object (objects.Shard shard)) = ⊥
+DepotShown c s log (by.Object (objects.Target target)) = ⊥
+DepotShown c s log by.Entry = ((name : BlobName) × HadAnswer log name (Refused DepotFault)) × (s.quiet ≡ false)
+DepotShown c s log by.Nothing = ⊥
+
+abbrev pub IsShownBy : {S F H T : Type 0} → Counts S F → Start → List Moment → Why → By S F H T → Type 0
+IsShownBy c s log OfDepot b = DepotShown c s log b
+IsShownBy c s log (OfDamage name) b = ReadShown b (IsDamaged s log name)
+IsShownBy c s log (OfPrint name stated_len stated_digest found_len found_digest) b = ReadShown b (IsMisprinted s (caller_of s log) name stated_len stated_digest found_len found_digest)
+IsShownBy c s log (OfDisagreement name other) b = ReadShown b (Disagree s (caller_of s log) name other)
+-- these are of snapshots, restores and verifications
+IsShownBy c s log OfSource b = ⊥
+IsShownBy c s log (OfChange first_len first_digest second_len second_digest) b = ⊥
+IsShownBy c s log (OfTaken name) b = ⊥
+IsShownBy c s log (OfIdsSpent next) b = ⊥
+IsShownBy c s log (OfGenerationsSpent pending) b = ⊥
+IsShownBy c s log OfTarget b = ⊥
+
+-- A check is open, and its failure is shown: an object that failed, or a fetch; or a reached blob is absent or doesn't read; or a file
+-- has another print than is stated; or two blobs disagree.
+pub record IsCheckShown {S F H T : Type 0} (c : Counts S F) (s : Start) (log : List Moment) (why : Why) (b : By S F H T) : Type 0 where
+  pub is_open : IsChecking (world_of s log)
+  pub shown : IsShownBy c s log why b

@@ -1,8 +1,0 @@
-use Rattle.esr_opening.proofs.Served.{test_holds, holds_test}
-use Rattle.esr_opening.proofs.laws.agreement_is.Goals as goal
-
-pub returns-clause-holds : goal.returns-clause-holds
-returns-clause-holds c = test_holds
-
-pub returns-clause-only : goal.returns-clause-only
-returns-clause-only c = holds_test

@@ -1,0 +1,234 @@
+-- Histories without a check that failed, and those whose checks are whole.
+use Rattle.std.proofs.Common.{◌≡◌, ◌≢◌, ◌⊎◌, ℕ, true, false, true≢false, List, [], ◌∷◌, ◌++◌, append-nil, append_assoc, Option, Some, None, refl, sym, ap, ◌∙◌, subst, inl, inr, ⊎_elim}
+use Rattle.esr_model.specs.Values.{Bytes, Has, Formats}
+use Rattle.esr_model.specs.Names.{BlobName}
+use Rattle.esr_model.specs.Image.{Image}
+use Rattle.esr_core.specs.World.{World, Caller}
+use Rattle.esr_core.specs.Entry.{Read, ReadBlob, BeginTest, CommitTest, RemoveTests, CheckedAll, DrawTest, VerifiedAll, ReadFails, Why, Step, ReadStep, Reply, WasFetched, WasAbsent, WasDone, WasRemoved, DrawnFrom, IdsSpent, DeposedAt, Refused, HasEnded, Moment}
+use Rattle.esr_core.specs.After.{told_blob, caller_told, caller_wrote, caller_after}
+use Rattle.esr_core.specs.Allowed as allowed
+use Rattle.esr_core.specs.Allowed.{IsChecking, ReadAllows, ReadFound, VerifyAllows, DrawingTest, TestSpent, Allows, Allowed}
+use Rattle.esr_core.proofs.Histories.{deposed_stays}
+use Rattle.esr_desk.specs.Start.{Start, Legal, formats_of, world_of}
+use Rattle.esr_checking.specs.Caller.{caller_of}
+use Rattle.esr_quiet.proofs.Callers.{caller_one}
+use Rattle.esr_quiet.proofs.Prefixes.{legal_front}
+use Rattle.esr_verify.specs.Began.{IsFurther, AllFurther, HasBegun, BeganOne, NotBegun, Begun}
+use Rattle.esr_run.specs.Checked.{AreChecked, NoCheckFails}
+use Rattle.esr_run.proofs.Making.{world_one, legal_one}
+
+-- ---- the last of a list
+
+pub no_cons : {A : Type 0} (front : List A) (y : A) (back : List A) → [] ≡ front ++ y ∷ back → ⊥
+no_cons [] y back e = cc
+no_cons (x ∷ front) y back e = cc
+
+-- where something stands in a list with one more: it is the last, or stands in the list
+pub split_end : {A : Type 0} (xs : List A) (last : A) (front : List A) (y : A) (back : List A) → xs ++ last ∷ [] ≡ front ++ y ∷ back → ((front ≡ xs) × (last ≡ y)) ⊎ ((rest : List A) × (xs ≡ front ++ y ∷ rest))
+split_end [] last [] y back e = inl (refl, cc)
+split_end [] last (x ∷ front) y back e = absurd (no_cons front y back (let rest : [] ≡ front ++ y ∷ back = cc in rest))
+split_end {A} (x ∷ xs) last [] y back e = let same : x ≡ y = cc in inr (xs, ap (λ (z : A). z ∷ xs) same)
+split_end {A} (x ∷ xs) last (z ∷ front) y back e =
+    let same : x ≡ z = cc in
+    let rest : xs ++ last ∷ [] ≡ front ++ y ∷ back = cc in
+    ⊎_elim
+    (λ (here : (front ≡ xs) × (last ≡ y)). inl (ap (λ (w : A). w ∷ front) (sym same) ∙ ap (λ (l : List A). x ∷ l) here.0, here.1))
+    (λ (earlier : (r : List A) × (xs ≡ front ++ y ∷ r)). inr (earlier.0, ap (λ (l : List A). x ∷ l) earlier.1 ∙ ap (λ (w : A). w ∷ (front ++ y ∷ earlier.0)) same))
+    (split_end xs last front y back rest)
+
+-- ---- whether a check is open, by what who 0 has done
+
+abbrev IsOpen : Caller → Type 0
+IsOpen c = (c.looked ≡ true) × (c.drawn ≡ None) × (c.spent ≡ false)
+
+told_open : (c : Caller) (name : BlobName) (told : Option Bytes) → IsOpen (caller_told c name told) → IsOpen c
+told_open c name None is_open = is_open
+told_open c name (Some bytes) is_open = is_open
+
+wrote_open : (c : Caller) (name : BlobName) (contents : Option Bytes) → IsOpen (caller_wrote c name contents) → IsOpen c
+wrote_open c name None is_open = is_open
+wrote_open c name (Some bytes) is_open = is_open
+
+not_true : false ≡ true → ⊥
+not_true e = cc
+
+blob_open : (f : Formats) (c : Caller) (name : BlobName) (reply : Reply) (image : Option Image) → IsOpen (caller_after f c 0 (ReadStep (ReadBlob name)) reply image) → IsOpen c
+blob_open f c name WasFetched image is_open = told_open c name (told_blob f image name) is_open
+blob_open f c name WasAbsent image is_open = is_open
+blob_open f c name reply image is_open = is_open
+
+commit_open : (f : Formats) (c : Caller) (name : BlobName) (reply : Reply) (image : Option Image) → IsOpen (caller_after f c 0 (ReadStep (CommitTest name)) reply image) → IsOpen c
+commit_open f c name WasDone image is_open = wrote_open c name (told_blob f image name) is_open
+commit_open f c name reply image is_open = is_open
+
+remove_open : (f : Formats) (c : Caller) (names : List BlobName) (reply : Reply) (image : Option Image) → IsOpen (caller_after f c 0 (ReadStep (RemoveTests names)) reply image) → IsOpen c
+remove_open f c names WasRemoved image is_open = is_open
+remove_open f c names reply image is_open = is_open
+
+verified_open : (f : Formats) (c : Caller) (reply : Reply) (image : Option Image) → IsOpen (caller_after f c 0 (ReadStep VerifiedAll) reply image) → IsOpen c
+verified_open f c HasEnded image is_open = absurd (not_true is_open.0)
+verified_open f c reply image is_open = is_open
+
+failed_open : (f : Formats) (c : Caller) (why : Why) (reply : Reply) (image : Option Image) → IsOpen (caller_after f c 0 (ReadStep (ReadFails why)) reply image) → IsOpen c
+failed_open f c why HasEnded image is_open = absurd (not_true is_open.0)
+failed_open f c why reply image is_open = is_open
+
+-- no further step of a verification opens a check
+further_open : (f : Formats) (c : Caller) (read : Read) (reply : Reply) (image : Option Image) → IsFurther read → IsOpen (caller_after f c 0 (ReadStep read) reply image) → IsOpen c
+further_open f c (ReadBlob name) reply image further is_open = blob_open f c name reply image is_open
+further_open f c (BeginTest name) reply image further is_open = is_open
+further_open f c (CommitTest name) reply image further is_open = commit_open f c name reply image is_open
+further_open f c (RemoveTests names) reply image further is_open = remove_open f c names reply image is_open
+further_open f c VerifiedAll reply image further is_open = verified_open f c reply image is_open
+further_open f c (ReadFails why) reply image further is_open = failed_open f c why reply image is_open
+further_open f c read reply image further is_open = absurd further
+
+-- ---- nor does a draw
+
+abbrev OfDraw : Step → Reply → Type 0
+OfDraw (ReadStep DrawTest) (DrawnFrom first) = Unit {0}
+OfDraw (ReadStep DrawTest) (Refused (IdsSpent next)) = Unit {0}
+OfDraw (ReadStep DrawTest) reply = ⊥
+OfDraw step reply = Unit {0}
+
+read_draws : (f : Formats) (w : World) (who : ℕ) (read : Read) (reply : Reply) (image : Option Image) → ReadAllows f w who read reply image → OfDraw (ReadStep read) reply
+read_draws f w who read reply image (ReadFound k name im stored by told) = tt
+read_draws f w who read reply image a = tt
+
+verify_draws : (f : Formats) (w : World) (read : Read) (reply : Reply) (image : Option Image) → VerifyAllows f w read reply image → OfDraw (ReadStep read) reply
+verify_draws f w read reply image (DrawingTest im may fits same) = tt
+verify_draws f w read reply image (TestSpent im may spent same) = tt
+verify_draws f w read reply image a = tt
+
+draws : (f : Formats) (size : ℕ) (w : World) (who : ℕ) (step : Step) (reply : Reply) (image : Option Image) → Allows f size w who step reply image → OfDraw step reply
+draws f size w who step reply image (allowed.Reading k read rep im a same) = read_draws f w k read rep im a
+draws f size w who step reply image (allowed.Verifying read rep im a) = verify_draws f w read rep im a
+draws f size w who step reply image a = tt
+
+some_not_none : (n : ℕ) → ◌≡◌ {A = Option ℕ} (Some n) None → ⊥
+some_not_none n e = cc
+
+true_not_false : true ≡ false → ⊥
+true_not_false e = cc
+
+draw_closed : (f : Formats) (c : Caller) (reply : Reply) (image : Option Image) → OfDraw (ReadStep DrawTest) reply → IsOpen (caller_after f c 0 (ReadStep DrawTest) reply image) → ⊥
+draw_closed f c (DrawnFrom first) image of is_open = some_not_none first is_open.1
+draw_closed f c (Refused (IdsSpent next)) image of is_open = true_not_false is_open.2
+draw_closed f c reply image of is_open = of
+
+-- ---- worlds in which no check is open, or that are deposed
+
+abbrev IsSafe : Start → List Moment → Type 0
+IsSafe s log = (IsOpen (caller_of s log) → ⊥) ⊎ ((world_of s log).deposed ≡ true)
+
+module _ (s : Start) (log : List Moment) (m : Moment) (legal : Legal s (log ++ m ∷ [])) where
+  is_allowed : Allowed (formats_of s) s.part_size (world_of s log) m
+  is_allowed = (legal_one (formats_of s) s.part_size s.world log m legal).1.0
+
+  caller_then : (step : Step) → m.entry.who ≡ 0 → m.entry.step ≡ step → caller_of s (log ++ m ∷ []) ≡ caller_after (formats_of s) (caller_of s log) 0 step m.entry.reply m.image
+  caller_then step who is =
+      caller_one s log m
+      ∙ ap (λ (k : ℕ). caller_after (formats_of s) (caller_of s log) k m.entry.step m.entry.reply m.image) who
+      ∙ ap (λ (x : Step). caller_after (formats_of s) (caller_of s log) 0 x m.entry.reply m.image) is
+
+  dead_then : (world_of s log).deposed ≡ true → (world_of s (log ++ m ∷ [])).deposed ≡ true
+  dead_then dead = elim is_allowed.answered [
+    | inl alive ↦ absurd (true≢false (sym dead ∙ alive.0))
+    | inr d ↦ ap (λ (w : World). w.deposed) (world_one (formats_of s) s.world log m ∙ deposed_stays (formats_of s) (world_of s log) m d) ∙ dead
+  ]
+
+  safe_further : (read : Read) → m.entry.who ≡ 0 → m.entry.step ≡ ReadStep read → IsFurther read → IsSafe s log → IsSafe s (log ++ m ∷ [])
+  safe_further read who is further (inl none) = inl (λ is_open. none (further_open (formats_of s) (caller_of s log) read m.entry.reply m.image further (subst IsOpen (caller_then (ReadStep read) who is) is_open)))
+  safe_further read who is further (inr dead) = inr (dead_then dead)
+
+  safe_draw : m.entry.who ≡ 0 → m.entry.step ≡ ReadStep DrawTest → IsSafe s (log ++ m ∷ [])
+  safe_draw who is = elim is_allowed.answered [
+    | inl alive ↦ inl (λ is_open. draw_closed (formats_of s) (caller_of s log) m.entry.reply m.image
+        (subst (λ (x : Step). OfDraw x m.entry.reply) is (draws (formats_of s) s.part_size (world_of s log) m.entry.who m.entry.step m.entry.reply m.image alive.1)) (subst IsOpen (caller_then (ReadStep DrawTest) who is) is_open))
+    | inr d ↦ inr (dead_then d.deposed)
+  ]
+
+  -- so it isn't the end of a check that failed
+  safe_end : (why : Why) → m.entry.reply ≡ HasEnded → IsSafe s log → IsChecking (world_of s log) → ⊥
+  safe_end why reply (inl none) is_open = none (is_open.looked, is_open.undrawn, is_open.unspent)
+  safe_end why reply (inr dead) is_open = elim is_allowed.answered [
+    | inl alive ↦ true≢false (sym dead ∙ alive.0)
+    | inr d ↦ no_refusal d.place (sym reply ∙ d.refused)
+  ]
+    where
+      no_refusal : (place : ℕ) → HasEnded ≡ Refused (DeposedAt place) → ⊥
+      no_refusal place e = cc
+
+-- ---- one moment more
+
+pub fails_other : (s : Start) (log : List Moment) (m : Moment) → ((why : Why) → m.entry.who ≡ 0 → m.entry.step ≡ ReadStep (ReadFails why) → ⊥) → NoCheckFails s log → NoCheckFails s (log ++ m ∷ [])
+fails_other s log m other was front back x why is who step reply is_open = elim (split_end log m front x back is) [
+  | inl last ↦ other why (ap (λ (y : Moment). y.entry.who) last.1 ∙ who) (ap (λ (y : Moment). y.entry.step) last.1 ∙ step)
+  | inr before ↦ was front before.0 x why before.1 who step reply is_open
+]
+
+fails_one : (s : Start) (log : List Moment) (m : Moment) → Legal s (log ++ m ∷ []) → IsSafe s log → NoCheckFails s log → NoCheckFails s (log ++ m ∷ [])
+fails_one s log m legal safe was front back x why is who step reply is_open = elim (split_end log m front x back is) [
+  | inl last ↦ safe_end s log m legal why (ap (λ (y : Moment). y.entry.reply) last.1 ∙ reply) safe (subst (λ (l : List Moment). IsChecking (world_of s l)) last.0 is_open)
+  | inr before ↦ was front before.0 x why before.1 who step reply is_open
+]
+
+fails_further : (s : Start) (log rest : List Moment) → AllFurther rest → Legal s (log ++ rest) → IsSafe s log → NoCheckFails s log → NoCheckFails s (log ++ rest)
+fails_further s log [] all legal safe was = subst (NoCheckFails s) (sym (append-nil log)) was
+fails_further s log (m ∷ rest) all legal safe was =
+    let both : (log ++ m ∷ []) ++ rest ≡ log ++ m ∷ rest = append_assoc log (m ∷ []) rest in
+    let whole : Legal s ((log ++ m ∷ []) ++ rest) = subst (Legal s) (sym both) legal in
+    let one : Legal s (log ++ m ∷ []) = legal_front (formats_of s) s.part_size (log ++ m ∷ []) rest s.world whole in
+    subst (NoCheckFails s) both (fails_further s (log ++ m ∷ []) rest all.2 whole (safe_further s log m one all.1.0 all.0 all.1.1 all.1.2 safe) (fails_one s log m one safe was))
+
+draw_no_end : (why : Why) → ReadStep DrawTest ≡ ReadStep (ReadFails why) → ⊥
+draw_no_end why e = cc
+
+-- a verification ends no check
+pub begun_unchecked : (s : Start) (old new : List Moment) → HasBegun old new → Legal s new → NoCheckFails s old → NoCheckFails s new
+begun_unchecked s old new h legal was =
+    let both : (old ++ h.draw ∷ []) ++ h.rest ≡ new = append_assoc old (h.draw ∷ []) h.rest ∙ sym h.is in
+    let whole : Legal s ((old ++ h.draw ∷ []) ++ h.rest) = subst (Legal s) (sym both) legal in
+    let one : Legal s (old ++ h.draw ∷ []) = legal_front (formats_of s) s.part_size (old ++ h.draw ∷ []) h.rest s.world whole in
+    subst (NoCheckFails s) both
+    (fails_further s (old ++ h.draw ∷ []) h.rest h.all whole (safe_draw s old h.draw one h.drawer h.drew) (fails_other s old h.draw (λ why who is. draw_no_end why (sym h.drew ∙ is)) was))
+
+pub maybe_unchecked : (s : Start) (old new : List Moment) → BeganOne old new → Legal s new → NoCheckFails s old → NoCheckFails s new
+maybe_unchecked s old new (NotBegun is) legal was = subst (NoCheckFails s) (sym is) was
+maybe_unchecked s old new (Begun draw rest is drawer drew all) legal was = begun_unchecked s old new (record { draw = draw; rest = rest; is = is; drawer = drawer; drew = drew; all = all }) legal was
+
+-- ---- checks that ended well
+
+abbrev pub IsNoCheckEnd : Moment → Type 0
+IsNoCheckEnd m = (snapshots blobs : ℕ) → m.entry.step ≡ ReadStep (CheckedAll snapshots blobs) → m.entry.reply ≢ HasEnded
+
+checked_one : (s : Start) (log : List Moment) (m : Moment) → IsNoCheckEnd m → AreChecked s log → AreChecked s (log ++ m ∷ [])
+checked_one s log m none was front back x snapshots blobs is who step reply = elim (split_end log m front x back is) [
+  | inl last ↦ absurd (none snapshots blobs (ap (λ (y : Moment). y.entry.step) last.1 ∙ step) (ap (λ (y : Moment). y.entry.reply) last.1 ∙ reply))
+  | inr before ↦ was front before.0 x snapshots blobs before.1 who step reply
+]
+
+pub checked_more : (s : Start) (log more : List Moment) → ((m : Moment) → Has more m → IsNoCheckEnd m) → AreChecked s log → AreChecked s (log ++ more)
+checked_more s log [] none was = subst (AreChecked s) (sym (append-nil log)) was
+checked_more s log (m ∷ more) none was = subst (AreChecked s) (append_assoc log (m ∷ []) more) (checked_more s (log ++ m ∷ []) more (λ x h. none x (inr h)) (checked_one s log m (none m (inl refl)) was))
+
+no_check_read : (read : Read) (snapshots blobs : ℕ) → IsFurther read → ReadStep read ≡ ReadStep (CheckedAll snapshots blobs) → ⊥
+no_check_read read snapshots blobs further e = let same : read ≡ CheckedAll snapshots blobs = cc in subst IsFurther same further
+
+further_none : (rest : List Moment) → AllFurther rest → (m : Moment) → Has rest m → IsNoCheckEnd m
+further_none [] all m none snapshots blobs step reply = none
+further_none (x ∷ rest) all m (inl same) snapshots blobs step reply = no_check_read all.1.0 snapshots blobs all.1.2 (sym all.1.1 ∙ ap (λ (y : Moment). y.entry.step) same ∙ step)
+further_none (x ∷ rest) all m (inr later) snapshots blobs step reply = further_none rest all.2 m later snapshots blobs step reply
+
+draw_no_check : (snapshots blobs : ℕ) → ReadStep DrawTest ≡ ReadStep (CheckedAll snapshots blobs) → ⊥
+draw_no_check snapshots blobs e = cc
+
+pub begun_checked : (s : Start) (old new : List Moment) → HasBegun old new → AreChecked s old → AreChecked s new
+begun_checked s old new h was =
+    subst (AreChecked s) (sym h.is)
+    (checked_more s old (h.draw ∷ h.rest)
+    (λ m has. ⊎_elim (λ (same : h.draw ≡ m). λ snapshots blobs step reply. draw_no_check snapshots blobs (sym h.drew ∙ ap (λ (y : Moment). y.entry.step) same ∙ step)) (λ (later : Has h.rest m). further_none h.rest h.all m later) has) was)
+
+pub maybe_checked : (s : Start) (old new : List Moment) → BeganOne old new → AreChecked s old → AreChecked s new
+maybe_checked s old new (NotBegun is) was = subst (AreChecked s) (sym is) was
+maybe_checked s old new (Begun draw rest is drawer drew all) was = begun_checked s old new (record { draw = draw; rest = rest; is = is; drawer = drawer; drew = drew; all = all }) was
