@@ -11,7 +11,7 @@ use Rattle.esr_desk.specs.Refusals.{refusal_of, told_refusal}
 use Rattle.esr_desk.specs.Start.{Start}
 use Rattle.esr_desk.specs.Outcome.{Stepped, Refusing, Outcome}
 use Rattle.esr_desk.specs.Grew.{GrewBy, AllOf}
-use Rattle.esr_checking.specs.CheckShown.{AllFetches}
+use Rattle.esr_checking.specs.CheckShown.{AllFetches, SinceLook}
 use Rattle.esr_reach.specs.Members.{has_either}
 use Rattle.esr_check.specs.Began.{IsOfCheck, AllOfCheck, HasBegun, NotBegun, Begun, AsksOne, NoneChecked}
 use Rattle.esr_check.specs.Went.{Went}
@@ -77,6 +77,20 @@ looked_begun s old new reply alone h = record {
   looks = refl;
   all = tt;
 }
+
+-- and fetches
+pub since_look : (s : Start) (old mid new : List Moment) (reply : Reply) (P : BlobName → Type 0) → s.alone ≡ true → Stepped s old mid 0 LookStep reply → Went s mid new P → SinceLook new
+since_look s old mid new reply P alone step went =
+    let look = moment_of s old mid LookStep reply alone step in
+    record {
+      before = old;
+      look = look;
+      fetches = went.more;
+      is = went.is ∙ ap (λ (log : List Moment). log ++ went.more) (stepped_is s old mid LookStep reply alone step) ∙ append_assoc old (look ∷ []) went.more;
+      looker = refl;
+      looks = refl;
+      all = went.all;
+    }
 
 -- and further steps
 pub begun_on : (s : Start) (old mid new : List Moment) (reply : Reply) → s.alone ≡ true → Stepped s old mid 0 LookStep reply → GrewOfCheck s mid new → HasBegun old new

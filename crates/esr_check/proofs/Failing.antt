@@ -1,6 +1,6 @@
 -- How a check fails.
 use Rattle.std.proofs.Common.{◌≡◌, true, List, ◌∷◌, ◌++◌, Result, Ok, Err, IfOk, refl, sym, subst}
-use Rattle.esr_core.specs.Entry.{Why, OfDepot, OfSource, OfChange, OfDamage, OfTaken, OfIdsSpent, OfGenerationsSpent, OfTarget, OfPrint, OfDisagreement, ReadFails, ReadStep, HasEnded, Moment}
+use Rattle.esr_core.specs.Entry.{Why, OfDepot, OfSource, OfChange, OfAbsence, OfUnreadable, OfAhead, OfTaken, OfIdsSpent, OfGenerationsSpent, OfTarget, OfPrint, OfDisagreement, ReadFails, ReadStep, WasAbsent, HasEnded, Moment}
 use Rattle.esr_desk.specs.declared.entry.Why.{Why as CodeWhy}
 use Rattle.esr_desk.specs.declared.entry.Why.TheVariants as whys
 use Rattle.esr_desk.specs.declared.refusal.EntryRefusal.TheVariants as refusals
@@ -20,7 +20,7 @@ use Rattle.esr_desk.specs.Unquiet.{unquiet}
 use Rattle.esr_core.specs.Allowed.{IsChecking}
 use Rattle.esr_checking.specs.Caller.{caller_of}
 use Rattle.esr_checking.specs.Shown.{Counts}
-use Rattle.esr_checking.specs.CheckShown.{IsDamaged, IsMisprinted, Disagree, DepotShown, IsShownBy, IsCheckShown}
+use Rattle.esr_checking.specs.CheckShown.{SinceLook, HadAnswer, WasUnreadable, IsMisprinted, Disagree, DepotShown, IsShownBy, IsCheckShown}
 use Rattle.esr_check.specs.declared.cause.Cause.{Cause}
 use Rattle.esr_check.specs.declared.trouble.Trouble.{Trouble}
 use Rattle.esr_check.specs.declared.trouble.Trouble.TheVariants as troubles
@@ -39,7 +39,9 @@ found_shown : (H T : Type 0) {S F : Type 0} (c : Counts S F) (s : Start) (log : 
 found_shown H T c s log whys.Depot h = h
 found_shown H T c s log whys.Source h = h
 found_shown H T c s log (whys.Changed first second) h = h
-found_shown H T c s log (whys.Damaged name) h = h
+found_shown H T c s log (whys.Absent name) h = h
+found_shown H T c s log (whys.Unreadable name reason) h = h
+found_shown H T c s log (whys.Ahead name) h = h
 found_shown H T c s log (whys.NameTaken name) h = h
 found_shown H T c s log (whys.IdsSpent next) h = h
 found_shown H T c s log (whys.GenerationsSpent number) h = h
@@ -78,10 +80,10 @@ pub ok_if : {X E : Type 0} (result : Result X E) (x : X) (P : X → Type 0) → 
 ok_if {X} (Ok y) x P is h = let same : ◌≡◌ {A = X} y x = cc in subst P same h
 ok_if (Err e) x P is h = absurd cc
 
-pub may_fail : (H T : Type 0) {S F : Type 0} (c : Counts S F) (s : Start) (log : List Moment) (trouble : Trouble F) → (s.quiet ≡ true → NeverFailed log) → IsAlive s log → IsChecking (world_of s log) → Shown c.fetch s log trouble → IfOk (cause_by {S = S} {F = F} {H = H} {T = T} trouble) (MayFail c s log)
-may_fail H T {S} {F} c s log trouble never alive is_open shown =
+pub may_fail : (H T : Type 0) {S F : Type 0} (c : Counts S F) (s : Start) (log : List Moment) (trouble : Trouble F) → (s.quiet ≡ true → NeverFailed log) → IsAlive s log → IsChecking (world_of s log) → SinceLook log → Shown c.fetch s log trouble → IfOk (cause_by {S = S} {F = F} {H = H} {T = T} trouble) (MayFail c s log)
+may_fail H T {S} {F} c s log trouble never alive is_open since shown =
     if_ok (cause_by {S = S} {F = F} {H = H} {T = T} trouble) (MayFail c s log)
-    (λ (cause : Cause S F H T) (is : cause_by {S = S} {F = F} {H = H} {T = T} trouble ≡ Ok cause). record { alive = alive; shown = record { is_open = is_open; shown = cause_shown c s log never trouble cause shown is } })
+    (λ (cause : Cause S F H T) (is : cause_by {S = S} {F = F} {H = H} {T = T} trouble ≡ Ok cause). record { alive = alive; shown = record { is_open = is_open; since = since; shown = cause_shown c s log never trouble cause shown is } })
 
 -- ---- how it ends then
 
@@ -121,11 +123,13 @@ module _ {S F H T : Type 0} (c : Counts S F) (s : Start) (log : List Moment) whe
 
   plain_by : (why : Why) (b : By S F H T) → IsShownBy c s log why b → IsShownBy c s log why (plain b)
   plain_by OfDepot b h = plain_depot b h
-  plain_by (OfDamage name) b h = plain_read b (IsDamaged s log name) h
+  plain_by (OfAbsence name) b h = plain_read b (HadAnswer log name WasAbsent) h
+  plain_by (OfUnreadable name reason) b h = plain_read b (WasUnreadable s (caller_of s log) name reason) h
   plain_by (OfPrint name stated_len stated_digest found_len found_digest) b h = plain_read b (IsMisprinted s (caller_of s log) name stated_len stated_digest found_len found_digest) h
   plain_by (OfDisagreement name other) b h = plain_read b (Disagree s (caller_of s log) name other) h
   plain_by OfSource b h = absurd h
   plain_by (OfChange first_len first_digest second_len second_digest) b h = absurd h
+  plain_by (OfAhead name) b h = absurd h
   plain_by (OfTaken name) b h = absurd h
   plain_by (OfIdsSpent next) b h = absurd h
   plain_by (OfGenerationsSpent pending) b h = absurd h
@@ -137,5 +141,5 @@ ends_failed c s old new why b alone shown step = record {
   image = step.image;
   is = stepped_is s old new (ReadStep (ReadFails (why_of why))) HasEnded alone step;
   by = plain b;
-  shown = record { is_open = shown.is_open; shown = plain_by c s old (why_of why) b shown.shown };
+  shown = record { is_open = shown.is_open; since = shown.since; shown = plain_by c s old (why_of why) b shown.shown };
 }

@@ -1,8 +1,15 @@
 -- Bytes that were fetched, as they read, or as they don't.
-use Rattle.std.proofs.Common.{◌≡◌, inr, ℕ, ◌<◌, ◌^◌, List, Some, None, refl, sym, subst}
+use Rattle.std.proofs.Common.{◌≡◌, ℕ, ◌<◌, ◌^◌, List, Some, Result, refl, sym, subst}
 use Rattle.esr_json.specs.declared.refusal.Reason.{Reason}
 use Rattle.esr_json.specs.declared.refusal.ReadRefusal.{ReadRefusal}
 use Rattle.esr_json.specs.declared.refusal.ReadRefusal.TheVariants as reads
+use Rattle.esr_json.specs.Steps.{Fails}
+use Rattle.esr_root.specs.Reading.{root_from}
+use Rattle.esr_meta.specs.Info.{info_from}
+use Rattle.esr_meta.specs.Global.{global_from}
+use Rattle.esr_meta.specs.Index.{index_meta_from}
+use Rattle.esr_shardidx.specs.Snapshots.{shard_snap_from}
+use Rattle.esr_shardidx.specs.Indices.{shard_index_from}
 use Rattle.esr_names.specs.declared.ids.Id.{Id}
 use Rattle.esr_names.specs.declared.blob.ShardId.{ShardId}
 use Rattle.esr_names.specs.declared.blob.BlobName.{BlobName as CodeName}
@@ -12,9 +19,9 @@ use Rattle.esr_model.specs.Names.{BlobName}
 use Rattle.esr_model.specs.Values.{Bytes, RootData, SnapInfo, GlobalMeta, IndexMetadata, ShardSnapshot, ShardFiles, Kind}
 use Rattle.esr_core.specs.World.{Caller}
 use Rattle.esr_core.specs.Entry.{Moment}
-use Rattle.esr_formats.specs.Kinds.{IsUnread}
 use Rattle.esr_formats.specs.Formats.{formats}
 use Rattle.esr_formats.specs.Names.{name_of}
+use Rattle.esr_formats.specs.Reasons.{reason_of, refused, unreadable, refused_for}
 use Rattle.esr_formats.specs.Roots.{root_kind}
 use Rattle.esr_formats.specs.Infos.{info_kind}
 use Rattle.esr_formats.specs.Globals.{global_kind}
@@ -22,7 +29,7 @@ use Rattle.esr_formats.specs.IndexMetas.{index_meta_kind}
 use Rattle.esr_formats.specs.Shards.{shard_snap_kind, shard_index_kind}
 use Rattle.esr_desk.specs.Start.{Start, formats_of}
 use Rattle.esr_checking.specs.Caller.{caller_of}
-use Rattle.esr_checking.specs.CheckShown.{HasFetched, ReadAs, IsUnreadable}
+use Rattle.esr_checking.specs.CheckShown.{HasFetched, ReadAs}
 use Rattle.esr_check.specs.declared.trouble.Trouble.{Trouble}
 use Rattle.esr_check.specs.Trouble.{Shown, unread}
 
@@ -84,38 +91,38 @@ module _ (s : Start) (c : Caller) (name : BlobName) (bytes read : Bytes) (same :
 
 -- ---- they don't
 
-none_as : {V : Type 0} (kind : Kind V) (bytes read : Bytes) (refusal : ReadRefusal) → read ≡ bytes → IsUnread kind read refusal → (why : Reason) → refusal ≡ reads.Damaged why → kind.read bytes ≡ None
-none_as kind bytes read reads.Memory same is why damaged = absurd cc
-none_as kind bytes read (reads.Damaged other) same is why damaged = subst (λ (b : Bytes). kind.read b ≡ None) same is
-
 module _ {F : Type 0} (faults : F → ℕ) (s : Start) (log : List Moment) (bytes read : Bytes) (refusal : ReadRefusal) (trouble : Trouble F) (same : read ≡ bytes) where
-  by_refusal : (name : CodeName) (r : ReadRefusal) → HasFetched s (caller_of s log) (name_of name) bytes → ((why : Reason) → r ≡ reads.Damaged why → IsUnreadable (formats_of s) (name_of name) bytes) → Shown faults s log (unread {F = F} name r)
+  by_refusal : (name : CodeName) (r : ReadRefusal) → HasFetched s (caller_of s log) (name_of name) bytes → ((why : Reason) → r ≡ reads.Damaged why → unreadable (name_of name) bytes ≡ Some (reason_of why)) → Shown faults s log (unread {F = F} name r)
   by_refusal name reads.Memory fetched h = tt
-  by_refusal name (reads.Damaged why) fetched h = inr (bytes, fetched, h why refl)
+  by_refusal name (reads.Damaged why) fetched h = (bytes, fetched, h why refl)
 
-  unread_shown : (name : CodeName) → trouble ≡ unread name refusal → HasFetched s (caller_of s log) (name_of name) bytes → ((why : Reason) → refusal ≡ reads.Damaged why → IsUnreadable (formats_of s) (name_of name) bytes) → Shown faults s log trouble
+  unread_shown : (name : CodeName) → trouble ≡ unread name refusal → HasFetched s (caller_of s log) (name_of name) bytes → ((why : Reason) → refusal ≡ reads.Damaged why → unreadable (name_of name) bytes ≡ Some (reason_of why)) → Shown faults s log trouble
   unread_shown name is fetched h = subst (λ (t : Trouble F). Shown faults s log t) (sym is) (by_refusal name refusal fetched h)
 
-  pub root_unread : (n : ℕ) → trouble ≡ unread (names.Root n) refusal → HasFetched s (caller_of s log) (name_of (names.Root n)) bytes → IsUnread root_kind read refusal → Shown faults s log trouble
-  unfolding formats
-  root_unread n is fetched none = unread_shown (names.Root n) is fetched (none_as root_kind bytes read refusal same none)
+  -- the reason that the reader gave is that of the reading
+  first_reason : {C : Type 0} (from : Bytes → Result C Reason) → Fails refusal (from read) → (why : Reason) → refusal ≡ reads.Damaged why → refused (from bytes) ≡ Some (reason_of why)
+  first_reason from fails why is = subst (λ (b : Bytes). refused (from b) ≡ Some (reason_of why)) same (refused_for (from read) refusal why is fails)
 
-  pub info_unread : (u : Id) → trouble ≡ unread (names.Snap u) refusal → HasFetched s (caller_of s log) (name_of (names.Snap u)) bytes → IsUnread info_kind read refusal → Shown faults s log trouble
-  unfolding formats
-  info_unread u is fetched none = unread_shown (names.Snap u) is fetched (none_as info_kind bytes read refusal same none)
+  pub root_unread : (n : ℕ) → trouble ≡ unread (names.Root n) refusal → HasFetched s (caller_of s log) (name_of (names.Root n)) bytes → Fails refusal (root_from read) → Shown faults s log trouble
+  unfolding unreadable
+  root_unread n is fetched fails = unread_shown (names.Root n) is fetched (first_reason root_from fails)
 
-  pub global_unread : (u : Id) → trouble ≡ unread (names.Meta u) refusal → HasFetched s (caller_of s log) (name_of (names.Meta u)) bytes → IsUnread global_kind read refusal → Shown faults s log trouble
-  unfolding formats
-  global_unread u is fetched none = unread_shown (names.Meta u) is fetched (none_as global_kind bytes read refusal same none)
+  pub info_unread : (u : Id) → trouble ≡ unread (names.Snap u) refusal → HasFetched s (caller_of s log) (name_of (names.Snap u)) bytes → Fails refusal (info_from read) → Shown faults s log trouble
+  unfolding unreadable
+  info_unread u is fetched fails = unread_shown (names.Snap u) is fetched (first_reason info_from fails)
 
-  pub meta_unread : (i u : Id) → trouble ≡ unread (names.IndexMeta i u) refusal → HasFetched s (caller_of s log) (name_of (names.IndexMeta i u)) bytes → IsUnread index_meta_kind read refusal → Shown faults s log trouble
-  unfolding formats
-  meta_unread i u is fetched none = unread_shown (names.IndexMeta i u) is fetched (none_as index_meta_kind bytes read refusal same none)
+  pub global_unread : (u : Id) → trouble ≡ unread (names.Meta u) refusal → HasFetched s (caller_of s log) (name_of (names.Meta u)) bytes → Fails refusal (global_from read) → Shown faults s log trouble
+  unfolding unreadable
+  global_unread u is fetched fails = unread_shown (names.Meta u) is fetched (first_reason global_from fails)
 
-  pub snap_unread : (at : ShardId) (u : Id) → trouble ≡ unread (names.ShardSnap at u) refusal → HasFetched s (caller_of s log) (name_of (names.ShardSnap at u)) bytes → IsUnread shard_snap_kind read refusal → Shown faults s log trouble
-  unfolding formats
-  snap_unread at u is fetched none = unread_shown (names.ShardSnap at u) is fetched (none_as shard_snap_kind bytes read refusal same none)
+  pub meta_unread : (i u : Id) → trouble ≡ unread (names.IndexMeta i u) refusal → HasFetched s (caller_of s log) (name_of (names.IndexMeta i u)) bytes → Fails refusal (index_meta_from read) → Shown faults s log trouble
+  unfolding unreadable
+  meta_unread i u is fetched fails = unread_shown (names.IndexMeta i u) is fetched (first_reason index_meta_from fails)
 
-  pub held_unread : (at : ShardId) (g : Id) → trouble ≡ unread (names.ShardIndex at g) refusal → HasFetched s (caller_of s log) (name_of (names.ShardIndex at g)) bytes → IsUnread shard_index_kind read refusal → Shown faults s log trouble
-  unfolding formats
-  held_unread at g is fetched none = unread_shown (names.ShardIndex at g) is fetched (none_as shard_index_kind bytes read refusal same none)
+  pub snap_unread : (at : ShardId) (u : Id) → trouble ≡ unread (names.ShardSnap at u) refusal → HasFetched s (caller_of s log) (name_of (names.ShardSnap at u)) bytes → Fails refusal (shard_snap_from read) → Shown faults s log trouble
+  unfolding unreadable
+  snap_unread at u is fetched fails = unread_shown (names.ShardSnap at u) is fetched (first_reason shard_snap_from fails)
+
+  pub held_unread : (at : ShardId) (g : Id) → trouble ≡ unread (names.ShardIndex at g) refusal → HasFetched s (caller_of s log) (name_of (names.ShardIndex at g)) bytes → Fails refusal (shard_index_from read) → Shown faults s log trouble
+  unfolding unreadable
+  held_unread at g is fetched fails = unread_shown (names.ShardIndex at g) is fetched (first_reason shard_index_from fails)

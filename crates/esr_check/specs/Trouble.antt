@@ -1,8 +1,9 @@
 -- What shows a trouble.
 use Rattle.std.specs.Prelude.{◌≡◌, ◌⊎◌, ℕ, Bool, true, false, List, Option, Some, None}
 use Rattle.esr_model.specs.Names.{BlobName}
-use Rattle.esr_core.specs.Entry.{Refused, DepotFault, Moment}
+use Rattle.esr_core.specs.Entry.{WasAbsent, Refused, DepotFault, Moment}
 use Rattle.esr_formats.specs.Names.{name_of}
+use Rattle.esr_formats.specs.Reasons.{reason_of}
 use Rattle.esr_hash.specs.declared.print.Print.{Print}
 use Rattle.esr_json.specs.declared.refusal.ReadRefusal.{ReadRefusal}
 use Rattle.esr_json.specs.declared.refusal.ReadRefusal.TheVariants as reads
@@ -20,7 +21,7 @@ use Rattle.esr_desk.specs.Start.{Start}
 use Rattle.esr_desk.specs.Outcome.{Spends}
 use Rattle.esr_desk.specs.Shown.{Faulty}
 use Rattle.esr_checking.specs.Caller.{caller_of}
-use Rattle.esr_checking.specs.CheckShown.{HadAnswer, IsDamaged, IsMisprinted, Disagree}
+use Rattle.esr_checking.specs.CheckShown.{HadAnswer, WasUnreadable, IsMisprinted, Disagree}
 use Rattle.esr_check.specs.declared.trouble.Trouble.{Trouble}
 use Rattle.esr_check.specs.declared.trouble.Trouble.TheVariants as troubles
 
@@ -34,7 +35,8 @@ IsFetchRefusal s log (steps.Refused refusal) = ⊥
 
 -- what was read shows that the safe root isn't whole
 abbrev pub IsFound : Start → List Moment → Why → Type 0
-IsFound s log (whys.Damaged name) = IsDamaged s log (name_of name)
+IsFound s log (whys.Absent name) = HadAnswer log (name_of name) WasAbsent
+IsFound s log (whys.Unreadable name reason) = WasUnreadable s (caller_of s log) (name_of name) (reason_of reason)
 IsFound s log (whys.Misprinted name stated found) = IsMisprinted s (caller_of s log) (name_of name) stated.len stated.sha256 found.len found.sha256
 IsFound s log (whys.Disagreeing name other) = Disagree s (caller_of s log) (name_of name) (name_of other)
 IsFound s log why = ⊥
@@ -61,4 +63,4 @@ Judged at generation e found exact (Some why) = IsOther at e found why ⊎ IsCut
 -- what a text of this name that wasn't read shows
 abbrev pub unread : {F : Type 0} → CodeName → ReadRefusal → Trouble F
 unread name reads.Memory = troubles.Step steps.Memory
-unread name (reads.Damaged why) = troubles.Found (whys.Damaged name)
+unread name (reads.Damaged reason) = troubles.Found (whys.Unreadable name reason)

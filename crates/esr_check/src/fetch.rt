@@ -43,7 +43,7 @@ pub fn fetch<Q: CheckDesk>(
             Ok(fetch)
         }
         None => Err(Trouble::Found {
-            why: Why::Damaged { name },
+            why: Why::Absent { name },
         }),
     }
 }
@@ -72,14 +72,14 @@ pub fn fetch_whole<Q: CheckDesk>(
     }
 }
 
-/// What a text of this name that wasn't read shows: that it is damaged, unless memory was wanting.
+/// What a text of this name that wasn't read shows: that it doesn't read, for the first reason, unless memory was wanting.
 pub fn unread<F: Drop>(name: BlobName, refusal: ReadRefusal) -> Trouble<F>
     ensures { result ≡ unread name refusal }
 {
     match refusal {
         ReadRefusal::Memory => Trouble::Step(StepRefusal::Memory),
-        ReadRefusal::Damaged { why: _ } => Trouble::Found {
-            why: Why::Damaged { name },
+        ReadRefusal::Damaged { why: reason } => Trouble::Found {
+            why: Why::Unreadable { name, reason },
         },
     }
 }

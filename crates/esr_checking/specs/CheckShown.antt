@@ -1,7 +1,7 @@
 -- What shows why a check failed.
-use Rattle.std.specs.Prelude.{◌≡◌, ◌⊎◌, ℕ, ◌<◌, true, false, List, [], ◌∷◌, ◌++◌, length, Some, None}
-use Rattle.esr_model.specs.Names.{BlobName, Root, Latest, Snap, Meta, IndexMeta, ShardSnap, ShardIndex, File, Part, TestMaster, TestNode}
-use Rattle.esr_model.specs.Values.{Bytes, Has, IndexRef, RootSnap, RootData, SnapInfo, GlobalMeta, IndexMetadata, FileEntry, ShardSnapshot, ShardFiles, Kind, Formats}
+use Rattle.std.specs.Prelude.{◌≡◌, ℕ, ◌<◌, true, false, List, [], ◌∷◌, ◌++◌, length, Some}
+use Rattle.esr_model.specs.Names.{BlobName, Root, Snap, Meta, IndexMeta, ShardSnap, ShardIndex, File}
+use Rattle.esr_model.specs.Values.{Bytes, Has, IndexRef, RootSnap, RootData, SnapInfo, GlobalMeta, IndexMetadata, FileEntry, ShardSnapshot, ShardFiles, Kind}
 use Rattle.std.specs.List.{concat}
 use Rattle.esr_model.specs.Image.{Lists, global_of}
 use Rattle.esr_model.specs.Parts.{part_names}
@@ -9,7 +9,8 @@ use Rattle.esr_model.specs.Agreement.{Agrees, IsListOf}
 use Rattle.esr_core.specs.World.{Caller}
 use Rattle.esr_core.specs.Restores.{WasRead}
 use Rattle.esr_core.specs.Allowed.{IsChecking}
-use Rattle.esr_core.specs.Entry.{Why, OfDepot, OfSource, OfChange, OfDamage, OfTaken, OfIdsSpent, OfGenerationsSpent, OfTarget, OfPrint, OfDisagreement, LookStep, ReadStep, ReadBlob, WasAbsent, Reply, Refused, DepotFault, Moment}
+use Rattle.esr_core.specs.Entry.{Reason, Why, OfDepot, OfSource, OfChange, OfAbsence, OfUnreadable, OfAhead, OfTaken, OfIdsSpent, OfGenerationsSpent, OfTarget, OfPrint, OfDisagreement, LookStep, ReadStep, ReadBlob, WasAbsent, Reply, Refused, DepotFault, Moment}
+use Rattle.esr_formats.specs.Reasons.{unreadable}
 use Rattle.esr_desk.specs.declared.fault.FailedObject.TheVariants as objects
 use Rattle.esr_desk.specs.declared.fault.By.{By}
 use Rattle.esr_desk.specs.declared.fault.By.TheVariants as by
@@ -25,6 +26,16 @@ use Rattle.esr_checking.specs.Shown.{Counts}
 abbrev pub AllFetches : List Moment → Type 0
 AllFetches [] = Unit {0}
 AllFetches (m ∷ more) = (m.entry.who ≡ 0) × ((name : BlobName) × (m.entry.step ≡ ReadStep (ReadBlob name))) × AllFetches more
+
+-- a look began the check, and since then who 0 has made fetches alone, and no other step was made
+pub record SinceLook (log : List Moment) : Type 0 where
+  pub before : List Moment
+  pub look : Moment
+  pub fetches : List Moment
+  pub is : log ≡ before ++ look ∷ fetches
+  pub looker : look.entry.who ≡ 0
+  pub looks : look.entry.step ≡ LookStep
+  pub all : AllFetches fetches
 
 -- a fetch of the check that is open was answered so: between the look that began it and now there are fetches alone
 pub record HadAnswer (log : List Moment) (name : BlobName) (reply : Reply) : Type 0 where
@@ -53,25 +64,11 @@ pub record ReadAs {V : Type 0} (s : Start) (c : Caller) (name : BlobName) (kind 
   pub fetched : HasFetched s c name bytes
   pub reads : kind.read bytes ≡ Some v
 
--- ---- absent, or unreadable
+-- ---- unreadable
 
--- the bytes don't read as the kind of the blob's name
-abbrev pub IsUnreadable : Formats → BlobName → Bytes → Type 0
-IsUnreadable f (Root n) bytes = f.root.read bytes ≡ None
-IsUnreadable f Latest bytes = ⊥
-IsUnreadable f (Snap u) bytes = f.info.read bytes ≡ None
-IsUnreadable f (Meta u) bytes = f.global.read bytes ≡ None
-IsUnreadable f (IndexMeta i u) bytes = f.index_meta.read bytes ≡ None
-IsUnreadable f (ShardSnap i k u) bytes = f.shard_snap.read bytes ≡ None
-IsUnreadable f (ShardIndex i k g) bytes = f.shard_index.read bytes ≡ None
-IsUnreadable f (File i k x) bytes = ⊥
-IsUnreadable f (Part i k x p) bytes = ⊥
-IsUnreadable f (TestMaster v) bytes = ⊥
-IsUnreadable f (TestNode v n) bytes = ⊥
-
--- a reached blob was absent, or what was fetched doesn't read
-abbrev pub IsDamaged : Start → List Moment → BlobName → Type 0
-IsDamaged s log name = HadAnswer log name WasAbsent ⊎ ((bytes : Bytes) × HasFetched s (caller_of s log) name bytes × IsUnreadable (formats_of s) name bytes)
+-- what was fetched of a reached blob doesn't read as the kind of its name: this is the first reason
+abbrev pub WasUnreadable : Start → Caller → BlobName → Reason → Type 0
+WasUnreadable s c name reason = (bytes : Bytes) × HasFetched s c name bytes × (unreadable name bytes ≡ Some reason)
 
 -- ---- prints
 
@@ -133,19 +130,22 @@ DepotShown c s log by.Nothing = ⊥
 
 abbrev pub IsShownBy : {S F H T : Type 0} → Counts S F → Start → List Moment → Why → By S F H T → Type 0
 IsShownBy c s log OfDepot b = DepotShown c s log b
-IsShownBy c s log (OfDamage name) b = ReadShown b (IsDamaged s log name)
+IsShownBy c s log (OfAbsence name) b = ReadShown b (HadAnswer log name WasAbsent)
+IsShownBy c s log (OfUnreadable name reason) b = ReadShown b (WasUnreadable s (caller_of s log) name reason)
 IsShownBy c s log (OfPrint name stated_len stated_digest found_len found_digest) b = ReadShown b (IsMisprinted s (caller_of s log) name stated_len stated_digest found_len found_digest)
 IsShownBy c s log (OfDisagreement name other) b = ReadShown b (Disagree s (caller_of s log) name other)
 -- these are of snapshots, restores and verifications
 IsShownBy c s log OfSource b = ⊥
 IsShownBy c s log (OfChange first_len first_digest second_len second_digest) b = ⊥
+IsShownBy c s log (OfAhead name) b = ⊥
 IsShownBy c s log (OfTaken name) b = ⊥
 IsShownBy c s log (OfIdsSpent next) b = ⊥
 IsShownBy c s log (OfGenerationsSpent pending) b = ⊥
 IsShownBy c s log OfTarget b = ⊥
 
--- A check is open, and its failure is shown: an object that failed, or a fetch; or a reached blob is absent or doesn't read; or a file
--- has another print than is stated; or two blobs disagree.
+-- A check is open, begun by a look after which there are fetches alone, and its failure is shown: an object that failed, or a fetch; or a
+-- reached blob was absent, or doesn't read for this reason; or a file has another print than is stated; or two blobs disagree.
 pub record IsCheckShown {S F H T : Type 0} (c : Counts S F) (s : Start) (log : List Moment) (why : Why) (b : By S F H T) : Type 0 where
   pub is_open : IsChecking (world_of s log)
+  pub since : SinceLook log
   pub shown : IsShownBy c s log why b

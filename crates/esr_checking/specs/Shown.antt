@@ -4,7 +4,7 @@ use Rattle.esr_model.specs.Names.{BlobName}
 use Rattle.esr_model.specs.Values.{Bytes, Has}
 use Rattle.esr_core.specs.World.{Caller}
 use Rattle.esr_core.specs.Restores.{WasRead}
-use Rattle.esr_core.specs.Entry.{Why, OfDepot, OfSource, OfChange, OfDamage, OfTaken, OfIdsSpent, OfGenerationsSpent, OfTarget, OfPrint, OfDisagreement, Step, ReadStep, ReadBlob, DrawTest, DrawnFrom, WasAbsent, Reply, Refused, DepotFault, IdsSpent, NameTaken, Moment}
+use Rattle.esr_core.specs.Entry.{BadId, Why, OfDepot, OfSource, OfChange, OfAbsence, OfUnreadable, OfAhead, OfTaken, OfIdsSpent, OfGenerationsSpent, OfTarget, OfPrint, OfDisagreement, Step, ReadStep, ReadBlob, DrawTest, DrawnFrom, WasAbsent, Reply, Refused, DepotFault, IdsSpent, NameTaken, Moment}
 use Rattle.esr_names.specs.IdText.{id_text}
 use Rattle.esr_desk.specs.declared.fault.FailedObject.TheVariants as objects
 use Rattle.esr_desk.specs.declared.fault.By.{By}
@@ -75,10 +75,6 @@ pub record IsOther (s : Start) (c : Caller) (name : BlobName) : Type 0 where
   pub differ : bytes ≡ id_text id → ⊥
   pub unprinted : (2 ^ 61 ≤ length bytes) ⊎ ((length (id_text id) ≡ length bytes) × ((formats_of s).digest (id_text id) ≡ (formats_of s).digest bytes))
 
--- a test blob is absent, or holds something else
-abbrev pub IsDamaged : Start → List Moment → Caller → BlobName → Type 0
-IsDamaged s log c name = IsAbsent log c name ⊎ IsOther s c name
-
 -- what was read of a test blob that was fetched, and there, has another print than the text of its id
 pub record IsMisprinted (s : Start) (c : Caller) (name : BlobName) (stated_len : ℕ) (stated_digest : Bytes) (found_len : ℕ) (found_digest : Bytes) : Type 0 where
   pub id : ℕ
@@ -93,16 +89,19 @@ pub record IsMisprinted (s : Start) (c : Caller) (name : BlobName) (stated_len :
   pub found_digest_is : found_digest ≡ (formats_of s).digest bytes
   pub differ : stated_len ≡ found_len → stated_digest ≡ found_digest → ⊥
 
--- By its cause: an object that failed, or a step; or a test blob is absent or holds something else; or its name was taken.
+-- By its cause: an object that failed, or a step; or a test blob is absent; or it holds something else, which is told as no text of an
+-- id or by its print; or its name was taken.
 abbrev pub IsShown : {S F H T : Type 0} → Counts S F → Start → List Moment → Caller → Why → By S F H T → Type 0
 IsShown c s log caller OfDepot b = DepotShown c s log caller b
-IsShown c s log caller (OfDamage name) b = ReadShown b (IsDamaged s log caller name)
+IsShown c s log caller (OfAbsence name) b = ReadShown b (IsAbsent log caller name)
+IsShown c s log caller (OfUnreadable name reason) b = ReadShown b (IsOther s caller name × (reason ≡ BadId))
 IsShown c s log caller (OfPrint name stated_len stated_digest found_len found_digest) b = ReadShown b (IsMisprinted s caller name stated_len stated_digest found_len found_digest)
 IsShown c s log caller (OfTaken name) b = StepShown b ((step : Step) × HadReply log caller step (Refused (NameTaken name)))
 IsShown c s log caller (OfIdsSpent next) b = StepShown b (HadNoId log caller next)
 -- these are of snapshots, restores and checks
 IsShown c s log caller OfSource b = ⊥
 IsShown c s log caller (OfChange first_len first_digest second_len second_digest) b = ⊥
+IsShown c s log caller (OfAhead name) b = ⊥
 IsShown c s log caller (OfGenerationsSpent pending) b = ⊥
 IsShown c s log caller OfTarget b = ⊥
 IsShown c s log caller (OfDisagreement name other) b = ⊥

@@ -9,7 +9,7 @@ use Rattle.esr_core.specs.Entry.{Refusal, NameInUse, TooMany, NoSnapshot, BeingD
 use Rattle.esr_script.specs.declared.item.Item.{Item}
 use Rattle.esr_script.specs.declared.item.Item.TheVariants as items
 use Rattle.esr_script.specs.declared.item.ScriptLine.{ScriptLine}
-use Rattle.esr_report.specs.Replies.{Reply, Made, Restored, Waited, Listed, Verified, Refused, fails_swap, has_fallen, wait_reply, end_reply, replies}
+use Rattle.esr_report.specs.Replies.{Reply, Made, Restored, Waited, Listed, Checked, Verified, Refused, fails_swap, has_fallen, wait_reply, end_reply, replies}
 use Rattle.esr_report.specs.Status.{is_deposed, damaged_name, first_damaged, is_spent, are_ok, AllOk, SomeRefused, SwapFailed, ending_by, ending}
 use Rattle.esr_quiet.specs.Refusals.{RefusesSnapshot, RefusesRestore}
 use Rattle.esr_complete.specs.Answers.{IsAnswer, AreAnswered, EndsWell}
@@ -40,6 +40,7 @@ IsFine (Made uuid) = Unit {0}
 IsFine (Restored files bytes) = Unit {0}
 IsFine Waited = Unit {0}
 IsFine (Listed snapshots) = Unit {0}
+IsFine (Checked snapshots blobs) = Unit {0}
 IsFine Verified = Unit {0}
 IsFine (Refused refusal) = IsRuled refusal
 IsFine reply = ⊥
@@ -51,6 +52,7 @@ fine_answer (items.Restore name place) (Restored files bytes) h = tt
 fine_answer (items.Restore name place) (Refused refusal) h = ruled_restore refusal h
 fine_answer items.Wait Waited h = tt
 fine_answer items.List (Listed snapshots) h = tt
+fine_answer items.Check (Checked snapshots blobs) h = tt
 fine_answer items.Verify Verified h = tt
 fine_answer item reply h = absurd h
 
@@ -64,6 +66,7 @@ calm_reply (Made uuid) fine = record { undeposed = refl; undamaged = refl; unspe
 calm_reply (Restored files bytes) fine = record { undeposed = refl; undamaged = refl; unspent = refl }
 calm_reply Waited fine = record { undeposed = refl; undamaged = refl; unspent = refl }
 calm_reply (Listed snapshots) fine = record { undeposed = refl; undamaged = refl; unspent = refl }
+calm_reply (Checked snapshots blobs) fine = record { undeposed = refl; undamaged = refl; unspent = refl }
 calm_reply Verified fine = record { undeposed = refl; undamaged = refl; unspent = refl }
 calm_reply (Refused (NameInUse uuid)) fine = record { undeposed = refl; undamaged = refl; unspent = refl }
 calm_reply (Refused (TooMany limit)) fine = record { undeposed = refl; undamaged = refl; unspent = refl }

@@ -2,7 +2,7 @@
 use Rattle.std.proofs.Common.{◌≡◌, ℕ, false, List, Option, Some, None, refl, sym, subst, inl, inr}
 use Rattle.esr_model.specs.Values.{Bytes, Has}
 use Rattle.esr_core.specs.Entry as entry
-use Rattle.esr_core.specs.Entry.{AskedIndex, Asked, Snapshot, Restore, Step, AskStep, LookStep, Refusal, NameInUse, TooMany, NoSnapshot, BeingDeleted, Accepted, AcceptedRestore, Looked, Entry, Moment}
+use Rattle.esr_core.specs.Entry.{AskedIndex, Asked, Snapshot, Restore, Step, AskStep, LookStep, PruneStep, Refusal, NameInUse, TooMany, NoSnapshot, BeingDeleted, Accepted, AcceptedRestore, Looked, Entry, Moment}
 use Rattle.esr_core.specs.After.{or_else}
 use Rattle.esr_script.specs.declared.item.AskedIndex.{AskedIndex as LineIndex}
 use Rattle.esr_script.specs.declared.item.Item.{Item}
@@ -14,7 +14,7 @@ use Rattle.esr_quiet.specs.Smooth.{IsSmooth, NoneFailed, NoneUnrestored}
 use Rattle.esr_complete.specs.Lines.{entries_of}
 use Rattle.esr_complete.specs.Answers.{IsIdle, IsAnswer}
 use Rattle.esr_core.proofs.Reading.{Has-mapped}
-use Rattle.esr_complete.proofs.Tickets.{IsCalm, IsMade, end_made, settle_made}
+use Rattle.esr_complete.proofs.Tickets.{IsCalm, IsUnpruned, IsMade, end_made, settle_made}
 use Rattle.esr_complete.proofs.Following.{IsSaid, accepts, IsSettledIn, FollowsIn}
 use Rattle.esr_complete.proofs.RestoreTickets.{IsRestoredReply, restored_reply}
 use Rattle.esr_complete.proofs.FollowingRestores.{AskedRestore, opens}
@@ -80,13 +80,17 @@ fact_by all e calm said made answered =
       looked = λ is. looked_by e.reply (subst (λ (step : Step). IsSaid step e.reply) is said);
     }
 
+said_unpruned : (step : Step) (reply : entry.Reply) → IsSaid step reply → IsUnpruned step
+said_unpruned (PruneStep prune) reply said = absurd said
+said_unpruned step reply said = tt
+
 -- an op that was accepted ends with its snapshot
-made_by : (all : List Entry) (o : ℕ) → ((e : Entry) → Has all e → IsCalm e.reply e.step) → IsSettledIn all o → IsMade (end_of_op all o all)
-made_by all o calm h = end_made all o all calm h.e h.has (settle_made all o h.uuid h.e h.op_is h.uuid_is h.step h.reply)
+made_by : (all : List Entry) (o : ℕ) → ((e : Entry) → Has all e → IsCalm e.reply e.step) → ((e : Entry) → Has all e → IsUnpruned e.step) → IsSettledIn all o → IsMade (end_of_op all o all)
+made_by all o calm own h = end_made all o all calm own h.e h.has (settle_made all o h.uuid h.e h.op_is h.uuid_is h.step h.reply)
 
 pub facts : Laws → (s : Start) (log : List Moment) → IsSmooth s log → NoneFailed log → NoneUnrestored log → AreByRule log → IsIdle s log → (e : Entry) → Has (entries_of log) e → Fact (entries_of log) e
 facts laws s log smooth none unrestored by_rule idle e has =
-    fact_by (entries_of log) e (calm e has) (h.said e has) (λ o accepted. elim (h.ended e o has accepted) [ inl stands ↦ absurd (all_closed laws s log smooth idle o stands) | inr settled ↦ made_by (entries_of log) o calm settled ])
+    fact_by (entries_of log) e (calm e has) (h.said e has) (λ o accepted. elim (h.ended e o has accepted) [ inl stands ↦ absurd (all_closed laws s log smooth idle o stands) | inr settled ↦ made_by (entries_of log) o calm (λ x m. said_unpruned x.step x.reply (h.said x m)) settled ])
     (λ a opened. restored_reply (entries_of log) a.op a.uuid a.indices (all_restored laws s log smooth none unrestored by_rule idle e a has opened))
   where
     h : FollowsIn (world_of s log) (entries_of log)

@@ -4,16 +4,16 @@ use Rattle.std.proofs.lemmas.Bool.Decides.{eqb_tells}
 use Rattle.std.specs.FinMap as fin
 use Rattle.esr_model.specs.Values.{Has, SnapInfo, ShardResult}
 use Rattle.esr_model.specs.Shelf.{Shelved}
-use Rattle.esr_core.specs.World.{World, Op, Deletion, Finalize, Drop, Ticket}
+use Rattle.esr_core.specs.World.{World, Op, Deletion, Finalize, Deleting, Drop, Swap, Ticket}
 use Rattle.esr_core.specs.Ready.{Goes}
-use Rattle.esr_core.specs.Entry.{Snapshot, Restore, Given, Step, AskStep, TakeStep, SettleStep, LookStep, Reply, Accepted, Gave, WasSettled, Looked, Refused, AcceptedRestore, Entry}
+use Rattle.esr_core.specs.Entry.{Snapshot, Restore, Given, Step, AskStep, TakeStep, SettleStep, LookStep, PruneStep, Reply, Accepted, Gave, WasSettled, Looked, Refused, AcceptedRestore, Entry}
 use Rattle.esr_report.specs.Replies.{op_by, op_of_ticket, uuid_of_unit, uuid_by, uuid_of_ticket}
 use Rattle.esr_core.proofs.Besides.{Aside}
 use Rattle.esr_core.proofs.Reading.{Has-left, Has-append}
 use Rattle.esr_core.proofs.Queues.{Ops, Deletes, Tickets, was_in, same_in, other_in, split_at}
 use Rattle.esr_complete.proofs.Tickets.{op_stays, uuid_stays, op_given, uuid_given}
 
--- what may be answered to a snapshot, a restore or a look
+-- what may be answered to a snapshot, a restore or a look; no step is of a delete's ticket
 abbrev pub IsSaid : Step → Reply → Type 0
 IsSaid (AskStep (Snapshot name indices moment)) (Accepted op) = Unit {0}
 IsSaid (AskStep (Snapshot name indices moment)) (Refused refusal) = Unit {0}
@@ -24,6 +24,7 @@ IsSaid (AskStep (Restore name place)) reply = ⊥
 IsSaid (AskStep command) reply = Unit {0}
 IsSaid LookStep (Looked snapshots safe) = Unit {0}
 IsSaid LookStep reply = ⊥
+IsSaid (PruneStep prune) reply = ⊥
 IsSaid step reply = Unit {0}
 
 -- the op that was accepted
@@ -45,12 +46,13 @@ pub record IsSettledIn (es : List Entry) (o : ℕ) : Type 0 where
   pub uuid_is : uuid_of_ticket es e.who ≡ Some uuid
 
 -- The history tells the op of each ticket, and the uuid of each that finalizes. Each op that was accepted is open, or a
--- ticket of it settled; no op is stopped, so none is dropped.
+-- ticket of it settled; no op is stopped, so none is dropped; and there is no delete.
 pub record Follows (deposed : Bool) (ops : Ops) (deletes : Deletes) (tickets : Tickets) (next : ℕ) (es : List Entry) : Type 0 where
   pub live : deposed ≡ false
   pub no_deletes : (d : ℕ) (x : Deletion) → fin.get deletes d ≡ Some x → ⊥
   pub going : (o : ℕ) (op : Op) → fin.get ops o ≡ Some op → Goes op
   pub no_drops : (k : ℕ) (t : Ticket) → fin.get tickets k ≡ Some t → t.work ≡ Drop → ⊥
+  pub no_deleting : (k : ℕ) (t : Ticket) (uuids : List ℕ) (plan : Option Swap) → fin.get tickets k ≡ Some t → t.work ≡ Deleting uuids plan → ⊥
   pub op_of : (k : ℕ) (t : Ticket) → fin.get tickets k ≡ Some t → op_of_ticket es k ≡ Some t.op
   pub uuid_of : (k : ℕ) (t : Ticket) (info : SnapInfo) (results : List ShardResult) (made : Shelved) → fin.get tickets k ≡ Some t → t.work ≡ Finalize info results made → uuid_of_ticket es k ≡ Some info.uuid
   pub fresh : (k : ℕ) → next ≤ k → (op_of_ticket es k ≡ None) × (uuid_of_ticket es k ≡ None)
@@ -131,6 +133,7 @@ goes_on deposed ops now deletes left tickets later next es x h less going kin no
       no_deletes = λ d y e. h.no_deletes d y (less d y e);
       going = going;
       no_drops = λ k t e is. let q = kin k t e in h.no_drops k q.was q.there (q.work_is ∙ is);
+      no_deleting = λ k t uuids plan e is. let q = kin k t e in h.no_deleting k q.was uuids plan q.there (q.work_is ∙ is);
       op_of = λ k t e. let q = kin k t e in op_stays es (x ∷ []) k t.op (h.op_of k q.was q.there ∙ ap Some q.op_is);
       uuid_of = λ k t info results made e is. let q = kin k t e in uuid_stays es (x ∷ []) k info.uuid (h.uuid_of k q.was info results made q.there (q.work_is ∙ is));
       fresh = λ k le. let f = h.fresh k le in (op_given es x k f.0 ∙ (none k).0, uuid_given es x k f.1 ∙ (none k).1);
@@ -166,9 +169,10 @@ pub given_on : (deposed : Bool) (ops now : Ops) (deletes : Deletes) (tickets : T
     → ((o : ℕ) → IsOpenIn ops o → IsOpenIn now o)
     → t.op ≡ op
     → (t.work ≡ Drop → ⊥)
+    → ((uuids : List ℕ) (plan : Option Swap) → t.work ≡ Deleting uuids plan → ⊥)
     → ((info : SnapInfo) (results : List ShardResult) (made : Shelved) → t.work ≡ Finalize info results made → uuid_of_unit unit ≡ Some info.uuid)
     → Follows deposed now deletes (fin.insert tickets next t) (suc next) (es ++ gave next op unit ∷ [])
-given_on deposed ops now deletes tickets next es op unit t h going kept op_is no_drop finals =
+given_on deposed ops now deletes tickets next es op unit t h going kept op_is no_drop no_delete finals =
     let x : Entry = gave next op unit in
     let f = h.fresh next (omega arith) in
     record {
@@ -176,6 +180,7 @@ given_on deposed ops now deletes tickets next es op unit t h going kept op_is no
       no_deletes = h.no_deletes;
       going = going;
       no_drops = λ k u e is. elim (was_in tickets next t k u e) [ inl m ↦ no_drop (ap (λ (y : Ticket). y.work) m.1 ∙ is) | inr m ↦ h.no_drops k u m.1 is ];
+      no_deleting = λ k u uuids plan e is. elim (was_in tickets next t k u e) [ inl m ↦ no_delete uuids plan (ap (λ (y : Ticket). y.work) m.1 ∙ is) | inr m ↦ h.no_deleting k u uuids plan m.1 is ];
       op_of = λ k u e. elim (was_in tickets next t k u e) [
         | inl m ↦ subst (λ (j : ℕ). op_of_ticket (es ++ x ∷ []) j ≡ Some u.op) (sym m.0) (op_given es x next f.0 ∙ op_by_same next op unit ∙ ap Some (sym op_is ∙ ap (λ (y : Ticket). y.op) m.1))
         | inr m ↦ op_stays es (x ∷ []) k u.op (h.op_of k u m.1)
@@ -198,6 +203,7 @@ handed_on deposed ops deletes tickets next es op unit h =
       no_deletes = h.no_deletes;
       going = h.going;
       no_drops = h.no_drops;
+      no_deleting = h.no_deleting;
       op_of = λ k u e. op_stays es (x ∷ []) k u.op (h.op_of k u e);
       uuid_of = λ k u info results made e is. uuid_stays es (x ∷ []) k info.uuid (h.uuid_of k u info results made e is);
       fresh = λ k le. let g = h.fresh k (omega (arith, le)) in let n = by_other next op unit k le in (op_given es x k g.0 ∙ n.0, uuid_given es x k g.1 ∙ n.1);
@@ -213,6 +219,7 @@ follows_aside w new es a h =
       no_deletes = h.no_deletes;
       going = h.going;
       no_drops = h.no_drops;
+      no_deleting = h.no_deleting;
       op_of = h.op_of;
       uuid_of = h.uuid_of;
       fresh = λ k le. let up : w.next_ticket ≤ a.next_ticket = a.tickets in h.fresh k (omega (arith, up, le));

@@ -35,6 +35,7 @@ follows_opened blobs cluster root none =
       no_deletes = λ d x e. nothing d x (ap (λ (m : Deletes). fin.get m d) (sym none) ∙ e);
       going = λ o op e. absurd (nothing o op e);
       no_drops = λ k t e is. nothing k t e;
+      no_deleting = λ k t uuids plan e is. nothing k t e;
       op_of = λ k t e. absurd (nothing k t e);
       uuid_of = λ k t info results made e is. absurd (nothing k t e);
       fresh = λ k le. (refl, refl);

@@ -1,11 +1,12 @@
--- Where no verification fails each draw is followed by the end of its verification, before a line asks for more.
-use Rattle.std.proofs.Common.{◌≡◌, ◌≢◌, ◌⊎◌, ℕ, Bool, true, false, true≢false, ◌==◌, ◌&&◌, if◌then◌else◌, List, [], ◌∷◌, ◌++◌, append-nil, append_assoc, Option, Some, None, is_some, refl, sym, ap, ◌∙◌, subst, inl, inr}
+-- Where no verification and no check fails each draw, and each look of a check, is followed by the end of what it began, before a line
+-- asks for more.
+use Rattle.std.proofs.Common.{◌≡◌, ◌≢◌, ◌⊎◌, ℕ, Bool, true, false, true≢false, ◌==◌, ◌&&◌, if◌then◌else◌, List, [], ◌∷◌, ◌++◌, append-nil, append_assoc, Option, Some, None, refl, sym, ap, ◌∙◌, subst, inl, inr}
 use Rattle.std.proofs.lemmas.Bool.Decides.{eqb_tells}
 use Rattle.esr_model.specs.Names.{BlobName}
 use Rattle.esr_model.specs.Values.{Bytes, Has, Formats}
 use Rattle.esr_model.specs.Image.{Image}
 use Rattle.esr_core.specs.World.{World, Caller, no_caller, Opened, OpenedEmpty, OpenedRecord}
-use Rattle.esr_core.specs.Entry.{Read, CheckedAll, DrawTest, VerifiedAll, ReadFails, Why, Step, AskStep, TakeStep, LookStep, ReadStep, HasEnded, Reply, Entry, Moment}
+use Rattle.esr_core.specs.Entry.{Read, ReadBlob, CheckedAll, DrawTest, VerifiedAll, ReadFails, Why, Step, AskStep, TakeStep, LookStep, ReadStep, HasEnded, Reply, Refused, Entry, Moment}
 use Rattle.esr_core.specs.After.{told_blob, is_heard, caller_told, caller_wrote, caller_read, caller_after}
 use Rattle.esr_core.specs.Allowed as allowed
 use Rattle.esr_core.specs.Allowed.{ReadAllows, ReadFound, ReadMissing, ReadFault, RestoringShard, ReaderFailing, CheckingAll, CheckFailing, VerifyAllows, DrawingTest, TestSpent, BeginningTest, BeginTestFails, CommittingTest, TestTaken, CommitTestFails, RemovingTests, RemoveTestsFails, VerifyingAll, VerifyFailing, Allows, Allowed}
@@ -13,6 +14,7 @@ use Rattle.esr_script.specs.declared.item.Item.{Item}
 use Rattle.esr_script.specs.declared.item.Item.TheVariants as items
 use Rattle.esr_script.specs.declared.item.ScriptLine.{ScriptLine}
 use Rattle.esr_report.specs.Replies.{is_line_step, is_of_line}
+use Rattle.esr_checking.specs.CheckShown.{AllFetches}
 use Rattle.esr_desk.specs.Start.{Start, formats_of, world_of}
 use Rattle.esr_checking.specs.Caller.{caller_of}
 use Rattle.esr_quiet.specs.Asked.{is_line_ask, is_asked, asked_steps}
@@ -21,7 +23,7 @@ use Rattle.esr_quiet.specs.Refusals.{AreByRule}
 use Rattle.esr_quiet.proofs.Prefixes.{has_at}
 use Rattle.esr_quiet.proofs.Passing.{quiet_at, legal_at}
 use Rattle.esr_quiet.proofs.Callers.{caller_one, caller_left}
-use Rattle.esr_complete.specs.InTurn.{IsInTurn}
+use Rattle.esr_complete.specs.InTurn.{IsInTurn, IsEndOfCheck, IsCheckPart, IsPart, AreParts, NoneAsksCheck, AreChecksInTurn}
 use Rattle.esr_complete.specs.Lines.{steps_of_item, steps_of, entries_of}
 use Rattle.esr_complete.proofs.Tickets.{IsCalm}
 use Rattle.esr_complete.proofs.Histories.{all_calm}
@@ -30,14 +32,45 @@ use Rattle.esr_complete.proofs.Histories.{all_calm}
 abbrev pub IsNoRead : Step → Type 0
 IsNoRead step = (read : Read) → step ≢ ReadStep read
 
+-- what is open
+pub data Turn : Type 0 where
+  Idle : Turn
+  InVerification : Turn
+  InCheck : Turn
+
+-- by the id of the verification that is open
+abbrev pub turn_by : Option ℕ → Turn
+turn_by None = Idle
+turn_by (Some id) = InVerification
+
+-- whether a check is asked for, by each step that is asked for: of steps that are asked for by other lines
+abbrev pub falses : List Step → List Bool
+falses [] = []
+falses (step ∷ steps) = false ∷ falses steps
+
+abbrev pub kinds_of_item : Item → List Bool
+kinds_of_item (items.Snapshot name indices) = false ∷ []
+kinds_of_item (items.Restore name place) = false ∷ []
+kinds_of_item items.List = false ∷ []
+kinds_of_item items.Check = true ∷ []
+kinds_of_item items.Verify = false ∷ []
+kinds_of_item item = []
+
+abbrev pub kinds_of : List ScriptLine → List Bool
+kinds_of [] = []
+kinds_of (line ∷ lines) = kinds_of_item line.item ++ kinds_of lines
+
 -- Each entry is the step of a line, which is asked for; or a draw, which is asked for and opens a verification, whose end closes it; or
--- it is none of these. While one is open nothing is asked for, and none is open at the end.
-pub data InTurn : Bool → List Entry → Type 0 where
-  AllClosed : InTurn false []
-  IsLine : (e : Entry) (es : List Entry) → is_asked e ≡ true → is_of_line e ≡ true → IsNoRead e.step → InTurn false es → InTurn false (e ∷ es)
-  IsDraw : (e : Entry) (es : List Entry) → is_asked e ≡ true → is_of_line e ≡ false → e.step ≡ ReadStep DrawTest → InTurn true es → InTurn false (e ∷ es)
-  IsEnd : (e : Entry) (es : List Entry) → is_asked e ≡ false → is_of_line e ≡ true → e.step ≡ ReadStep VerifiedAll → e.reply ≡ HasEnded → InTurn false es → InTurn true (e ∷ es)
-  IsAside : (b : Bool) (e : Entry) (es : List Entry) → is_asked e ≡ false → is_of_line e ≡ false → InTurn b es → InTurn b (e ∷ es)
+-- a look that is asked for and opens a check, whose end closes it; or it is none of these. While one is open nothing is asked for, and
+-- none is open at the end. The kinds are those of the steps that are asked for.
+pub data InTurn : Turn → List Bool → List Entry → Type 0 where
+  AllClosed : InTurn Idle [] []
+  IsLine : (kinds : List Bool) (e : Entry) (es : List Entry) → is_asked e ≡ true → is_of_line e ≡ true → IsNoRead e.step → InTurn Idle kinds es → InTurn Idle (false ∷ kinds) (e ∷ es)
+  IsDraw : (kinds : List Bool) (e : Entry) (es : List Entry) → is_asked e ≡ true → is_of_line e ≡ false → e.step ≡ ReadStep DrawTest → InTurn InVerification kinds es → InTurn Idle (false ∷ kinds) (e ∷ es)
+  IsEnd : (kinds : List Bool) (e : Entry) (es : List Entry) → is_asked e ≡ false → is_of_line e ≡ true → e.step ≡ ReadStep VerifiedAll → e.reply ≡ HasEnded → InTurn Idle kinds es → InTurn InVerification kinds (e ∷ es)
+  IsLook : (kinds : List Bool) (e : Entry) (es : List Entry) → is_asked e ≡ true → is_of_line e ≡ true → e.step ≡ LookStep → InTurn InCheck kinds es → InTurn Idle (true ∷ kinds) (e ∷ es)
+  IsCheckEnd : (kinds : List Bool) (e : Entry) (es : List Entry) (snapshots blobs : ℕ) → is_asked e ≡ false → is_of_line e ≡ true → e.step ≡ ReadStep (CheckedAll snapshots blobs) → e.reply ≡ HasEnded → InTurn Idle kinds es → InTurn InCheck kinds (e ∷ es)
+  IsAside : (turn : Turn) (kinds : List Bool) (e : Entry) (es : List Entry) → is_asked e ≡ false → is_of_line e ≡ false → InTurn turn kinds es → InTurn turn kinds (e ∷ es)
 
 -- ---- what is asked for is what lines ask for
 
@@ -92,14 +125,26 @@ data OneTurn (was now : Option ℕ) (e : Entry) : Type 0 where
   EndTurn : (id : ℕ) → is_asked e ≡ false → is_of_line e ≡ true → e.step ≡ ReadStep VerifiedAll → e.reply ≡ HasEnded → was ≡ Some id → now ≡ None → OneTurn was now e
   AsideTurn : is_asked e ≡ false → is_of_line e ≡ false → now ≡ was → OneTurn was now e
 
-go_on : (was now : Option ℕ) (e : Entry) (es : List Entry) → OneTurn was now e → InTurn (is_some now) es → InTurn (is_some was) (e ∷ es)
-go_on was now e es (LineTurn asked line aside none closed) turn =
-    subst (λ (o : Option ℕ). InTurn (is_some o) (e ∷ es)) (sym none) (IsLine e es asked line aside (subst (λ (o : Option ℕ). InTurn (is_some o) es) closed turn))
-go_on was now e es (DrawTurn id asked line draw none opened) turn =
-    subst (λ (o : Option ℕ). InTurn (is_some o) (e ∷ es)) (sym none) (IsDraw e es asked line draw (subst (λ (o : Option ℕ). InTurn (is_some o) es) opened turn))
-go_on was now e es (EndTurn id asked line step reply opened closed) turn =
-    subst (λ (o : Option ℕ). InTurn (is_some o) (e ∷ es)) (sym opened) (IsEnd e es asked line step reply (subst (λ (o : Option ℕ). InTurn (is_some o) es) closed turn))
-go_on was now e es (AsideTurn asked line same) turn = IsAside (is_some was) e es asked line (subst (λ (o : Option ℕ). InTurn (is_some o) es) same turn)
+-- what was asked for, with an entry before it
+abbrev asked_with : Entry → List Step → List Step
+asked_with e steps = if is_asked e then e.step ∷ steps else steps
+
+go_on : (was now : Option ℕ) (e : Entry) (es : List Entry) (steps : List Step) (kinds : List Bool) → OneTurn was now e → InTurn (turn_by now) (falses steps ++ kinds) es → InTurn (turn_by was) (falses (asked_with e steps) ++ kinds) (e ∷ es)
+go_on was now e es steps kinds (LineTurn asked line aside none closed) turn =
+    subst (λ (o : Option ℕ). InTurn (turn_by o) (falses (asked_with e steps) ++ kinds) (e ∷ es)) (sym none)
+    (subst (λ (b : Bool). InTurn Idle (falses (if b then e.step ∷ steps else steps) ++ kinds) (e ∷ es)) (sym asked)
+    (IsLine (falses steps ++ kinds) e es asked line aside (subst (λ (o : Option ℕ). InTurn (turn_by o) (falses steps ++ kinds) es) closed turn)))
+go_on was now e es steps kinds (DrawTurn id asked line draw none opened) turn =
+    subst (λ (o : Option ℕ). InTurn (turn_by o) (falses (asked_with e steps) ++ kinds) (e ∷ es)) (sym none)
+    (subst (λ (b : Bool). InTurn Idle (falses (if b then e.step ∷ steps else steps) ++ kinds) (e ∷ es)) (sym asked)
+    (IsDraw (falses steps ++ kinds) e es asked line draw (subst (λ (o : Option ℕ). InTurn (turn_by o) (falses steps ++ kinds) es) opened turn)))
+go_on was now e es steps kinds (EndTurn id asked line step reply opened closed) turn =
+    subst (λ (o : Option ℕ). InTurn (turn_by o) (falses (asked_with e steps) ++ kinds) (e ∷ es)) (sym opened)
+    (subst (λ (b : Bool). InTurn InVerification (falses (if b then e.step ∷ steps else steps) ++ kinds) (e ∷ es)) (sym asked)
+    (IsEnd (falses steps ++ kinds) e es asked line step reply (subst (λ (o : Option ℕ). InTurn (turn_by o) (falses steps ++ kinds) es) closed turn)))
+go_on was now e es steps kinds (AsideTurn asked line same) turn =
+    subst (λ (b : Bool). InTurn (turn_by was) (falses (if b then e.step ∷ steps else steps) ++ kinds) (e ∷ es)) (sym asked)
+    (IsAside (turn_by was) (falses steps ++ kinds) e es asked line (subst (λ (o : Option ℕ). InTurn (turn_by o) (falses steps ++ kinds) es) same turn))
 
 abbrev by_nobody : Step → Reply → Entry
 by_nobody step reply = record { who = 0; step = step; reply = reply }
@@ -175,14 +220,57 @@ opened_undrawn : (f : Formats) (image : Image) (w : World) → Opened f image w 
 opened_undrawn f image w (OpenedEmpty none) = refl
 opened_undrawn f image w (OpenedRecord cluster text root there reads is) = refl
 
-module _ (s : Start) (log : List Moment) (lines : List ScriptLine) (moment : ℕ) (smooth : IsSmooth s log) (none : NoneFailed log) (unverified : NoneUnverified log) (unchecked : NoneChecked log) (by_rule : AreByRule log) (in_turn : IsInTurn s log)
+-- ---- the steps of a check
+
+-- after its end no verification is open
+ended_undrawn : (f : Formats) (c : Caller) (read : Read) (image : Option Image) → IsEndOfCheck read → (caller_read f c read HasEnded image).drawn ≡ None
+ended_undrawn f c (CheckedAll snapshots blobs) image is = refl
+ended_undrawn f c (ReadFails why) image is = refl
+ended_undrawn f c read image is = absurd is
+
+-- a fetch that isn't refused belongs to no line
+fetch_aside : (name : BlobName) (reply : Reply) → IsCalm reply (ReadStep (ReadBlob name)) → is_line_step (ReadStep (ReadBlob name)) reply ≡ false
+fetch_aside name (Refused refusal) calm = absurd calm
+fetch_aside name HasEnded calm = refl
+fetch_aside name reply calm = refl
+
+abbrev AllCalmIn : List Moment → Type 0
+AllCalmIn ms = (m : Moment) → Has ms m → IsCalm m.entry.reply m.entry.step
+
+-- so fetches leave a check open
+fetches_turn : (ms back : List Moment) (kinds : List Bool) → AllFetches ms → AllCalmIn ms → InTurn InCheck kinds (entries_of back) → InTurn InCheck kinds (entries_of (ms ++ back))
+fetches_turn [] back kinds all calm turn = turn
+fetches_turn (m ∷ ms) back kinds all calm turn =
+    let name : BlobName = all.1.0 in
+    let asked : is_asked m.entry ≡ false = (λ i. (all.0 i == 0) && is_line_ask (all.1.1 i)) in
+    let line : is_of_line m.entry ≡ false = (λ i. (all.0 i == 0) && is_line_step (all.1.1 i) m.entry.reply) ∙ fetch_aside name m.entry.reply (subst (IsCalm m.entry.reply) all.1.1 (calm m (inl refl))) in
+    IsAside InCheck kinds m.entry (entries_of (ms ++ back)) asked line (fetches_turn ms back kinds all.2 (λ n has. calm n (inr has)) turn)
+
+-- ---- the kinds of what other lines ask for
+
+falses_both : (a b : List Step) → falses (a ++ b) ≡ falses a ++ falses b
+falses_both [] b = refl
+falses_both (x ∷ a) b = ap (λ (l : List Bool). false ∷ l) (falses_both a b)
+
+item_kinds : (moment : ℕ) (item : Item) → (item ≡ items.Check → ⊥) → falses (steps_of_item moment item) ≡ kinds_of_item item
+item_kinds moment items.Check other = absurd (other refl)
+item_kinds moment item other = refl
+
+lines_kinds : (moment : ℕ) (lines : List ScriptLine) → NoneAsksCheck lines → falses (steps_of moment lines) ≡ kinds_of lines
+lines_kinds moment [] none = refl
+lines_kinds moment (line ∷ lines) none =
+    falses_both (steps_of_item moment line.item) (steps_of moment lines)
+    ∙ (λ i. item_kinds moment line.item (none line (inl refl)) i ++ lines_kinds moment lines (λ l has. none l (inr has)) i)
+
+module _ (s : Start) (log : List Moment) (lines : List ScriptLine) (moment : ℕ) (smooth : IsSmooth s log) (none : NoneFailed log) (unverified : NoneUnverified log) (by_rule : AreByRule log) (in_turn : IsInTurn s log)
     (asked : asked_steps log ≡ steps_of moment lines) where
   lined : (m : Moment) → Has log m → m.entry.who ≡ 0 → is_line_ask m.entry.step ≡ true → IsLineStep m.entry.step
   lined m has who ask =
       lines_step moment lines m.entry.step (subst (λ (l : List Step). Has l m.entry.step) asked (in_asked log m has (ap (λ (k : ℕ). (k == 0) && is_line_ask m.entry.step) who ∙ ask)))
 
-  turn_at : (front back : List Moment) (m : Moment) → log ≡ front ++ m ∷ back → OneTurn (caller_of s front).drawn (caller_of s (front ++ m ∷ [])).drawn m.entry
-  turn_at front back m is =
+  -- a step by which no check ends well
+  turn_at : (front back : List Moment) (m : Moment) → log ≡ front ++ m ∷ back → ((snapshots blobs : ℕ) → m.entry.who ≡ 0 → m.entry.step ≢ ReadStep (CheckedAll snapshots blobs)) → OneTurn (caller_of s front).drawn (caller_of s (front ++ m ∷ [])).drawn m.entry
+  turn_at front back m is unchecked =
       let has : Has log m = subst (λ (l : List Moment). Has l m) (sym is) (has_at front back m) in
       let a : Allowed (formats_of s) s.part_size (world_of s front) m = legal_at s log smooth front back m is in
       elim (eqb_tells m.entry.who 0) [
@@ -190,7 +278,7 @@ module _ (s : Start) (log : List Moment) (lines : List ScriptLine) (moment : ℕ
           | inl alive ↦
               subst (λ (x : Caller). OneTurn (caller_of s front).drawn x.drawn m.entry) (sym (caller_one s front m))
               (turn_of (formats_of s) s.part_size (world_of s front) m nobody.1 (lined m has nobody.1) (in_turn.asked front back m is nobody.1) (all_calm log none by_rule m has)
-              ((λ why. unverified m why has nobody.1), (λ snapshots blobs. unchecked m snapshots blobs has nobody.1)) alive.1)
+              ((λ why. unverified m why has nobody.1), (λ snapshots blobs. unchecked snapshots blobs nobody.1)) alive.1)
           | inr dead ↦ absurd (true≢false (sym dead.deposed ∙ (quiet_at s log smooth front (m ∷ back) is).present))
         ]
         | inr some ↦
@@ -198,12 +286,85 @@ module _ (s : Start) (log : List Moment) (lines : List ScriptLine) (moment : ℕ
             (ap (λ (x : Caller). x.drawn) (caller_left s front m a (inl some.1)))
       ]
 
-  in_turn_from : (done rest : List Moment) → log ≡ done ++ rest → InTurn (is_some (caller_of s done).drawn) (entries_of rest)
-  in_turn_from done [] is =
-      let whole : log ≡ done = is ∙ append-nil done in
-      subst (λ (o : Option ℕ). InTurn (is_some o) []) (sym (ap (λ (l : List Moment). (caller_of s l).drawn) (sym whole) ∙ in_turn.closed)) AllClosed
-  in_turn_from done (m ∷ rest) is =
-      go_on (caller_of s done).drawn (caller_of s (done ++ m ∷ [])).drawn m.entry (entries_of rest) (turn_at done rest m is) (in_turn_from (done ++ m ∷ []) rest (is ∙ sym (append_assoc done (m ∷ []) rest)))
+  abbrev turn_after : List Moment → Turn
+  turn_after done = turn_by (caller_of s done).drawn
 
-  pub entries_in_turn : InTurn false (entries_of log)
-  entries_in_turn = subst (λ (o : Option ℕ). InTurn (is_some o) (entries_of log)) (opened_undrawn (formats_of s) smooth.image s.world smooth.opened) (in_turn_from [] log refl)
+  -- a part in which no check ends
+  part_turn : (done part back : List Moment) (kinds : List Bool) → log ≡ done ++ (part ++ back) → NoneChecked part → InTurn (turn_after (done ++ part)) kinds (entries_of back) → InTurn (turn_after done) (falses (asked_steps part) ++ kinds) (entries_of (part ++ back))
+  part_turn done [] back kinds is unchecked turn = subst (λ (l : List Moment). InTurn (turn_after l) kinds (entries_of back)) (append-nil done) turn
+  part_turn done (m ∷ part) back kinds is unchecked turn =
+      go_on (caller_of s done).drawn (caller_of s (done ++ m ∷ [])).drawn m.entry (entries_of (part ++ back)) (asked_steps part) kinds
+      (turn_at done (part ++ back) m is (λ snapshots blobs. unchecked m snapshots blobs (inl refl)))
+      (part_turn (done ++ m ∷ []) part back kinds (is ∙ sym (append_assoc done (m ∷ []) (part ++ back))) (λ n snapshots blobs there. unchecked n snapshots blobs (inr there))
+      (subst (λ (l : List Moment). InTurn (turn_after l) kinds (entries_of back)) (sym (append_assoc done (m ∷ []) part)) turn))
+
+  -- the end of a check isn't that it failed
+  ends_well : (m : Moment) → Has log m → m.entry.who ≡ 0 → (read : Read) → IsEndOfCheck read → m.entry.step ≡ ReadStep read → m.entry.reply ≡ HasEnded → (snapshots : ℕ) × (blobs : ℕ) × (m.entry.step ≡ ReadStep (CheckedAll snapshots blobs))
+  ends_well m has who (CheckedAll snapshots blobs) is_end step ended = (snapshots, blobs, step)
+  ends_well m has who (ReadFails why) is_end step ended = absurd (unverified m why has who step ended)
+  ends_well m has who read is_end step ended = absurd is_end
+
+  -- the part of a check
+  check_turn : (done part back : List Moment) (kinds : List Bool) → IsCheckPart part → log ≡ done ++ (part ++ back) → InTurn (turn_after (done ++ part)) kinds (entries_of back) → InTurn (turn_after done) (true ∷ kinds) (entries_of (part ++ back))
+  check_turn done part back kinds h is turn =
+      let front : List Moment = done ++ h.look ∷ h.fetches in
+      let whole : part ++ back ≡ h.look ∷ (h.fetches ++ h.end ∷ back) = ap (λ (l : List Moment). l ++ back) h.is ∙ append_assoc (h.look ∷ h.fetches) (h.end ∷ []) back in
+      let from : log ≡ done ++ h.look ∷ (h.fetches ++ h.end ∷ back) = is ∙ ap (λ (l : List Moment). done ++ l) whole in
+      let to : done ++ part ≡ front ++ h.end ∷ [] = ap (λ (l : List Moment). done ++ l) h.is ∙ sym (append_assoc done (h.look ∷ h.fetches) (h.end ∷ [])) in
+      let at_end : log ≡ front ++ h.end ∷ back = from ∙ sym (append_assoc done (h.look ∷ h.fetches) (h.end ∷ back)) in
+      let undrawn : (caller_of s done).drawn ≡ None = in_turn.asked done (h.fetches ++ h.end ∷ back) h.look from h.looker (ap is_line_ask h.looks) in
+      let closed : (caller_of s (done ++ part)).drawn ≡ None =
+      ap (λ (l : List Moment). (caller_of s l).drawn) to
+      ∙ ap (λ (c : Caller). c.drawn) (caller_one s front h.end ∙ (λ i. caller_after (formats_of s) (caller_of s front) (h.ender i) (h.ends i) (h.ended i) h.end.image))
+      ∙ ended_undrawn (formats_of s) (caller_of s front) h.read h.end.image h.is_end in
+      let end_has : Has log h.end = subst (λ (l : List Moment). Has l h.end) (sym at_end) (has_at front back h.end) in
+      let (snapshots, blobs, step) = ends_well h.end end_has h.ender h.read h.is_end h.ends h.ended in
+      let end_asked : is_asked h.end.entry ≡ false = (λ i. (h.ender i == 0) && is_line_ask (step i)) in
+      let end_line : is_of_line h.end.entry ≡ true = (λ i. (h.ender i == 0) && is_line_step (step i) (h.ended i)) in
+      let ending : InTurn InCheck kinds (entries_of (h.end ∷ back)) =
+      IsCheckEnd kinds h.end.entry (entries_of back) snapshots blobs end_asked end_line step h.ended (subst (λ (o : Option ℕ). InTurn (turn_by o) kinds (entries_of back)) closed turn) in
+      let calm : AllCalmIn h.fetches =
+      λ m has. all_calm log none by_rule m (subst (λ (l : List Moment). Has l m) (sym from) (behind_all done (h.look ∷ (h.fetches ++ h.end ∷ back)) m (inr (before_all h.fetches (h.end ∷ back) m has)))) in
+      let look_asked : is_asked h.look.entry ≡ true = (λ i. (h.looker i == 0) && is_line_ask (h.looks i)) in
+      let look_line : is_of_line h.look.entry ≡ true = (λ i. (h.looker i == 0) && is_line_step (h.looks i) h.look.entry.reply) in
+      let looking : InTurn Idle (true ∷ kinds) (entries_of (h.look ∷ (h.fetches ++ h.end ∷ back))) =
+      IsLook kinds h.look.entry (entries_of (h.fetches ++ h.end ∷ back)) look_asked look_line h.looks (fetches_turn h.fetches (h.end ∷ back) kinds h.all calm ending) in
+      subst (λ (l : List Moment). InTurn (turn_after done) (true ∷ kinds) (entries_of l)) (sym whole)
+      (subst (λ (o : Option ℕ). InTurn (turn_by o) (true ∷ kinds) (entries_of (h.look ∷ (h.fetches ++ h.end ∷ back)))) (sym undrawn) looking)
+    where
+      before_all : (a b : List Moment) (m : Moment) → Has a m → Has (a ++ b) m
+      before_all [] b m h = absurd h
+      before_all (x ∷ a) b m (inl e) = inl e
+      before_all (x ∷ a) b m (inr h) = inr (before_all a b m h)
+
+      behind_all : (a b : List Moment) (m : Moment) → Has b m → Has (a ++ b) m
+      behind_all [] b m h = h
+      behind_all (x ∷ a) b m h = inr (behind_all a b m h)
+
+  -- the part of a line
+  item_turn : (item : Item) (done part back : List Moment) (kinds : List Bool) → log ≡ done ++ (part ++ back) → asked_steps part ≡ steps_of_item moment item → IsPart item part → InTurn (turn_after (done ++ part)) kinds (entries_of back)
+      → InTurn (turn_after done) (kinds_of_item item ++ kinds) (entries_of (part ++ back))
+  item_turn items.Check done part back kinds is of own turn = check_turn done part back kinds own is turn
+  item_turn item done part back kinds is of own turn = subst (λ (l : List Step). InTurn (turn_after done) (falses l ++ kinds) (entries_of (part ++ back))) of (part_turn done part back kinds is own turn)
+
+  -- what comes after the parts
+  rest_turn : (done rest : List Moment) → log ≡ done ++ rest → NoneChecked rest → InTurn (turn_after done) (falses (asked_steps rest) ++ []) (entries_of rest)
+  rest_turn done rest is unchecked =
+      let closed : InTurn (turn_after (done ++ rest)) [] [] = subst (λ (o : Option ℕ). InTurn (turn_by o) [] []) (sym (ap (λ (l : List Moment). (caller_of s l).drawn) (sym is) ∙ in_turn.closed)) AllClosed in
+      subst (λ (l : List Moment). InTurn (turn_after done) (falses (asked_steps rest) ++ []) (entries_of l)) (append-nil rest)
+      (part_turn done rest [] [] (is ∙ ap (λ (l : List Moment). done ++ l) (sym (append-nil rest))) unchecked closed)
+
+  parts_turn : (left : List ScriptLine) (done rest : List Moment) → log ≡ done ++ rest → AreParts moment left rest → InTurn (turn_after done) (kinds_of left) (entries_of rest)
+  parts_turn [] done rest is (of, unchecked) = subst (λ (l : List Step). InTurn (turn_after done) (falses l ++ []) (entries_of rest)) of (rest_turn done rest is unchecked)
+  parts_turn (line ∷ left) done rest is (part, back, split, of, own, more) =
+      let from : log ≡ done ++ (part ++ back) = is ∙ ap (λ (l : List Moment). done ++ l) split in
+      let later = parts_turn left (done ++ part) back (from ∙ sym (append_assoc done part back)) more in
+      subst (λ (l : List Moment). InTurn (turn_after done) (kinds_of_item line.item ++ kinds_of left) (entries_of l)) (sym split) (item_turn line.item done part back (kinds_of left) from of own later)
+
+  turn_all : AreChecksInTurn moment lines log → InTurn (turn_after []) (kinds_of lines) (entries_of log)
+  turn_all (inl (none_asks, unchecked)) =
+      subst (λ (l : List Bool). InTurn (turn_after []) l (entries_of log)) (append-nil (falses (asked_steps log)) ∙ ap falses asked ∙ lines_kinds moment lines none_asks) (rest_turn [] log refl unchecked)
+  turn_all (inr parts) = parts_turn lines [] log refl parts
+
+  pub entries_in_turn : AreChecksInTurn moment lines log → InTurn Idle (kinds_of lines) (entries_of log)
+  entries_in_turn checks = subst (λ (o : Option ℕ). InTurn (turn_by o) (kinds_of lines) (entries_of log)) (opened_undrawn (formats_of s) smooth.image s.world smooth.opened) (turn_all checks)

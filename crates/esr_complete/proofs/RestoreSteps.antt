@@ -10,10 +10,10 @@ use Rattle.esr_model.specs.Image.{Image}
 use Rattle.esr_core.specs.World.{World, Restored, RestoreShard, Restoring, Reader}
 use Rattle.esr_core.specs.Restores.{IsReading, restore_shard, read_more}
 use Rattle.esr_core.specs.ReadTracked.{ReaderTracked, RestoresTracked}
-use Rattle.esr_core.specs.Entry.{Asked, Snapshot, Restore, Clone, DeleteSnapshots, Cleanup, is_recorded, Given, GivenShard, GivenFinalize, GivenDrop, GivenRestore, GivenClone, GivenDelete, GivenCleanup, Why, Read, ReadBlob, RestoredShard, CheckedAll, CommitTest, ReadFails, Step, AskStep, TakeStep, ReadStep, NoSnapshot, BeingDeleted, TooMany, DepotFault, CleanupRunning, Reply, Gave, WasFetched, WasAbsent, HasEnded, Refused, AcceptedRestore, Entry, Moment}
+use Rattle.esr_core.specs.Entry.{Asked, Snapshot, Restore, Clone, DeleteSnapshots, Cleanup, is_recorded, Given, GivenShard, GivenFinalize, GivenDrop, GivenRestore, GivenClone, GivenDelete, GivenCleanup, Why, Read, ReadBlob, RestoredShard, CheckedAll, CommitTest, ReadFails, Prune, SettlePruned, Step, AskStep, TakeStep, ReadStep, PruneStep, NoSnapshot, BeingDeleted, TooMany, DepotFault, CleanupRunning, Reply, Gave, WasSettled, WasFetched, WasAbsent, HasEnded, Refused, AcceptedRestore, Entry, Moment}
 use Rattle.esr_core.specs.After.{told_blob, taken_restore, taken_restore_shard, read_told, shard_over, read_over, read_by, test_left, answered, after}
 use Rattle.esr_core.specs.Allowed as allowed
-use Rattle.esr_core.specs.Allowed.{Gives, GivesRestore, RestoreAllows, OpeningRestore, NotListed, NamedByDelete, FullOfRestores, ReadAllows, ReadFound, ReadMissing, ReadFault, RestoringShard, ReaderFailing, CheckingAll, CheckFailing, VerifyAllows, DrawingTest, CommittingTest, CommitTestFails, Allows, Allowed}
+use Rattle.esr_core.specs.Allowed.{Gives, GivesRestore, RestoreAllows, OpeningRestore, NotListed, NamedByDelete, FullOfRestores, ReadAllows, ReadFound, ReadMissing, ReadFault, RestoringShard, ReaderFailing, CheckingAll, CheckFailing, VerifyAllows, DrawingTest, CommittingTest, CommitTestFails, SettlingDelete, PruneAllows, Allows, Allowed}
 use Rattle.esr_report.specs.Replies.{ReadShard, shard_ticket_by, shard_end_by}
 use Rattle.esr_core.proofs.Going.{IsOld, goes_answered}
 use Rattle.esr_core.proofs.Reading.{some_same}
@@ -91,7 +91,7 @@ module _ (f : Formats) (size : ℕ) (w : World) (es : List Entry) (h : RestoresI
   gives : (k o : ℕ) (unit : Given) (image : Option Image) → k ≡ w.next_ticket → Gives f w o unit → RestoresIn (answered f w 0 TakeStep (Gave k o unit) image) (es ++ gave k o unit ∷ [])
   gives k o (GivenRestore index number uuid) image is g = subst (λ (j : ℕ). RestoresIn (taken_restore w o index number (fin.get w.restores o)) (es ++ gave j o (GivenRestore index number uuid) ∷ [])) (sym is) (gives_restore o index number uuid g)
   gives k o (GivenClone index number source base) image is g = absurd g
-  gives k o (GivenDelete uuids) image is g = absurd g
+  gives k o (GivenDelete uuids) image is g = aside 0 TakeStep (Gave k o (GivenDelete uuids)) image tt (λ y. refl) refl refl
   gives k o GivenCleanup image is g = absurd g
   gives k o (GivenShard index number base) image is g = aside 0 TakeStep (Gave k o (GivenShard index number base)) image tt (λ y. refl) refl refl
   gives k o (GivenFinalize info results) image is g = aside 0 TakeStep (Gave k o (GivenFinalize info results)) image tt (λ y. refl) refl refl
@@ -141,6 +141,12 @@ module _ (f : Formats) (size : ℕ) (w : World) (es : List Entry) (h : RestoresI
   verifies read reply image (CommitTestFails name bytes im own leaves) = left_by name name (fin.get w.blobs (f.names.text name)) (told_blob f im name)
   verifies read reply image other = same (told 0 (ReadStep read) reply) (silent_caller (ReadStep read) reply (λ y. refl) refl)
 
+  -- ---- steps of a delete's ticket
+
+  prunes : (k : ℕ) (prune : Prune) (reply : Reply) (image : Option Image) → PruneAllows f w k prune reply image → RestoresIn (answered f w k (PruneStep prune) reply image) (es ++ told k (PruneStep prune) reply ∷ [])
+  prunes k prune reply image (SettlingDelete j im s present same_blobs) = aside j (PruneStep SettlePruned) WasSettled im tt (λ y. refl) refl refl
+  prunes k prune reply image other = aside k (PruneStep prune) reply image tt (λ y. refl) refl refl
+
   -- ---- each answer
 
   -- the record has no restore
@@ -157,6 +163,7 @@ module _ (f : Formats) (size : ℕ) (w : World) (es : List Entry) (h : RestoresI
   restores_by who step reply image (allowed.Reading k read rep im a same) un = reads k read rep im a un
   restores_by who step reply image (allowed.Verifying read rep im a) un = verifies read rep im a
   restores_by who step reply image (allowed.Cleaning command d x im recorded there clean same) un = aside 0 (AskStep command) (Refused (CleanupRunning d)) im (recorded_old command (Refused (CleanupRunning d)) recorded) (λ y. refl) refl refl
+  restores_by who step reply image (allowed.Pruning k prune rep im p) un = prunes k prune rep im p
   restores_by who step reply image other un = aside who step reply image tt (λ y. refl) refl refl
 
 pub restores_step : (f : Formats) (size : ℕ) (w : World) (es : List Entry) → RestoresIn w es → IsOrdered w → w.deposed ≡ false → (m : Moment) → Allowed f size w m → IsUnfailed m.entry.who m.entry.step m.entry.reply → RestoresIn (after f w m) (es ++ m.entry ∷ [])

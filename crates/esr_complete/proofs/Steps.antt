@@ -5,12 +5,13 @@ use Rattle.esr_model.specs.Names.{BlobName, Latest}
 use Rattle.esr_model.specs.Values.{Bytes, SnapInfo, ShardResult, Formats}
 use Rattle.esr_model.specs.Shelf.{Shelved}
 use Rattle.esr_model.specs.Image.{Image}
-use Rattle.esr_core.specs.World.{World, Op, ShardWork, Done, Shard, Finalize, Drop, Ticket, RestoreShard, Restoring, marked, info_of, shelved_of}
+use Rattle.esr_core.specs.World.{World, Op, ShardWork, Done, Shard, Finalize, Deleting, Drop, Swap, Ticket, RestoreShard, Restoring, marked, info_of, shelved_of}
 use Rattle.esr_core.specs.Ready.{Goes, Stopped, ReadyDrop}
 use Rattle.esr_core.specs.Steps.{shard_ticket, final_ticket, given}
 use Rattle.esr_core.specs.Entry.{AskedIndex, Snapshot, Restore, Given, GivenShard, GivenFinalize, GivenDrop, GivenRestore, GivenClone, GivenDelete, GivenCleanup, Read, ReadBlob, RestoredShard, CheckedAll, DrawTest, BeginTest, CommitTest, RemoveTests, VerifiedAll, ReadFails, Step, AskStep, TakeStep, DrawStep, BeginStep, CommitStep, LatestStep, FetchStep, ListStep, RaiseStep, SettleStep, DoneStep, FinishStep, ElectStep, LookStep, ReadStep, NameInUse, TooMany, NoSnapshot, BeingDeleted, Reply, Accepted, NothingReady, Gave, DrawnFrom, WasBegun, WasDone, WasThere, WasReplaced, WasFetched, WasAbsent, WasListed, RaisedTo, WasSettled, HasEnded, ElectedTerm, Looked, Refused, WasRemoved, AcceptedRestore, Entry, Moment}
 use Rattle.esr_core.specs.After.{asked, asked_op, taken_by, taken_shard, taken_restore, taken_restore_shard, read_by, with_given, change, committing, fetching, told_blob, settled_of, done_of, done_by, after}
 use Rattle.esr_core.specs.Allowed as allowed
+use Rattle.esr_core.proofs.PruneFrames.{prune_has_delete}
 use Rattle.esr_core.specs.Allowed.{Accepts, Gives, GivesShard, GivesFinalize, GivesRestore, Settles, Dones, RestoreAllows, OpeningRestore, NotListed, NamedByDelete, FullOfRestores, ReadAllows, ReadFound, ReadMissing, ReadFault, RestoringShard, ReaderFailing, CheckingAll, CheckFailing, VerifyAllows, DrawingTest, TestSpent, BeginningTest, BeginTestFails, CommittingTest, TestTaken, CommitTestFails, RemovingTests, RemoveTestsFails, VerifyingAll, VerifyFailing, Allows, Allowed}
 use Rattle.esr_core.proofs.Besides.{IsNoTest, aside_by}
 use Rattle.esr_core.proofs.Reading.{some_same, Has-right}
@@ -49,11 +50,17 @@ same_shards op shards goes = record { unfailed = goes.unfailed; unaborted = goes
 shard_drop : (i n : ℕ) → Shard i n ≡ Drop → ⊥
 shard_drop i n e = cc
 
+shard_deleting : (i n : ℕ) (uuids : List ℕ) (plan : Option Swap) → Shard i n ≡ Deleting uuids plan → ⊥
+shard_deleting i n uuids plan e = cc
+
 shard_final : (i n : ℕ) (info : SnapInfo) (results : List ShardResult) (made : Shelved) → Shard i n ≡ Finalize info results made → ⊥
 shard_final i n info results made e = cc
 
 final_drop : (info : SnapInfo) (results : List ShardResult) (made : Shelved) → Finalize info results made ≡ Drop → ⊥
 final_drop info results made e = cc
+
+final_deleting : (info : SnapInfo) (results : List ShardResult) (made : Shelved) (uuids : List ℕ) (plan : Option Swap) → Finalize info results made ≡ Deleting uuids plan → ⊥
+final_deleting info results made uuids plan e = cc
 
 final_info : (a b : SnapInfo) (rs qs : List ShardResult) (m n : Shelved) → Finalize a rs m ≡ Finalize b qs n → a ≡ b
 final_info a b rs qs m n e = cc
@@ -87,7 +94,7 @@ module _ (f : Formats) (size : ℕ) (w : World) (es : List Entry) (h : FollowsIn
       subst (λ (x : Option Op). FollowsIn (taken_by f w o (GivenShard index number base) x) all) (sym g.ready.op_there)
       (subst (λ (x : Option ShardWork). FollowsIn (taken_shard w o g.op base x) all) (sym g.found)
       (given_on w.deposed w.ops (fin.insert w.ops o op) w.deletes w.tickets w.next_ticket es o (GivenShard index number base) (shard_ticket w o g.op g.s base) h
-      (going_on w.ops o op h.going (same_shards g.op op.shards g.ready.goes)) (stands_on w.ops o op) refl (shard_drop g.s.ref.id g.s.number)
+      (going_on w.ops o op h.going (same_shards g.op op.shards g.ready.goes)) (stands_on w.ops o op) refl (shard_drop g.s.ref.id g.s.number) (shard_deleting g.s.ref.id g.s.number)
       (λ info results made e. absurd (shard_final g.s.ref.id g.s.number info results made e))))
 
   gives_final : (o : ℕ) (info : SnapInfo) (results : List ShardResult) → GivesFinalize f w o info results → FollowsIn (taken_by f w o (GivenFinalize info results) (fin.get w.ops o)) (es ++ gave w.next_ticket o (GivenFinalize info results) ∷ [])
@@ -95,7 +102,7 @@ module _ (f : Formats) (size : ℕ) (w : World) (es : List Entry) (h : FollowsIn
       let all : List Entry = es ++ gave w.next_ticket o (GivenFinalize info results) ∷ [] in
       subst (λ (x : Option Op). FollowsIn (taken_by f w o (GivenFinalize info results) x) all) (sym g.ready.op_there)
       (given_on w.deposed w.ops w.ops w.deletes w.tickets w.next_ticket es o (GivenFinalize info results) (final_ticket f w o g.op results) h h.going (λ p was. was) refl
-      (final_drop (info_of g.op results) results (shelved_of f g.op))
+      (final_drop (info_of g.op results) results (shelved_of f g.op)) (final_deleting (info_of g.op results) results (shelved_of f g.op))
       (λ other rs made e. ap (λ (y : SnapInfo). Some y.uuid) (g.info_is ∙ final_info (info_of g.op results) other results rs (shelved_of f g.op) made e)))
 
   -- no op is stopped
@@ -115,7 +122,7 @@ module _ (f : Formats) (size : ℕ) (w : World) (es : List Entry) (h : FollowsIn
   gives o GivenDrop g = absurd (no_drop o g)
   gives o (GivenRestore index number uuid) g = gives_restore o index number uuid g
   gives o (GivenClone index number source base) g = absurd g
-  gives o (GivenDelete uuids) g = absurd g
+  gives o (GivenDelete uuids) g = absurd (h.no_deletes o g.0 g.1.there)
   gives o GivenCleanup g = absurd g
 
   gives_as : (k o : ℕ) (unit : Given) → k ≡ w.next_ticket → Gives f w o unit → FollowsIn (taken_by f w o unit (fin.get w.ops o)) (es ++ gave k o unit ∷ [])
@@ -227,6 +234,7 @@ module _ (f : Formats) (size : ℕ) (w : World) (es : List Entry) (h : FollowsIn
   follows_by who step reply image (allowed.Reading k read rep im a same) calm = reads k read rep im a calm
   follows_by who step reply image (allowed.Verifying read rep im a) calm = verifies read rep im a calm
   follows_by who step reply image (allowed.Cleaning command d x im recorded there clean same) calm = absurd (h.no_deletes d x there)
+  follows_by who step reply image (allowed.Pruning k prune rep im p) calm = let d = prune_has_delete f w k prune rep im p in absurd (h.no_deleting d.k d.t d.uuids d.plan d.there d.work)
   follows_by who step reply image other calm = absurd calm
 
 pub follows_step : (f : Formats) (size : ℕ) (w : World) (es : List Entry) → FollowsIn w es → (m : Moment) → Allowed f size w m → IsCalm m.entry.reply m.entry.step → FollowsIn (after f w m) (es ++ m.entry ∷ [])

@@ -2,7 +2,7 @@
 use Rattle.std.proofs.Common.{◌≡◌, ◌⊎◌, ℕ, Bool, true, false, List, [], ◌∷◌, ◌++◌, Option, Some, None, option_map, if◌then◌else◌, ◌==◌, refl, sym, ap, ◌∙◌, subst, inl, inr}
 use Rattle.std.proofs.lemmas.Bool.Decides.{eqb_tells}
 use Rattle.esr_model.specs.Values.{Has}
-use Rattle.esr_core.specs.Entry.{Step, AskStep, SettleStep, FailedStep, Reply, WasSettled, HasEnded, Refused, Entry}
+use Rattle.esr_core.specs.Entry.{Step, AskStep, SettleStep, FailedStep, PruneStep, Reply, WasSettled, HasEnded, Refused, Entry}
 use Rattle.esr_core.specs.After.{or_else}
 use Rattle.esr_quiet.specs.Refusals.{IsByRule}
 use Rattle.esr_report.specs.Replies as report
@@ -52,6 +52,11 @@ IsCalm (Refused refusal) step = ⊥
 IsCalm HasEnded (FailedStep why) = ⊥
 IsCalm reply step = Unit {0}
 
+-- it is no step of a delete's ticket
+abbrev pub IsUnpruned : Step → Type 0
+IsUnpruned (PruneStep prune) = ⊥
+IsUnpruned step = Unit {0}
+
 -- the snapshot was made
 pub record IsMade (answer : Option report.Reply) : Type 0 where
   pub uuid : ℕ
@@ -66,17 +71,18 @@ of_uuid : (uuid : Option ℕ) → MadeOrNone (option_map Made uuid)
 of_uuid None = tt
 of_uuid (Some u) = tt
 
-ends_calm : (all : List Entry) (who : ℕ) (step : Step) (reply : Reply) → IsCalm reply step → MadeOrNone (ends_by all who step reply)
-ends_calm all who SettleStep WasSettled calm = of_uuid (uuid_of_ticket all who)
-ends_calm all who (FailedStep why) HasEnded calm = absurd calm
-ends_calm all who step reply calm = tt
+ends_calm : (all : List Entry) (who : ℕ) (step : Step) (reply : Reply) → IsCalm reply step → IsUnpruned step → MadeOrNone (ends_by all who step reply)
+ends_calm all who SettleStep WasSettled calm own = of_uuid (uuid_of_ticket all who)
+ends_calm all who (FailedStep why) HasEnded calm own = absurd calm
+ends_calm all who (PruneStep prune) reply calm own = absurd own
+ends_calm all who step reply calm own = tt
 
 if_made : (b : Bool) (answer : Option report.Reply) → MadeOrNone answer → MadeOrNone (if b then answer else None)
 if_made true answer h = h
 if_made false answer h = tt
 
-ends_at_calm : (all : List Entry) (o : ℕ) (e : Entry) → IsCalm e.reply e.step → MadeOrNone (ends_at all o e)
-ends_at_calm all o e calm = if_made (is_op o (op_of_ticket all e.who)) (ends_by all e.who e.step e.reply) (ends_calm all e.who e.step e.reply calm)
+ends_at_calm : (all : List Entry) (o : ℕ) (e : Entry) → IsCalm e.reply e.step → IsUnpruned e.step → MadeOrNone (ends_at all o e)
+ends_at_calm all o e calm own = if_made (is_op o (op_of_ticket all e.who)) (ends_by all e.who e.step e.reply) (ends_calm all e.who e.step e.reply calm own)
 
 either_made : (a b : Option report.Reply) → MadeOrNone a → IsMade a ⊎ IsMade b → IsMade (or_else a b)
 either_made None b calm (inl made) = absurd (none_some (Made made.uuid) made.is)
@@ -84,12 +90,12 @@ either_made None b calm (inr made) = made
 either_made (Some (Made u)) b calm made = record { uuid = u; is = refl }
 either_made (Some reply) b calm made = absurd calm
 
-pub end_made : (all : List Entry) (o : ℕ) (es : List Entry) → ((e : Entry) → Has es e → IsCalm e.reply e.step) → (e : Entry) → Has es e → IsMade (ends_at all o e) → IsMade (end_of_op all o es)
-end_made all o [] calm e has made = absurd has
-end_made all o (x ∷ es) calm e (inl same) made =
-    either_made (ends_at all o x) (end_of_op all o es) (ends_at_calm all o x (calm x (inl refl))) (inl (subst (λ (y : Entry). IsMade (ends_at all o y)) (sym same) made))
-end_made all o (x ∷ es) calm e (inr has) made =
-    either_made (ends_at all o x) (end_of_op all o es) (ends_at_calm all o x (calm x (inl refl))) (inr (end_made all o es (λ y h. calm y (inr h)) e has made))
+pub end_made : (all : List Entry) (o : ℕ) (es : List Entry) → ((e : Entry) → Has es e → IsCalm e.reply e.step) → ((e : Entry) → Has es e → IsUnpruned e.step) → (e : Entry) → Has es e → IsMade (ends_at all o e) → IsMade (end_of_op all o es)
+end_made all o [] calm own e has made = absurd has
+end_made all o (x ∷ es) calm own e (inl same) made =
+    either_made (ends_at all o x) (end_of_op all o es) (ends_at_calm all o x (calm x (inl refl)) (own x (inl refl))) (inl (subst (λ (y : Entry). IsMade (ends_at all o y)) (sym same) made))
+end_made all o (x ∷ es) calm own e (inr has) made =
+    either_made (ends_at all o x) (end_of_op all o es) (ends_at_calm all o x (calm x (inl refl)) (own x (inl refl))) (inr (end_made all o es (λ y h. calm y (inr h)) (λ y h. own y (inr h)) e has made))
 
 pub same_op : (o : ℕ) → (o == o) ≡ true
 same_op o = elim (eqb_tells o o) [ inl h ↦ h.0 | inr h ↦ absurd (h.1 refl) ]

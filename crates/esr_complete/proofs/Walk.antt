@@ -2,15 +2,15 @@
 use Rattle.std.proofs.Common.{◌≡◌, ℕ, Bool, true, false, ◌||◌, if◌then◌else◌, List, [], ◌∷◌, ◌++◌, Option, Some, None, map, option_map, refl, sym, ap, ◌∙◌, subst, inl, inr}
 use Rattle.esr_model.specs.Values.{Has}
 use Rattle.esr_core.specs.Entry as entry
-use Rattle.esr_core.specs.Entry.{Asked, Restore, DrawTest, VerifiedAll, Step, AskStep, LookStep, ReadStep, Entry, Moment}
+use Rattle.esr_core.specs.Entry.{Asked, Restore, CheckedAll, DrawTest, VerifiedAll, Step, AskStep, LookStep, ReadStep, Entry, Moment}
 use Rattle.esr_script.specs.declared.item.Item.{Item}
 use Rattle.esr_script.specs.declared.item.Item.TheVariants as items
 use Rattle.esr_script.specs.declared.item.ScriptLine.{ScriptLine}
-use Rattle.esr_report.specs.Replies.{Reply, fails_swap, answer_at, is_of_line, from_line, falls_before, falls_first, is_check, past_look, from_item, check_answer, line_answer, line_reply, wait_reply, is_wait, and_more, replies_from, replies}
+use Rattle.esr_report.specs.Replies.{Reply, fails_swap, answer_at, is_of_line, from_line, falls_before, falls_first, is_check, is_looked, is_look_answered, look_reply, past_look, from_item, check_answer, line_answer, line_reply, wait_reply, is_wait, and_more, replies_from, replies}
 use Rattle.esr_quiet.specs.Asked.{is_asked, asked_steps}
 use Rattle.esr_complete.specs.Lines.{index_of_line, command_of_line, steps_of_item, steps_of, IsKnown, AreKnown, entries_of}
 use Rattle.esr_complete.specs.Answers.{IsAnswer, AreAnswered}
-use Rattle.esr_complete.proofs.InTurn.{IsNoRead, InTurn, AllClosed, IsLine, IsDraw, IsEnd, IsAside}
+use Rattle.esr_complete.proofs.InTurn.{IsNoRead, Idle, InVerification, InCheck, kinds_of_item, kinds_of, InTurn, IsLine, IsDraw, IsEnd, IsLook, IsCheckEnd, IsAside}
 use Rattle.esr_complete.proofs.Facts.{IsAnswerOf, Fact}
 
 -- ---- what was asked, by the entries
@@ -26,13 +26,13 @@ asked_same (m ∷ log) = ap (λ (steps : List Step). if is_asked m.entry then m.
 -- ---- the next entry of a line
 
 -- what the line is answered by, with what comes after it
-pub record Next (all rest : List Entry) (P : Entry → Type 0) (more : List Step) : Type 0 where
+pub record Next (all rest : List Entry) (P : Entry → Type 0) (more : List Step) (kinds : List Bool) : Type 0 where
   pub e : Entry
   pub es : List Entry
   pub is : from_line rest ≡ e ∷ es
   pub own : P e
   pub more_is : steps_asked es ≡ more
-  pub turn : InTurn false es
+  pub turn : InTurn Idle kinds es
   pub fact : Fact all e
   pub facts : (x : Entry) → Has es x → Fact all x
 
@@ -43,8 +43,8 @@ heads : (a b : Step) (xs ys : List Step) → a ∷ xs ≡ b ∷ ys → (a ≡ b)
 heads a b xs ys e = (cc, cc)
 
 -- it is this one
-next_is : (all : List Entry) (P : Entry → Type 0) (more : List Step) (x : Entry) (es : List Entry) → ((y : Entry) → Has (x ∷ es) y → Fact all y) → is_of_line x ≡ true → P x → steps_asked es ≡ more → InTurn false es → Next all (x ∷ es) P more
-next_is all P more x es facts line own same turn =
+next_is : (all : List Entry) (P : Entry → Type 0) (more : List Step) (kinds : List Bool) (x : Entry) (es : List Entry) → ((y : Entry) → Has (x ∷ es) y → Fact all y) → is_of_line x ≡ true → P x → steps_asked es ≡ more → InTurn Idle kinds es → Next all (x ∷ es) P more kinds
+next_is all P more kinds x es facts line own same turn =
     record {
       e = x;
       es = es;
@@ -57,8 +57,8 @@ next_is all P more x es facts line own same turn =
     }
 
 -- or it comes later
-next_later : (all : List Entry) (P : Entry → Type 0) (more : List Step) (x : Entry) (es : List Entry) → is_of_line x ≡ false → Next all es P more → Next all (x ∷ es) P more
-next_later all P more x es line n =
+next_later : (all : List Entry) (P : Entry → Type 0) (more : List Step) (kinds : List Bool) (x : Entry) (es : List Entry) → is_of_line x ≡ false → Next all es P more kinds → Next all (x ∷ es) P more kinds
+next_later all P more kinds x es line n =
     record {
       e = n.e;
       es = n.es;
@@ -84,32 +84,69 @@ look_no_read : IsNoRead LookStep
 look_no_read read e = cc
 
 -- a line that asks for a step which reads nothing is answered by it
-next_line : (all : List Entry) (step : Step) (more : List Step) (rest : List Entry) → ((x : Entry) → Has rest x → Fact all x) → IsNoRead step → InTurn false rest → steps_asked rest ≡ step ∷ more → Next all rest (λ e. e.step ≡ step) more
-next_line all step more rest facts aside AllClosed e = absurd (no_step step more e)
-next_line all step more rest facts aside (IsLine x es asked line read turn) e =
+next_line : (all : List Entry) (step : Step) (more : List Step) (kinds : List Bool) (rest : List Entry) → ((x : Entry) → Has rest x → Fact all x) → IsNoRead step → InTurn Idle (false ∷ kinds) rest → steps_asked rest ≡ step ∷ more → Next all rest (λ e. e.step ≡ step) more kinds
+next_line all step more kinds rest facts aside (IsLine own x es asked line read turn) e =
     let both = asked_first x es step more asked e in
-    next_is all (λ y. y.step ≡ step) more x es facts line both.0 both.1 turn
-next_line all step more rest facts aside (IsDraw x es asked line draw turn) e = absurd (aside DrawTest (sym (asked_first x es step more asked e).0 ∙ draw))
-next_line all step more rest facts aside (IsAside b x es asked line turn) e =
-    next_later all (λ y. y.step ≡ step) more x es line (next_line all step more es (λ y has. facts y (inr has)) aside turn (asked_later x es (step ∷ more) asked e))
+    next_is all (λ y. y.step ≡ step) more kinds x es facts line both.0 both.1 turn
+next_line all step more kinds rest facts aside (IsDraw own x es asked line draw turn) e = absurd (aside DrawTest (sym (asked_first x es step more asked e).0 ∙ draw))
+next_line all step more kinds rest facts aside (IsAside now own x es asked line turn) e =
+    next_later all (λ y. y.step ≡ step) more kinds x es line (next_line all step more kinds es (λ y has. facts y (inr has)) aside turn (asked_later x es (step ∷ more) asked e))
 
 -- a verification has ended well
 abbrev IsVerified : Entry → Type 0
 IsVerified e = (e.step ≡ ReadStep VerifiedAll) × (e.reply ≡ entry.HasEnded)
 
 -- one that is open is answered by its end
-next_end : (all : List Entry) (more : List Step) (rest : List Entry) → ((x : Entry) → Has rest x → Fact all x) → InTurn true rest → steps_asked rest ≡ more → Next all rest IsVerified more
-next_end all more rest facts (IsEnd x es asked line step reply turn) e = next_is all IsVerified more x es facts line (step, reply) (asked_later x es more asked e) turn
-next_end all more rest facts (IsAside b x es asked line turn) e = next_later all IsVerified more x es line (next_end all more es (λ y has. facts y (inr has)) turn (asked_later x es more asked e))
+next_end : (all : List Entry) (more : List Step) (kinds : List Bool) (rest : List Entry) → ((x : Entry) → Has rest x → Fact all x) → InTurn InVerification kinds rest → steps_asked rest ≡ more → Next all rest IsVerified more kinds
+next_end all more kinds rest facts (IsEnd own x es asked line step reply turn) e = next_is all IsVerified more kinds x es facts line (step, reply) (asked_later x es more asked e) turn
+next_end all more kinds rest facts (IsAside now own x es asked line turn) e = next_later all IsVerified more kinds x es line (next_end all more kinds es (λ y has. facts y (inr has)) turn (asked_later x es more asked e))
 
 -- so is the line that asks for its draw
-next_verified : (all : List Entry) (more : List Step) (rest : List Entry) → ((x : Entry) → Has rest x → Fact all x) → InTurn false rest → steps_asked rest ≡ ReadStep DrawTest ∷ more → Next all rest IsVerified more
-next_verified all more rest facts AllClosed e = absurd (no_step (ReadStep DrawTest) more e)
-next_verified all more rest facts (IsLine x es asked line read turn) e = absurd (read DrawTest (asked_first x es (ReadStep DrawTest) more asked e).0)
-next_verified all more rest facts (IsDraw x es asked line draw turn) e =
-    next_later all IsVerified more x es line (next_end all more es (λ y has. facts y (inr has)) turn (asked_first x es (ReadStep DrawTest) more asked e).1)
-next_verified all more rest facts (IsAside b x es asked line turn) e =
-    next_later all IsVerified more x es line (next_verified all more es (λ y has. facts y (inr has)) turn (asked_later x es (ReadStep DrawTest ∷ more) asked e))
+next_verified : (all : List Entry) (more : List Step) (kinds : List Bool) (rest : List Entry) → ((x : Entry) → Has rest x → Fact all x) → InTurn Idle (false ∷ kinds) rest → steps_asked rest ≡ ReadStep DrawTest ∷ more → Next all rest IsVerified more kinds
+next_verified all more kinds rest facts (IsLine own x es asked line read turn) e = absurd (read DrawTest (asked_first x es (ReadStep DrawTest) more asked e).0)
+next_verified all more kinds rest facts (IsDraw own x es asked line draw turn) e =
+    next_later all IsVerified more kinds x es line (next_end all more kinds es (λ y has. facts y (inr has)) turn (asked_first x es (ReadStep DrawTest) more asked e).1)
+next_verified all more kinds rest facts (IsAside now own x es asked line turn) e =
+    next_later all IsVerified more kinds x es line (next_verified all more kinds es (λ y has. facts y (inr has)) turn (asked_later x es (ReadStep DrawTest ∷ more) asked e))
+
+-- a check has ended well
+abbrev IsChecked : Entry → Type 0
+IsChecked e = (snapshots : ℕ) × (blobs : ℕ) × (e.step ≡ ReadStep (CheckedAll snapshots blobs)) × (e.reply ≡ entry.HasEnded)
+
+-- one that is open is answered by its end
+next_checked : (all : List Entry) (more : List Step) (kinds : List Bool) (rest : List Entry) → ((x : Entry) → Has rest x → Fact all x) → InTurn InCheck kinds rest → steps_asked rest ≡ more → Next all rest IsChecked more kinds
+next_checked all more kinds rest facts (IsCheckEnd own x es snapshots blobs asked line step reply turn) e = next_is all IsChecked more kinds x es facts line (snapshots, blobs, step, reply) (asked_later x es more asked e) turn
+next_checked all more kinds rest facts (IsAside now own x es asked line turn) e = next_later all IsChecked more kinds x es line (next_checked all more kinds es (λ y has. facts y (inr has)) turn (asked_later x es more asked e))
+
+-- the line that asks for it has two entries: its look, and the end
+record NextCheck (all rest : List Entry) (more : List Step) (kinds : List Bool) : Type 0 where
+  look : Entry
+  behind : List Entry
+  first : from_line rest ≡ look ∷ behind
+  looks : look.step ≡ LookStep
+  fact : Fact all look
+  next : Next all behind IsChecked more kinds
+
+next_check : (all : List Entry) (more : List Step) (kinds : List Bool) (rest : List Entry) → ((x : Entry) → Has rest x → Fact all x) → InTurn Idle (true ∷ kinds) rest → steps_asked rest ≡ LookStep ∷ more → NextCheck all rest more kinds
+next_check all more kinds rest facts (IsLook own x es asked line looks turn) e =
+    record {
+      look = x;
+      behind = es;
+      first = ap (λ (b : Bool). if b then x ∷ es else from_line es) line;
+      looks = looks;
+      fact = facts x (inl refl);
+      next = next_checked all more kinds es (λ y has. facts y (inr has)) turn (asked_first x es LookStep more asked e).1;
+    }
+next_check all more kinds rest facts (IsAside now own x es asked line turn) e =
+    let n = next_check all more kinds es (λ y has. facts y (inr has)) turn (asked_later x es (LookStep ∷ more) asked e) in
+    record {
+      look = n.look;
+      behind = n.behind;
+      first = ap (λ (b : Bool). if b then x ∷ es else from_line es) line ∙ n.first;
+      looks = n.looks;
+      fact = n.fact;
+      next = n.next;
+    }
 
 -- ---- no swap of the record fails
 
@@ -152,52 +189,76 @@ answer_other false one two none = refl
 answer_other true one two none = absurd cc
 
 -- an entry of the line, with the answer that it tells
-by_entry : (all rest : List Entry) (item : Item) (lines : List ScriptLine) (P : Entry → Type 0) (more : List Step) → is_check item ≡ false → ((x : Entry) → Has rest x → Fact all x) → (n : Next all rest P more) → IsAnswerOf item (answer_at all n.e.step n.e.reply)
+by_entry : (all rest : List Entry) (item : Item) (lines : List ScriptLine) (P : Entry → Type 0) (more : List Step) (kinds : List Bool) → is_check item ≡ false → ((x : Entry) → Has rest x → Fact all x) → (n : Next all rest P more kinds) → IsAnswerOf item (answer_at all n.e.step n.e.reply)
     → AreAnswered lines (replies_from all lines false n.es)
     → IsFirst item lines (and_more (line_reply item all (from_item item rest)) (replies_from all lines (false || (falls_before rest || falls_first (from_item item rest)))))
-by_entry all rest item lines P more other facts n answer after =
+by_entry all rest item lines P more kinds other facts n answer after =
     subst (λ (es : List Entry). IsFirst item lines (and_more (line_reply item all es) (replies_from all lines (false || (falls_before rest || falls_first es))))) (sym (no_look (is_check item) (from_line rest) other ∙ n.is))
     (subst (λ (b : Bool). IsFirst item lines (and_more (line_reply item all (n.e ∷ n.es)) (replies_from all lines (false || b))))
     (sym (neither (falls_before rest) (fails_swap n.e.step n.e.reply) (unfallen_before all rest facts) n.fact.unfallen))
     (answered_next item lines (line_answer item all n.e.step n.e.reply) n.es (replies_from all lines false)
     (subst (λ (o : Option Reply). IsAnswerOf item o) (sym (answer_other (is_check item) (check_answer n.e.step n.e.reply) (answer_at all n.e.step n.e.reply) other)) answer) after))
 
-walk_item : (all rest : List Entry) (moment : ℕ) (item : Item) (lines : List ScriptLine) → ((x : Entry) → Has rest x → Fact all x) → IsKnown item → InTurn false rest → steps_asked rest ≡ steps_of_item moment item ++ steps_of moment lines
-    → ((es : List Entry) → ((x : Entry) → Has es x → Fact all x) → InTurn false es → steps_asked es ≡ steps_of moment lines → AreAnswered lines (replies_from all lines false es))
+-- a look that was answered
+looked_is : (reply : entry.Reply) → IsAnswerOf items.List (look_reply reply) → is_looked reply ≡ true
+looked_is (entry.Looked snapshots safe) answered = refl
+looked_is (entry.Refused (entry.DeposedAt place)) answered = absurd answered
+looked_is reply answered = absurd answered
+
+-- a check is answered by its end
+by_check : (all rest : List Entry) (lines : List ScriptLine) (more : List Step) (kinds : List Bool) → ((x : Entry) → Has rest x → Fact all x) → (n : NextCheck all rest more kinds) → AreAnswered lines (replies_from all lines false n.next.es)
+    → IsFirst items.Check lines (and_more (line_reply items.Check all (from_item items.Check rest)) (replies_from all lines (false || (falls_before rest || falls_first (from_item items.Check rest)))))
+by_check all rest lines more kinds facts n after =
+    let answered : is_look_answered n.look.step n.look.reply ≡ true = ap (λ (step : Step). is_look_answered step n.look.reply) n.looks ∙ looked_is n.look.reply (n.fact.looked n.looks) in
+    let from : from_item items.Check rest ≡ n.next.e ∷ n.next.es =
+    ap (past_look true) n.first ∙ ap (λ (b : Bool). if b then from_line n.behind else n.look ∷ n.behind) answered ∙ n.next.is in
+    let (snapshots, blobs, step, reply) = n.next.own in
+    let answer : IsAnswerOf items.Check (line_answer items.Check all n.next.e.step n.next.e.reply) =
+    subst (λ (x : Step). IsAnswerOf items.Check (check_answer x n.next.e.reply)) (sym step) (subst (λ (r : entry.Reply). IsAnswerOf items.Check (check_answer (ReadStep (CheckedAll snapshots blobs)) r)) (sym reply) tt) in
+    subst (λ (es : List Entry). IsFirst items.Check lines (and_more (line_reply items.Check all es) (replies_from all lines (false || (falls_before rest || falls_first es))))) (sym from)
+    (subst (λ (b : Bool). IsFirst items.Check lines (and_more (line_reply items.Check all (n.next.e ∷ n.next.es)) (replies_from all lines (false || b))))
+    (sym (neither (falls_before rest) (fails_swap n.next.e.step n.next.e.reply) (unfallen_before all rest facts) n.next.fact.unfallen))
+    (answered_next items.Check lines (line_answer items.Check all n.next.e.step n.next.e.reply) n.next.es (replies_from all lines false) answer after))
+
+walk_item : (all rest : List Entry) (moment : ℕ) (item : Item) (lines : List ScriptLine) → ((x : Entry) → Has rest x → Fact all x) → IsKnown item → InTurn Idle (kinds_of_item item ++ kinds_of lines) rest → steps_asked rest ≡ steps_of_item moment item ++ steps_of moment lines
+    → ((es : List Entry) → ((x : Entry) → Has es x → Fact all x) → InTurn Idle (kinds_of lines) es → steps_asked es ≡ steps_of moment lines → AreAnswered lines (replies_from all lines false es))
     → IsFirst item lines
     (if is_wait item then wait_reply (false || falls_before rest) ∷ replies_from all lines false rest else and_more (line_reply item all (from_item item rest)) (replies_from all lines (false || (falls_before rest || falls_first (from_item item rest)))))
 walk_item all rest moment (items.Snapshot name indices) lines facts known turn e on =
     let step : Step = AskStep (command_of_line name indices moment) in
-    let n = next_line all step (steps_of moment lines) rest facts (ask_no_read (command_of_line name indices moment)) turn e in
-    by_entry all rest (items.Snapshot name indices) lines (λ x. x.step ≡ step) (steps_of moment lines) refl facts n
+    let n = next_line all step (steps_of moment lines) (kinds_of lines) rest facts (ask_no_read (command_of_line name indices moment)) turn e in
+    by_entry all rest (items.Snapshot name indices) lines (λ x. x.step ≡ step) (steps_of moment lines) (kinds_of lines) refl facts n
     (subst (λ (x : Step). IsAnswerOf (items.Snapshot name indices) (answer_at all x n.e.reply)) (sym n.own) (n.fact.asked name (map index_of_line indices) moment n.own name indices))
     (on n.es n.facts n.turn n.more_is)
 walk_item all rest moment (items.Restore name place) lines facts known turn e on =
     let step : Step = AskStep (Restore name place) in
-    let n = next_line all step (steps_of moment lines) rest facts (ask_no_read (Restore name place)) turn e in
-    by_entry all rest (items.Restore name place) lines (λ x. x.step ≡ step) (steps_of moment lines) refl facts n
+    let n = next_line all step (steps_of moment lines) (kinds_of lines) rest facts (ask_no_read (Restore name place)) turn e in
+    by_entry all rest (items.Restore name place) lines (λ x. x.step ≡ step) (steps_of moment lines) (kinds_of lines) refl facts n
     (subst (λ (x : Step). IsAnswerOf (items.Restore name place) (answer_at all x n.e.reply)) (sym n.own) (n.fact.restored name place n.own name place))
     (on n.es n.facts n.turn n.more_is)
 walk_item all rest moment items.Wait lines facts known turn e on =
     subst (λ (b : Bool). IsFirst items.Wait lines (wait_reply (false || b) ∷ replies_from all lines false rest)) (sym (unfallen_before all rest facts)) (tt, on rest facts turn e)
 walk_item all rest moment items.List lines facts known turn e on =
-    let n = next_line all LookStep (steps_of moment lines) rest facts look_no_read turn e in
-    by_entry all rest items.List lines (λ x. x.step ≡ LookStep) (steps_of moment lines) refl facts n
+    let n = next_line all LookStep (steps_of moment lines) (kinds_of lines) rest facts look_no_read turn e in
+    by_entry all rest items.List lines (λ x. x.step ≡ LookStep) (steps_of moment lines) (kinds_of lines) refl facts n
     (subst (λ (x : Step). IsAnswerOf items.List (answer_at all x n.e.reply)) (sym n.own) (n.fact.looked n.own))
     (on n.es n.facts n.turn n.more_is)
+walk_item all rest moment items.Check lines facts known turn e on =
+    let n = next_check all (steps_of moment lines) (kinds_of lines) rest facts turn e in
+    by_check all rest lines (steps_of moment lines) (kinds_of lines) facts n (on n.next.es n.next.facts n.next.turn n.next.more_is)
 walk_item all rest moment items.Verify lines facts known turn e on =
-    let n = next_verified all (steps_of moment lines) rest facts turn e in
-    by_entry all rest items.Verify lines IsVerified (steps_of moment lines) refl facts n
+    let n = next_verified all (steps_of moment lines) (kinds_of lines) rest facts turn e in
+    by_entry all rest items.Verify lines IsVerified (steps_of moment lines) (kinds_of lines) refl facts n
     (subst (λ (x : Step). IsAnswerOf items.Verify (answer_at all x n.e.reply)) (sym n.own.0) (subst (λ (r : entry.Reply). IsAnswerOf items.Verify (answer_at all (ReadStep VerifiedAll) r)) (sym n.own.1) tt))
     (on n.es n.facts n.turn n.more_is)
 walk_item all rest moment item lines facts known turn e on = absurd known
 
-walk : (all : List Entry) (moment : ℕ) (lines : List ScriptLine) (rest : List Entry) → AreKnown lines → ((x : Entry) → Has rest x → Fact all x) → InTurn false rest → steps_asked rest ≡ steps_of moment lines → AreAnswered lines (replies_from all lines false rest)
+walk : (all : List Entry) (moment : ℕ) (lines : List ScriptLine) (rest : List Entry) → AreKnown lines → ((x : Entry) → Has rest x → Fact all x) → InTurn Idle (kinds_of lines) rest → steps_asked rest ≡ steps_of moment lines → AreAnswered lines (replies_from all lines false rest)
 walk all moment [] rest known facts turn e = tt
 walk all moment (line ∷ lines) rest known facts turn e =
     first_is line lines (replies_from all (line ∷ lines) false rest) (walk_item all rest moment line.item lines facts known.0 turn e (λ es more after same. walk all moment lines es known.1 more after same))
 
-pub answered_lines : (log : List Moment) (lines : List ScriptLine) (moment : ℕ) → AreKnown lines → ((x : Entry) → Has (entries_of log) x → Fact (entries_of log) x) → InTurn false (entries_of log) → asked_steps log ≡ steps_of moment lines
+pub answered_lines : (log : List Moment) (lines : List ScriptLine) (moment : ℕ) → AreKnown lines → ((x : Entry) → Has (entries_of log) x → Fact (entries_of log) x) → InTurn Idle (kinds_of lines) (entries_of log) → asked_steps log ≡ steps_of moment lines
     → AreAnswered lines (replies lines (entries_of log))
 unfolding replies
 answered_lines log lines moment known facts turn e = walk (entries_of log) moment lines (entries_of log) known facts turn (asked_same log ∙ e)

@@ -4,7 +4,7 @@ use Rattle.esr_core.specs.Entry.{TakeStep, NothingReady, Entry, Moment}
 use Rattle.esr_script.specs.declared.item.Item.{Item}
 use Rattle.esr_script.specs.declared.item.Item.TheVariants as items
 use Rattle.esr_script.specs.declared.item.ScriptLine.{ScriptLine}
-use Rattle.esr_report.specs.Replies.{Reply, Made, Restored, Waited, Listed, Verified, Refused}
+use Rattle.esr_report.specs.Replies.{Reply, Made, Restored, Waited, Listed, Checked, Verified, Refused}
 use Rattle.esr_report.specs.Status.{ending, AllOk, SomeRefused}
 use Rattle.esr_desk.specs.Start.{Start}
 use Rattle.esr_desk.specs.Grew.{NoneOut}
@@ -22,7 +22,7 @@ pub record IsIdle (s : Start) (log : List Moment) : Type 0 where
   pub no_reader : NoReaderOut s log
   pub none_ready : IsLast log 0 TakeStep NothingReady
 
--- the answer of a line: a snapshot was made, or a restore has restored each shard, or a rule refused it; the container was verified
+-- the answer of a line: a snapshot was made, or a restore has restored each shard, or a rule refused it; the safe root was checked; the container was verified
 abbrev pub IsAnswer : Item → Reply → Type 0
 IsAnswer (items.Snapshot name indices) (Made uuid) = Unit {0}
 IsAnswer (items.Snapshot name indices) (Refused refusal) = RefusesSnapshot refusal
@@ -30,6 +30,7 @@ IsAnswer (items.Restore name place) (Restored files bytes) = Unit {0}
 IsAnswer (items.Restore name place) (Refused refusal) = RefusesRestore refusal
 IsAnswer items.Wait Waited = Unit {0}
 IsAnswer items.List (Listed snapshots) = Unit {0}
+IsAnswer items.Check (Checked snapshots blobs) = Unit {0}
 IsAnswer items.Verify Verified = Unit {0}
 IsAnswer item reply = ⊥
 

@@ -33,12 +33,13 @@ abbrev pub steps_of : ℕ → List ScriptLine → List Step
 steps_of moment [] = []
 steps_of moment (line ∷ lines) = steps_of_item moment line.item ++ steps_of moment lines
 
--- a snapshot, a restore, a wait, a list or a verification
+-- a snapshot, a restore, a wait, a list, a check or a verification
 abbrev pub IsKnown : Item → Type 0
 IsKnown (items.Snapshot name indices) = Unit {0}
 IsKnown (items.Restore name place) = Unit {0}
 IsKnown items.Wait = Unit {0}
 IsKnown items.List = Unit {0}
+IsKnown items.Check = Unit {0}
 IsKnown items.Verify = Unit {0}
 IsKnown item = ⊥
 

@@ -1,36 +1,39 @@
 -- A command that is accepted keeps the law.
 use Rattle.std.proofs.Common.{◌≡◌, ◌⊎◌, ℕ, ◌<◌, List, [], true, false, true≢false, Option, Some, None, refl, sym, ap, ◌∙◌, subst, inl, inr, arith}
 use Rattle.std.specs.FinMap as fin
-use Rattle.esr_model.specs.Names.{BlobName}
-use Rattle.esr_model.specs.Values.{Bytes, IndexRef, RootData, Formats}
+use Rattle.esr_model.specs.Names.{BlobName, ShardIndex}
+use Rattle.esr_model.specs.Values.{Bytes, IndexRef, RootData, SnapList, ShardFiles, Formats}
 use Rattle.esr_model.specs.Shelf.{Shelved}
 use Rattle.esr_model.specs.Image.{Has}
-use Rattle.esr_core.specs.World.{World, Op, ShardWork, Out, Ticket, AllDone, HeldIn, info_of, shelved_of}
+use Rattle.esr_core.specs.World.{World, Op, ShardWork, Out, Deleting, Ticket, Swap, swap_of, AllDone, HeldIn, info_of, shelved_of}
 use Rattle.esr_core.specs.Ready.{Stopped}
 use Rattle.esr_core.specs.Steps.{completing}
 use Rattle.esr_core.specs.Turns.{AskCreate, AskCleanup, IsApart, AskDelete, MergeDelete, Aborts}
-use Rattle.esr_core.specs.Generations.{DoneAt, IsLive, Carries, Base, OpLaw, Together, Carried}
+use Rattle.esr_core.specs.Generations.{DoneAt, IsLive, HasShard, ListsOwn, IsOwn, Carries, Base, OpLaw, Together, PlanLaw, Carried}
+use Rattle.esr_core.specs.Ids.{IdsIn}
 use Rattle.esr_core.specs.Queue.{Queue, Lawful}
-use Rattle.esr_core.proofs.Reading.{some_same}
+use Rattle.esr_core.proofs.Reading.{some_same, held_one, reads_one}
+use Rattle.esr_core.proofs.Owning.{OnWith, own_on, plan_on}
 use Rattle.esr_core.proofs.Ordered.{shard_ref}
 use Rattle.esr_core.proofs.Queues.{Ops, was_in, other_in, Evolves, queue_ops, queued_back, queue_add, queue_add_delete, queue_delete}
 use Rattle.esr_core.proofs.Evolving.{pending_out, pending_done, completing_has, completing_more, completing_was, results_of}
 
 -- ops of which each is as one that was, in all that shards read, and no more is done
 module _ (f : Formats) (has : BlobName → Bytes → Type 0) (root : RootData) (ops now : Ops)
-    (done : (uuid i n g : ℕ) → DoneAt now uuid i n g → DoneAt ops uuid i n g) where
+    (done : (uuid i n g : ℕ) → DoneAt now uuid i n g → DoneAt ops uuid i n g) (own : (i n g : ℕ) → Carries f has root ops i n g → IsOwn f has now i n g) where
   pub live_from : (i n g : ℕ) → IsLive root now i n g → IsLive root ops i n g
   live_from i n g (inl h) = inl h
   live_from i n g (inr (u, a)) = inr (u, done u i n g a)
 
   pub carries_from : (i n g : ℕ) → Carries f has root ops i n g → Carries f has root now i n g
-  carries_from i n g c = record { stands = c.stands; done = λ u h a below. c.done u h (done u i n h a) below; listed = c.listed }
+  carries_from i n g c = record { stands = c.stands; own = own i n g c; done = λ u h a below. c.done u h (done u i n h a) below; listed = c.listed }
 
   pub base_from : (i n : ℕ) (base : Option ℕ) → Base f has root ops i n base → Base f has root now i n base
   base_from i n None h = λ g live. h g (live_from i n g live)
   base_from i n (Some b) h = (λ g live. h.0 g (live_from i n g live), carries_from i n b h.1)
 
-module _ (f : Formats) (w : World) (shelf : List Shelved) (l : Lawful f w shelf) (op : Op) (new : World) (d : AskCreate f w op new) (apart_from : IsApart w op) (one_id : (r q : IndexRef) → Has op.indices r → Has op.indices q → r.id ≡ q.id → r ≡ q) where
+module _ (f : Formats) (w : World) (shelf : List Shelved) (l : Lawful f w shelf) (op : Op) (new : World) (d : AskCreate f w op new) (apart_from : IsApart w op) (one_id : (r q : IndexRef) → Has op.indices r → Has op.indices q → r.id ≡ q.id → r ≡ q)
+    (ids : IdsIn f w) where
   abbrev ops : Ops
   ops = fin.insert w.ops w.next_op op
 
@@ -41,6 +44,29 @@ module _ (f : Formats) (w : World) (shelf : List Shelved) (l : Lawful f w shelf)
   done_was uuid i n g a = elim (was_in w.ops w.next_op op a.number a.op a.there) [
     | inl h ↦ absurd (pending_done (sym (d.pending a.s (subst (λ (x : Op). Has x.shards a.s) (sym h.1) a.s_there)) ∙ a.state))
     | inr h ↦ record { number = a.number; op = a.op; there = h.1; uuid_is = a.uuid_is; s = a.s; s_there = a.s_there; r = a.r; state = a.state; index_is = a.index_is; shard_is = a.shard_is; generation_is = a.generation_is }
+  ]
+
+  -- an index that was there doesn't list the new op
+  lists_was : (i n g : ℕ) (held : ShardFiles) → g < w.next_id → ((y : SnapList) → Has held.snapshots y → y.uuid < g) → ListsOwn w.ops i n held → ListsOwn ops i n held
+  lists_was i n g held b below h = λ y m o q e same. elim (was_in w.ops w.next_op op o q e) [
+    | inl z ↦
+        let a : y.uuid < g = below y m in
+        let u : y.uuid ≡ w.next_id = sym same ∙ ap (λ (x : Op). x.uuid) (sym z.1) ∙ d.uuid_is in
+        absurd (omega (arith, a, b, u))
+    | inr z ↦ h y m o q z.1 same
+  ]
+
+  own_was : (i n g : ℕ) → Carries f (HeldIn f w) w.root w.ops i n g → IsOwn f (HeldIn f w) ops i n g
+  own_was i n g h = λ held reads.
+      let is : h.stands.held ≡ held = reads_one (HeldIn f w) (held_one f w) (ShardIndex i n g) f.shard_index h.stands.held held h.stands.held_reads reads in
+      lists_was i n g held (ids.blobs (ShardIndex i n g) (reads.bytes, reads.there.0)).1 (subst (λ (v : ShardFiles). (y : SnapList) → Has v.snapshots y → y.uuid < g) is h.stands.below) (h.own held reads)
+
+  plan_was : (j : ℕ) (u : Ticket) → fin.get w.tickets j ≡ Some u → (uuids : List ℕ) (s : Swap) → u.work ≡ Deleting uuids (Some s) → PlanLaw f w.root w.ops s → PlanLaw f w.root ops s
+  plan_was j u e uuids s is h = λ i n g gen. elim (h i n g gen) [
+    | inl old ↦ inl old
+    | inr x ↦
+        let b : g < w.next_id = ((ids.tickets j u e).root s (ap (λ y. swap_of f y u.root) is)).generations i n g gen in
+        inr (record { index_of = x.index_of; there = x.there; back = x.back; below = x.below; lists = lists_was i n g x.index_of b x.below x.lists })
   ]
 
   stays : (o : ℕ) (x : Op) → fin.get w.ops o ≡ Some x → fin.get ops o ≡ Some x
@@ -74,7 +100,7 @@ module _ (f : Formats) (w : World) (shelf : List Shelved) (l : Lawful f w shelf)
             | inr y ↦ c.together p q a b apart x.1 y.1
           ]
         ];
-        carries = λ i n g live. carries_from f (HeldIn f w) w.root w.ops ops done_was i n g (c.carries i n g (live_from f (HeldIn f w) w.root w.ops ops done_was i n g live));
+        carries = λ i n g live. carries_from f (HeldIn f w) w.root w.ops ops done_was own_was i n g (c.carries i n g (live_from f (HeldIn f w) w.root w.ops ops done_was own_was i n g live));
         shards = λ j u e out i n is. let h = c.shards j u e out i n is in record {
           op = h.op;
           op_there = stays u.op h.op h.op_there;
@@ -84,10 +110,11 @@ module _ (f : Formats) (w : World) (shelf : List Shelved) (l : Lawful f w shelf)
           state = h.state;
           index_is = h.index_is;
           shard_is = h.shard_is;
-          base = base_from f (HeldIn f w) w.root w.ops ops done_was i n u.base h.base;
+          base = base_from f (HeldIn f w) w.root w.ops ops done_was own_was i n u.base h.base;
           ids = h.ids;
         };
         one_shard = c.one_shard;
+        plans = λ j u e out uns pres uuids s is. plan_was j u e uuids s is (c.plans j u e out uns pres uuids s is);
         finals = λ j u e out uns pres info results made is. let h = c.finals j u e out uns pres info results made is in
             record { op = h.op; op_there = stays u.op h.op h.op_there; done = h.done; info_is = h.info_is; made_is = h.made_is; root_is = h.root_is };
         held = λ p q z j e m state. elim (was_in w.ops w.next_op op p q e) [
@@ -143,6 +170,17 @@ module _ (f : Formats) (w : World) (shelf : List Shelved) (l : Lawful f w shelf)
         generation_is = x.generation_is;
       }
 
+  on_with : OnWith w.ops now
+  on_with = λ o op e. let (old, there, how) = a.was o op e in (
+    old,
+    there,
+    as_was (λ (y : Op). old.uuid ≡ y.uuid) (λ y z. z) old op how refl,
+    (λ i n has. as_was (λ (y : Op). HasShard y i n) (λ y z. z) old op how has),
+  )
+
+  own_before : (i n g : ℕ) → Carries f (HeldIn f w) w.root w.ops i n g → IsOwn f (HeldIn f w) now i n g
+  own_before i n g h = own_on w.ops now on_with f (HeldIn f w) i n g h.own
+
   op_law_to : (x : Op) → OpLaw f (HeldIn f w) w.root x → OpLaw f (HeldIn f w) w.root (record x { aborted = Some by })
   op_law_to x h = record { places = h.places; done = h.done; texts = h.texts; unlisted = h.unlisted; unused = h.unused; one_id = h.one_id; distinct = h.distinct; same_name = h.same_name }
 
@@ -156,7 +194,7 @@ module _ (f : Formats) (w : World) (shelf : List Shelved) (l : Lawful f w shelf)
             let (yo, yt, yh) = a.was q y h in
             as_was (λ z. Together z y) (λ z t. record { uuids = t.uuids; same_name = t.same_name }) xo x xh
             (as_was (Together xo) (λ z t. record { uuids = t.uuids; same_name = t.same_name }) yo y yh (before.together p q xo yo apart xt yt));
-        carries = λ i n g live. carries_from f (HeldIn f w) w.root w.ops now done_before i n g (before.carries i n g (live_from f (HeldIn f w) w.root w.ops now done_before i n g live));
+        carries = λ i n g live. carries_from f (HeldIn f w) w.root w.ops now done_before own_before i n g (before.carries i n g (live_from f (HeldIn f w) w.root w.ops now done_before own_before i n g live));
         shards = λ j u e out i n is.
             let h = before.shards j u e out i n is in
             let (op, there, how) = a.stays u.op h.op h.op_there in
@@ -169,10 +207,11 @@ module _ (f : Formats) (w : World) (shelf : List Shelved) (l : Lawful f w shelf)
               state = h.state;
               index_is = h.index_is;
               shard_is = h.shard_is;
-              base = base_from f (HeldIn f w) w.root w.ops now done_before i n u.base h.base;
+              base = base_from f (HeldIn f w) w.root w.ops now done_before own_before i n u.base h.base;
               ids = h.ids;
             };
         one_shard = before.one_shard;
+        plans = λ j u e out uns pres uuids s is. plan_on w.ops now on_with f w.root s (before.plans j u e out uns pres uuids s is);
         finals = λ j u e out uns pres info results made is.
             let h = before.finals j u e out uns pres info results made is in
             let (op, there, how) = a.stays u.op h.op h.op_there in

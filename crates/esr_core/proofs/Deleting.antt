@@ -1,19 +1,35 @@
 -- What a delete stages: with its new shard indices added, the new root stands for what is left of the shelf.
 use Rattle.std.proofs.Common.{◌≡◌, ◌⊎◌, ℕ, List, [], ◌∷◌, Bool, true, false, Option, refl, sym, ap, ◌∙◌, subst, inl, inr, arith}
-use Rattle.esr_model.specs.Places.{shelf_places}
+use Rattle.esr_model.specs.Places.{places, comes_first, shelf_places}
 use Rattle.esr_model.specs.Names.{BlobName, ShardIndex}
-use Rattle.esr_model.specs.Values.{Bytes, IndexRef, RootSnap, RootData, ShardFiles, ReadsBack, Formats}
+use Rattle.esr_model.specs.Values.{Bytes, IndexRef, RootSnap, RootIndex, RootData, ShardFiles, ReadsBack, Formats}
 use Rattle.esr_model.specs.Shelf.{Shelved, ShelfShard}
 use Rattle.esr_model.specs.Image.{Has, AllPairs, IsOne, Reads, Lists, FileStands, ShardStands, SnapStands, RootStands}
 use Rattle.esr_core.specs.Swaps.{OrOwn}
 use Rattle.esr_model.specs.Delete.{names_uuid, left_snaps, left_shelf, Deletes}
-use Rattle.esr_core.proofs.Frames.{reads_kept, file_kept, index_kept, AllPairs-map}
+use Rattle.esr_core.proofs.Frames.{reads_kept, file_kept, index_less, index_kept, AllPairs-map}
 use Rattle.esr_core.proofs.Reading.{some_same, reads_one}
 use Rattle.esr_core.proofs.Results.{choose_true, choose_false}
+use Rattle.esr_core.proofs.Ordered.{Has-sorted, in_places}
 
 pub bool_told : (b : Bool) → (b ≡ true) ⊎ (b ≡ false)
 bool_told true = inl refl
 bool_told false = inr refl
+
+-- what is left is of what was
+pub left_has : (uuids : List ℕ) (ss : List RootSnap) (s : RootSnap) → Has (left_snaps uuids ss) s → Has ss s
+left_has uuids [] s h = h
+left_has uuids (x ∷ xs) s h = elim (bool_told (names_uuid uuids x.uuid)) [
+  | inl b ↦ inr (left_has uuids xs s (subst (λ l. Has l s) (choose_true _ _ _ b) h))
+  | inr b ↦ elim (subst (λ l. Has l s) (choose_false _ _ _ b) h) [ inl e ↦ inl e | inr m ↦ inr (left_has uuids xs s m) ]
+]
+
+-- pair by pair, of the members of the first list
+pairs_in : {A B : Type 0} (R S : A → B → Type 0) (xs : List A) (ys : List B) → ((x : A) (y : B) → Has xs x → R x y → S x y) → AllPairs R xs ys → AllPairs S xs ys
+pairs_in R S [] [] f h = tt
+pairs_in R S [] (y ∷ ys) f h = h
+pairs_in R S (x ∷ xs) [] f h = h
+pairs_in R S (x ∷ xs) (y ∷ ys) f h = (f x y (inl refl) h.0, pairs_in R S xs ys (λ z w m. f z w (inr m)) h.1)
 
 -- pair by pair over what is left
 left_pairs : (R S : RootSnap → Shelved → Type 0) (uuids : List ℕ) → ((s : RootSnap) (x : Shelved) → R s x → x.uuid ≡ s.uuid)
@@ -40,8 +56,9 @@ module _ (f : Formats) (has : BlobName → Bytes → Type 0) (func : IsOne has) 
   own_index : (i k now : ℕ) (held : ShardFiles) → ReadsBack f.shard_index held → Has own (ShardIndex i k now, f.shard_index.text held) → Reads Then (ShardIndex i k now) f.shard_index held
   own_index i k now held back h = record { bytes = f.shard_index.text held; there = inr h; reads = back }
 
-  shard_left : (snap : RootSnap) → names_uuid uuids snap.uuid ≡ false → (place : IndexRef × ℕ) (shard : ShelfShard) → ShardStands f has root snap.uuid place shard → ShardStands f Then new snap.uuid place shard
-  shard_left snap stays place shard s = elim (d.left place.0.id place.1 s.generation snap.uuid s.in_root s.index s.index_reads s.snap.files s.lists stays) [
+  shard_left : (snap : RootSnap) → names_uuid uuids snap.uuid ≡ false → (place : IndexRef × ℕ) (shard : ShelfShard) → (x : RootIndex) → Has root.indices x → x.id ≡ place.0.id → Has x.snapshots snap.uuid
+      → ShardStands f has root snap.uuid place shard → ShardStands f Then new snap.uuid place shard
+  shard_left snap stays place shard x there id mine s = elim (d.left place.0.id place.1 s.generation snap.uuid s.in_root x there id mine s.index s.index_reads s.snap.files s.lists stays) [
     | inl old ↦ record {
       name_is = s.name_is;
       number_is = s.number_is;
@@ -89,8 +106,15 @@ module _ (f : Formats) (has : BlobName → Bytes → Type 0) (func : IsOne has) 
         metas = λ r h. reads_kept f has Then lift _ _ _ (s.metas r h);
         listed = λ r h. let (x, x_there, name, id, mine) = s.listed r h in let (y, y_there, y_name, y_id, y_mine) = d.kept x snap.uuid x_there mine stays in (y, y_there, y_name ∙ name, y_id ∙ id, y_mine);
         exact = λ y h mine. let (x, x_there, name, id, less) = d.from y h in let (r, r_there, r_name, r_id) = s.exact x x_there (less snap.uuid mine) in (r, r_there, r_name ∙ name, r_id ∙ id);
-        shards = AllPairs-map (shard_left snap stays) (shelf_places s.info.indices) shelved.shards s.shards;
+        shards = pairs_in (ShardStands f has root snap.uuid) (ShardStands f Then new snap.uuid) (shelf_places s.info.indices) shelved.shards
+            (λ place shard m h.
+            let (x, there, name, id, mine) = s.listed place.0 (in_places s.info.indices place (Has-sorted comes_first (places s.info.indices) place m)).0 in
+            shard_left snap stays place shard x there id mine h)
+            s.shards;
       }
+
+  was_listed : (snap : RootSnap) → Has new.snapshots snap → Has root.snapshots snap
+  was_listed snap m = left_has uuids root.snapshots snap (subst (λ xs. Has xs snap) d.snapshots m)
 
   pub stage_delete : (shelf : List Shelved) → RootStands f has root shelf → RootStands f Then new (left_shelf uuids shelf)
   stage_delete shelf s =
@@ -98,7 +122,7 @@ module _ (f : Formats) (has : BlobName → Bytes → Type 0) (func : IsOne has) 
         snapshots = subst (λ xs. AllPairs (SnapStands f Then new) xs (left_shelf uuids shelf)) (sym d.snapshots)
             (left_pairs (SnapStands f has root) (SnapStands f Then new) uuids (λ snap x h. h.uuid_is) root.snapshots shelf snap_left s.snapshots);
         indices = λ i k g gen. elim (d.generations i k g gen) [
-          | inl old ↦ index_kept f has Then lift i k g (s.indices i k g old.1)
+          | inl old ↦ index_kept f has Then lift new i k g (index_less f has root new was_listed i k g (s.indices i k g old.1))
           | inr now ↦
               let (h, was, held, old, was_reads, mine, back, prunes, above) = d.pruned i k g now in
               let stood = s.indices i k h old in
@@ -107,6 +131,7 @@ module _ (f : Formats) (has : BlobName → Bytes → Type 0) (func : IsOne has) 
                 held = held;
                 held_reads = own_index i k g held back mine;
                 files = λ e m. let it = stood.files e (subst (λ (x : ShardFiles). Has x.files e) (sym same) (prunes.files_from e m)) in (it.0, file_kept f has Then lift i k e it.0 it.1);
+                snaps = λ l snap m n e. let it = stood.snaps l snap (subst (λ (x : ShardFiles). Has x.snapshots l) (sym same) (prunes.lists_from l m)) (was_listed snap n) e in (it.0, reads_kept f has Then lift _ _ _ it.1);
                 below = λ l m. let b = stood.below l (subst (λ (x : ShardFiles). Has x.snapshots l) (sym same) (prunes.lists_from l m)) in omega (arith, b, above);
               }
         ];

@@ -5,17 +5,18 @@ use Rattle.std.specs.FinMap.{FinMap, nat_cmp-IsAntisymmetric}
 use Rattle.std.specs.FinMap as fin
 use Rattle.esr_model.specs.Places.{shelf_places}
 use Rattle.esr_model.specs.Names.{BlobName, Snap, ShardSnap, ShardIndex}
-use Rattle.esr_model.specs.Values.{Bytes, IndexRef, RootSnap, RootData, SnapInfo, FileEntry, ShardFiles, ShardResult, Formats}
+use Rattle.esr_model.specs.Values.{Bytes, IndexRef, RootSnap, RootData, SnapInfo, FileEntry, ShardSnapshot, ShardFiles, ShardResult, Formats}
 use Rattle.esr_model.specs.Shelf.{Shelved, ShelfShard}
 use Rattle.esr_model.specs.Image.{Has, AllPairs, Reads, Generation, Lists, ListsAs, FileStands, IndexStands, ShardStands, RootStands}
 use Rattle.esr_core.specs.World.{World, Op, ShardWork, Shard, Ticket, Done, Out, marked, HeldIn}
 use Rattle.esr_core.specs.Steps.{DoneShard, Extends, ExtendsBase}
-use Rattle.esr_core.specs.Generations.{DoneAt, IsLive, IsOfShard, Carries, DoneStands, OpLaw, Together, Base, BaseBelow, ShardLaw, Carried}
+use Rattle.esr_core.specs.Generations.{DoneAt, IsLive, IsOfShard, HasShard, IsOwn, Carries, DoneStands, OpLaw, Together, Base, BaseBelow, ShardLaw, Carried}
 use Rattle.esr_core.proofs.Maps.{split, get_was, get_same, get_other}
 use Rattle.esr_core.proofs.Reading.{some_same, held_one as func_of, reads_one, Has-map, Has-mapped}
 use Rattle.esr_core.proofs.Results.{done_same, done_out, done_of}
 use Rattle.esr_core.proofs.Marked.{marked_is, marked_ref, marked_number}
 use Rattle.esr_core.proofs.Grows.{info_there}
+use Rattle.esr_core.proofs.Owning.{OnWith, own_on, plan_on}
 
 -- the file of a pair
 file_of : (f : Formats) (has : BlobName → Bytes → Type 0) (index shard : ℕ) (es : List FileEntry) (files : List (Bytes × Bytes))
@@ -90,11 +91,35 @@ module _ (f : Formats) (w : World) (k : ℕ) (r : ShardResult) (new : World) (d 
         ]
   ]
 
+  has_still : (index shard : ℕ) → HasShard d.op index shard → HasShard op_now index shard
+  has_still index shard h = (
+    marked k (Done r) h.0,
+    Has-map (marked k (Done r)) d.op.shards h.0 h.1,
+    ap (λ (v : IndexRef). v.id) (marked_ref k (Done r) h.0) ∙ h.2,
+    marked_number k (Done r) h.0 ∙ h.3,
+  )
+
+  on_with : OnWith w.ops ops_now
+  on_with = λ o op e. elim (get_was nat_cmp_total nat_cmp-IsAntisymmetric w.ops d.t.op op_now o op e) [
+    | inl h ↦ (d.op, ap (fin.get w.ops) h.0 ∙ d.op_there, ap (λ (x : Op). x.uuid) h.1, (λ index shard has. subst (λ (x : Op). HasShard x index shard) h.1 (has_still index shard has)))
+    | inr h ↦ (op, h.1, refl, (λ index shard has. has))
+  ]
+
+  -- the op whose shard was done has it
+  own_has : (o : ℕ) (op : Op) → fin.get ops_now o ≡ Some op → op.uuid ≡ d.t.uuid → HasShard op r.index r.shard
+  own_has o op e same = elim (get_was nat_cmp_total nat_cmp-IsAntisymmetric w.ops d.t.op op_now o op e) [
+    | inl h ↦
+        let one = held_one d.s d.s_there d.state in
+        subst (λ (x : Op). HasShard x r.index r.shard) h.1 (has_still r.index r.shard (d.s, d.s_there, one.0, one.1))
+    | inr h ↦ absurd ((c.together o d.t.op op d.op h.0 h.1 d.op_there).uuids (same ∙ sym uuid_is))
+  ]
+
   -- a generation that can't serve the new one goes on as it did
   carries_on : (index shard g : ℕ) → (index ≡ r.index → shard ≡ r.shard → r.generation ≤ g → ⊥) → Carries f (HeldIn f w) w.root w.ops index shard g → Carries f (HeldIn f w) w.root ops_now index shard g
   carries_on index shard g not_new h =
       record {
         stands = h.stands;
+        own = own_on w.ops ops_now on_with f (HeldIn f w) index shard g h.own;
         done = λ uuid g' a below. elim (done_was uuid index shard g' a) [ inl was ↦ h.done uuid g' was below | inr is ↦ absurd (not_new is.index_new is.shard_new (subst (λ x. x ≤ g) is.g_new below)) ];
         listed = h.listed;
       }
@@ -116,12 +141,16 @@ module _ (f : Formats) (w : World) (k : ℕ) (r : ShardResult) (new : World) (d 
       let same : l.held ≡ was = reads_one (HeldIn f w) (func_of f w) (ShardIndex r.index r.shard base) f.shard_index l.held was l.held_reads reads in
       record { snap = l.snap; snap_reads = l.snap_reads; held = d.held; held_reads = d.held_reads; lists = ext.keeps u l.snap.files (subst (λ x. Lists x u l.snap.files) same l.lists) }
 
-  new_stands : (base : Option ℕ) → Base f (HeldIn f w) w.root w.ops r.index r.shard base → BaseBelow base r.generation → ExtendsBase f (HeldIn f w) r.index r.shard base d.held d.t.uuid d.snap.files → IndexStands f (HeldIn f w) r.index r.shard r.generation
+  new_snap : (u : ℕ) → d.t.uuid ≡ u → (v : ShardSnapshot) × Reads (HeldIn f w) (ShardSnap r.index r.shard u) f.shard_snap v
+  new_snap u e = (d.snap, subst (λ x. Reads (HeldIn f w) (ShardSnap r.index r.shard x) f.shard_snap d.snap) e d.snap_reads)
+
+  new_stands : (base : Option ℕ) → Base f (HeldIn f w) w.root w.ops r.index r.shard base → BaseBelow base r.generation → ExtendsBase f (HeldIn f w) r.index r.shard base d.held d.t.uuid d.snap.files → IndexStands f (HeldIn f w) w.root r.index r.shard r.generation
   new_stands None h below ext =
       record {
         held = d.held;
         held_reads = d.held_reads;
         files = λ e m. elim (ext.files_from e m) [ inl no_file ↦ absurd no_file | inr m' ↦ file_of f (HeldIn f w) r.index r.shard d.snap.files _ d.files e m' ];
+        snaps = λ l snap m n e. elim (ext.lists_from l m) [ inl no_list ↦ absurd no_list | inr z ↦ new_snap snap.uuid (sym z ∙ e) ];
         below = λ l m. elim (ext.lists_from l m) [ inl no_list ↦ absurd no_list | inr e ↦ subst (λ x. x < r.generation) (sym e) below_new.0 ];
       }
   new_stands (Some base) h below (was, reads, ext) =
@@ -130,6 +159,10 @@ module _ (f : Formats) (w : World) (k : ℕ) (r : ShardResult) (new : World) (d 
         held = d.held;
         held_reads = d.held_reads;
         files = λ e m. elim (ext.files_from e m) [ inl old ↦ h.1.stands.files e (subst (λ x. Has x.files e) (sym same) old) | inr m' ↦ file_of f (HeldIn f w) r.index r.shard d.snap.files _ d.files e m' ];
+        snaps = λ l snap m n e. elim (ext.lists_from l m) [
+          | inl old ↦ h.1.stands.snaps l snap (subst (λ (x : ShardFiles). Has x.snapshots l) (sym same) old) n e
+          | inr z ↦ new_snap snap.uuid (sym z ∙ e)
+        ];
         below = λ l m. elim (ext.lists_from l m) [
           | inl old ↦ let a : l.uuid < base = h.1.stands.below l (subst (λ x. Has x.snapshots l) (sym same) old) in let b : base < r.generation = below in omega arith
           | inr e ↦ subst (λ x. x < r.generation) (sym e) below_new.0
@@ -145,6 +178,17 @@ module _ (f : Formats) (w : World) (k : ℕ) (r : ShardResult) (new : World) (d 
   own_lists None ext = ext.lists
   own_lists (Some base) (was, reads, ext) = ext.lists
 
+  new_own : (base : Option ℕ) → Base f (HeldIn f w) w.root w.ops r.index r.shard base → ExtendsBase f (HeldIn f w) r.index r.shard base d.held d.t.uuid d.snap.files → IsOwn f (HeldIn f w) ops_now r.index r.shard r.generation
+  new_own None h ext = λ held reads l m o op e same.
+      let is : held ≡ d.held = reads_one (HeldIn f w) (func_of f w) (ShardIndex r.index r.shard r.generation) f.shard_index held d.held reads d.held_reads in
+      elim (ext.lists_from l (subst (λ (x : ShardFiles). Has x.snapshots l) is m)) [ inl no_list ↦ absurd no_list | inr z ↦ own_has o op e (same ∙ z) ]
+  new_own (Some base) h (was, was_reads, ext) = λ held reads l m o op e same.
+      let is : held ≡ d.held = reads_one (HeldIn f w) (func_of f w) (ShardIndex r.index r.shard r.generation) f.shard_index held d.held reads d.held_reads in
+      elim (ext.lists_from l (subst (λ (x : ShardFiles). Has x.snapshots l) is m)) [
+        | inl old ↦ own_on w.ops ops_now on_with f (HeldIn f w) r.index r.shard base h.1.own was was_reads l old o op e same
+        | inr z ↦ own_has o op e (same ∙ z)
+      ]
+
   new_listed : (base : Option ℕ) → Base f (HeldIn f w) w.root w.ops r.index r.shard base → ExtendsBase f (HeldIn f w) r.index r.shard base d.held d.t.uuid d.snap.files
       → (snap : RootSnap) → Has w.root.snapshots snap → IsOfShard f (HeldIn f w) snap.uuid r.index r.shard → ListsAs f (HeldIn f w) r.index r.shard r.generation snap.uuid
   new_listed None h ext snap m is =
@@ -158,6 +202,7 @@ module _ (f : Formats) (w : World) (k : ℕ) (r : ShardResult) (new : World) (d 
   new_carries =
       record {
         stands = new_stands d.t.base law.base below_new.1 d.extends;
+        own = new_own d.t.base law.base d.extends;
         done = λ u g a below. elim (done_was u r.index r.shard g a) [ inl was ↦ new_done d.t.base law.base d.extends u g was | inr is ↦ new_serves u is.uuid_new (own_lists d.t.base d.extends) ];
         listed = λ below snap m is. new_listed d.t.base law.base d.extends snap m is;
       }
@@ -301,6 +346,7 @@ module _ (f : Formats) (w : World) (k : ℕ) (r : ShardResult) (new : World) (d 
           ]
         ];
         carries = carries_now;
+        plans = λ j u e out uns pres uuids s is. plan_on w.ops ops_now on_with f w.root s (c.plans j u (out_was j u e out).1 out uns pres uuids s is);
         shards = λ j u e out index shard is. let (apart, was) = out_was j u e out in shard_now j u apart was out index shard is (c.shards j u was out index shard is);
         one_shard = λ i j u v a b ao bo index shard ai bi. c.one_shard i j u v (out_was i u a ao).1 (out_was j v b bo).1 ao bo index shard ai bi;
         finals = λ j u e out uns pres info results made is.

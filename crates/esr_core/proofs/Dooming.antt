@@ -8,14 +8,18 @@ use Rattle.esr_core.specs.World.{World, HeldIn, Safely}
 use Rattle.esr_model.specs.Image.{RootIs}
 use Rattle.esr_core.specs.Doomed.{Dooms}
 use Rattle.esr_core.specs.Sound.{Sound}
-use Rattle.esr_core.proofs.Frames.{root_kept}
-use Rattle.esr_core.proofs.Reading.{held_one, safely_one, safe_root_stands, Has-either}
+use Rattle.esr_core.proofs.Frames.{reads_kept, root_kept}
+use Rattle.esr_core.proofs.Reading.{held_one, safely_one, safe_root_stands, Has-right, Has-either}
 use Rattle.esr_core.proofs.Reaching.{root_used, Used}
 use Rattle.esr_core.proofs.Opening.{root_carries}
 
 module _ (f : Formats) (w new : World) (shelf : List Shelved) (names : List BlobName) (l : Sound f w shelf) (d : Dooms f w names new) where
   abbrev now : BlobName → Bytes → Type 0
   now = Safely f w.blobs (names ++ w.doomed)
+
+  -- what isn't doomed now wasn't doomed before
+  was_held : (m : BlobName) (b : Bytes) → now m b → HeldIn f w m b
+  was_held m b h = (h.0, λ q. h.1 (Has-right names w.doomed m q))
 
   -- what the root reaches is not doomed
   used_now : (m : BlobName) (b : Bytes) → Used f (HeldIn f w) w.root m b → now m b
@@ -71,12 +75,13 @@ module _ (f : Formats) (w new : World) (shelf : List Shelved) (names : List Blob
           };
           together = l.carried.together;
           carries = λ i k g live. elim live [
-            | inl gen ↦ root_carries f now (safely_one f w.blobs (names ++ w.doomed)) w.root shelf root_now w.ops i k g gen (λ u h a. d.no_done u i k h a)
+            | inl gen ↦ root_carries f now (safely_one f w.blobs (names ++ w.doomed)) w.root shelf root_now w.ops i k g gen (λ u h a. d.no_done u i k h a) (λ held reads. (l.carried.carries i k g (inl gen)).own held (reads_kept f now (HeldIn f w) was_held _ _ _ reads))
             | inr a ↦ absurd (d.no_done a.0 i k g a.1)
           ];
           shards = λ j u e out i k is. absurd (d.no_shard j u e out i k is);
           one_shard = l.carried.one_shard;
           finals = l.carried.finals;
+          plans = l.carried.plans;
           held = l.carried.held;
         };
         fresh = l.fresh;

@@ -1,8 +1,9 @@
 -- A draw keeps the law: of a shard unit, and of a delete, which makes its swap with it.
-use Rattle.std.proofs.Common.{◌≡◌, ℕ, ◌<◌, ◌≤◌, List, [], ◌∷◌, false, Option, Some, None, refl, sym, ap, ◌∙◌, subst, inl, inr}
+use Rattle.std.proofs.Common.{◌≡◌, ℕ, ◌<◌, ◌≤◌, List, [], ◌∷◌, false, Option, Some, None, refl, sym, ap, ◌∙◌, subst, inl, inr, arith}
+use Rattle.std.specs.Prelude.{if◌then◌else◌}
 use Rattle.std.specs.FinMap as fin
-use Rattle.esr_model.specs.Names.{BlobName, Root}
-use Rattle.esr_model.specs.Values.{Bytes, RootSnap, RootData, SnapInfo, ShardResult, Formats}
+use Rattle.esr_model.specs.Names.{BlobName, Root, ShardIndex}
+use Rattle.esr_model.specs.Values.{Bytes, RootSnap, RootData, SnapInfo, ShardFiles, ShardResult, Formats}
 use Rattle.esr_model.specs.Shelf.{Shelved, left_shelf, names_uuid, shelf_after}
 use Rattle.esr_model.specs.Image.{Has, AllPairs, SnapStands, RootStands}
 use Rattle.esr_model.specs.Delete.{Deletes, left_snaps}
@@ -10,25 +11,17 @@ use Rattle.esr_core.specs.World.{World, Shard, Finalize, Deleting, Drop, Ticket,
 use Rattle.esr_core.specs.Ready.{IsMaster, IsShard, SwapIsOut}
 use Rattle.esr_core.specs.Turns.{DrawShard, DrawPlan}
 use Rattle.esr_core.specs.Swaps.{TicketLaw, SwapLaw, SwapShape, IsSwapping, Counts, OrOwn}
-use Rattle.esr_core.specs.Generations.{Carried, BaseBelow}
+use Rattle.esr_core.specs.Generations.{Carried, BaseBelow, PlanLaw}
 use Rattle.esr_core.specs.Sound.{Sound}
 use Rattle.esr_core.specs.Queue.{Lawful, DeleteLaw, Shrinks}
-use Rattle.esr_core.proofs.Reading.{some_same, none_some, held_one, safe_root_stands}
+use Rattle.esr_core.proofs.Reading.{some_same, none_some, held_one, reads_one, safe_root_stands}
 use Rattle.esr_core.proofs.Results.{choose_true, choose_false}
-use Rattle.esr_core.proofs.Deleting.{stage_delete, bool_told}
+use Rattle.esr_core.proofs.Deleting.{stage_delete, bool_told, left_has}
 use Rattle.esr_core.proofs.Tickets.{each_ticket}
 use Rattle.esr_core.proofs.Same.{SameTicket}
 use Rattle.esr_core.proofs.Law.{quiet, fresh_same}
 use Rattle.esr_core.proofs.Settling.{swap_master}
 use Rattle.esr_core.proofs.Queues.{was_in, other_in, queue_ticket}
-
--- what is left is of what was
-pub left_has : (uuids : List ℕ) (ss : List RootSnap) (s : RootSnap) → Has (left_snaps uuids ss) s → Has ss s
-left_has uuids [] s h = h
-left_has uuids (x ∷ xs) s h = elim (bool_told (names_uuid uuids x.uuid)) [
-  | inl b ↦ inr (left_has uuids xs s (subst (λ l. Has l s) (choose_true _ _ _ b) h))
-  | inr b ↦ elim (subst (λ l. Has l s) (choose_false _ _ _ b) h) [ inl e ↦ inl e | inr m ↦ inr (left_has uuids xs s m) ]
-]
 
 -- what isn't named is left
 pub left_stays : (uuids : List ℕ) (ss : List RootSnap) (s : RootSnap) → Has ss s → names_uuid uuids s.uuid ≡ false → Has (left_snaps uuids ss) s
@@ -95,11 +88,23 @@ module _ (f : Formats) (w : World) (shelf : List Shelved) (l : Lawful f w shelf)
   -- the shelf that the command makes of it
   after : d.t.settled ≡ false → d.t.term ≡ w.term → left_shelf d.uuids shelf ≡ shelf_after shelf d.commands
   after uns pres = elim d.prunes [
-    | inl h ↦ ap (shelf_after shelf) (sym h.1)
+    | inl h ↦
+        same_left d.uuids d.named w.root.snapshots shelf (λ s m. h.0 s (subst (λ (r : RootData). Has r.snapshots s) (sym (law uns pres).root_is) m))
+        (safe_root_stands f (HeldIn f w) (held_one f w) w.safe w.root shelf l.sound.rooted.kept.picked l.sound.carried.root_is).snapshots ∙ ap (shelf_after shelf) (sym h.1)
     | inr h ↦ all_left d.uuids w.root.snapshots shelf (λ s m. h.1 s (subst (λ (r : RootData). Has r.snapshots s) (sym (law uns pres).root_is) m))
         (safe_root_stands f (HeldIn f w) (held_one f w) w.safe w.root shelf l.sound.rooted.kept.picked l.sound.carried.root_is).snapshots ∙ ap (shelf_after shelf) (sym h.0)
   ]
     where
+      -- uuids that name the same of what is listed leave the same
+      same_left : (us vs : List ℕ) (ss : List RootSnap) (xs : List Shelved) → ((s : RootSnap) → Has ss s → names_uuid us s.uuid ≡ names_uuid vs s.uuid) → AllPairs (SnapStands f (HeldIn f w) w.root) ss xs → left_shelf us xs ≡ left_shelf vs xs
+      same_left us vs [] [] same h = refl
+      same_left us vs [] (y ∷ ys) same h = absurd h
+      same_left us vs (s ∷ ss) [] same h = absurd h
+      same_left us vs (s ∷ ss) (y ∷ ys) same h =
+          let one : names_uuid us y.uuid ≡ names_uuid vs y.uuid = ap (names_uuid us) h.0.uuid_is ∙ same s (inl refl) ∙ sym (ap (names_uuid vs) h.0.uuid_is) in
+          let rest : left_shelf us ys ≡ left_shelf vs ys = same_left us vs ss ys (λ z m. same z (inr m)) h.1 in
+          λ j. if one j then rest j else y ∷ rest j
+
       all_left : (uuids : List ℕ) (ss : List RootSnap) (xs : List Shelved) → ((s : RootSnap) → Has ss s → names_uuid uuids s.uuid ≡ false) → AllPairs (SnapStands f (HeldIn f w) w.root) ss xs → left_shelf uuids xs ≡ xs
       all_left uuids [] [] none h = refl
       all_left uuids [] (y ∷ ys) none h = absurd h
@@ -152,6 +157,28 @@ module _ (f : Formats) (w : World) (shelf : List Shelved) (l : Lawful f w shelf)
       apart : Deleting d.named (Some its) ≡ Shard i x → ⊥
       apart e = cc
 
+  -- its new indices list what those of the safe root list
+  new_plan : d.t.settled ≡ false → d.t.term ≡ w.term → PlanLaw f w.root w.ops its
+  new_plan uns pres = λ i x g gen.
+      let dels = deletes uns pres in
+      elim (dels.generations i x g gen) [
+        | inl stays ↦ inl stays.1
+        | inr fresh ↦
+            let (h, was, index_now, gen_was, was_reads, mine, back, prunes, above) = dels.pruned i x g fresh in
+            let c = l.sound.carried.carries i x h (inl gen_was) in
+            let same : c.stands.held ≡ was = reads_one (HeldIn f w) (held_one f w) (ShardIndex i x h) f.shard_index c.stands.held was c.stands.held_reads was_reads in
+            inr (record {
+              index_of = index_now;
+              there = mine;
+              back = back;
+              below = λ y m. let b = c.stands.below y (subst (λ (z : ShardFiles). Has z.snapshots y) (sym same) (prunes.lists_from y m)) in omega (arith, b, above);
+              lists = λ y m o op e is. c.own was was_reads y (prunes.lists_from y m) o op e is;
+            })
+      ]
+
+  plan_of : {us : List ℕ} {p : Option Swap} → Deleting d.named (Some its) ≡ Deleting us p → Some its ≡ p
+  plan_of e = cc
+
   carried : Carried f (HeldIn f w) w.safe w.term w.root w.ops (fin.insert w.tickets k v)
   carried =
       let c = l.sound.carried in
@@ -167,6 +194,10 @@ module _ (f : Formats) (w : World) (shelf : List Shelved) (l : Lawful f w shelf)
         finals = λ j u e out uns pres info rs made is. elim (was_in w.tickets k v j u e) [
           | inl h ↦ absurd (not_final (ap (λ (y : Ticket). y.work) h.1 ∙ is))
           | inr h ↦ c.finals j u h.1 out uns pres info rs made is
+        ];
+        plans = λ j u e out uns pres uuids s is. elim (was_in w.tickets k v j u e) [
+          | inl h ↦ subst (PlanLaw f w.root w.ops) (some_same _ _ (plan_of (ap (λ (y : Ticket). y.work) h.1 ∙ is))) (new_plan (ap (λ (y : Ticket). y.settled) h.1 ∙ uns) (ap (λ (y : Ticket). y.term) h.1 ∙ pres))
+          | inr h ↦ c.plans j u h.1 out uns pres uuids s is
         ];
       }
     where
@@ -191,7 +222,7 @@ module _ (f : Formats) (w : World) (shelf : List Shelved) (l : Lawful f w shelf)
         named = λ us p e. h.named us None (d.work ∙ ap (λ (x : List ℕ). Deleting x None) (uuids_of e));
         keeps = λ s e z m stays. subst (λ (x : Swap). Has x.root.snapshots z) (some_same _ _ (plan_is is ∙ e))
             (subst (λ xs. Has xs z) (sym dels.snapshots) (left_stays d.uuids w.root.snapshots z m (elim d.prunes [
-              | inl c ↦ ap (λ xs. names_uuid xs z.uuid) (c.0 ∙ h.named d.named None d.work) ∙ stays
+              | inl c ↦ c.0 z (subst (λ (r : RootData). Has r.snapshots z) (sym h.root_is) m) ∙ ap (λ xs. names_uuid xs z.uuid) (h.named d.named None d.work) ∙ stays
               | inr c ↦ c.1 z (subst (λ (r : RootData). Has r.snapshots z) (sym h.root_is) m)
             ])));
       }

@@ -13,7 +13,8 @@ use Rattle.esr_core.specs.Queue.{Queue, Lawful}
 use Rattle.esr_core.proofs.Reading.{some_same, Has-map, Has-mapped}
 use Rattle.esr_core.proofs.Results.{done_of}
 use Rattle.esr_core.proofs.Tickets.{each_ticket, swapping_was}
-use Rattle.esr_core.proofs.Ops.{op_now, ops_now, op_was, live_was, carries_now, base_now, op_law_now, together_now}
+use Rattle.esr_core.proofs.Ops.{op_now, ops_now, op_was, live_was, on_with, carries_now, base_now, op_law_now, together_now}
+use Rattle.esr_core.proofs.Owning.{plan_on}
 use Rattle.esr_core.proofs.Law.{fresh_same}
 use Rattle.esr_core.proofs.Leaving.{like_ended, ended_lawful}
 use Rattle.esr_core.proofs.Queues.{Ops, was_in, same_in, other_in, split_at, Evolves, queue_ops, queued_back, queue_ticket, queue_delete, swap_back}
@@ -116,6 +117,7 @@ module _ (f : Formats) (w : World) (shelf : List Shelved) (l : Lawful f w shelf)
             (c.carries i n x (live_was f (HeldIn f w) w.root w.ops o op d.op_there g (failed_goes k) true i n x live));
         shards = λ j u e out index shard is. let (apart, old) = was j u e out in shard_now j u index shard apart (c.shards j u old out index shard is);
         one_shard = λ i j t u a b ao bo index shard ai bi. c.one_shard i j t u (was i t a ao).1 (was j u b bo).1 ao bo index shard ai bi;
+        plans = λ j u e out uns pres uuids s is. plan_on w.ops ops (on_with f (HeldIn f w) w.root w.ops o op d.op_there g (failed_goes k) true) f w.root s (c.plans j u (was j u e out).1 out uns pres uuids s is);
         finals = λ j u e out uns pres info results made is.
             let (apart, old) = was j u e out in
             let h = c.finals j u old out uns pres info results made is in

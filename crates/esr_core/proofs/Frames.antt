@@ -5,13 +5,18 @@ use Rattle.esr_model.specs.Parts.{part_names}
 use Rattle.esr_model.specs.Names.{BlobName}
 use Rattle.esr_model.specs.Values.{Bytes, IndexRef, RootSnap, RootData, FileEntry, Kind, Formats}
 use Rattle.esr_model.specs.Shelf.{ShelfShard, Shelved}
-use Rattle.esr_model.specs.Image.{AllPairs, Reads, FileStands, ShardStands, SnapStands, IndexStands, RootStands, Stands, Picked}
+use Rattle.esr_model.specs.Image.{Has, AllPairs, Reads, FileStands, ShardStands, SnapStands, IndexStands, RootStands, Stands, Picked}
 
 pub AllPairs-map : {A B : Type 0} {R S : A → B → Type 0} → ((x : A) (y : B) → R x y → S x y) → (xs : List A) (ys : List B) → AllPairs R xs ys → AllPairs S xs ys
 AllPairs-map f [] [] h = tt
 AllPairs-map f [] (y ∷ ys) h = h
 AllPairs-map f (x ∷ xs) [] h = h
 AllPairs-map f (x ∷ xs) (y ∷ ys) h = (f x y h.0, AllPairs-map f xs ys h.1)
+
+-- an index stands in a root that lists no more
+pub index_less : (f : Formats) (has : BlobName → Bytes → Type 0) (root new : RootData) → ((snap : RootSnap) → Has new.snapshots snap → Has root.snapshots snap) → (index shard generation : ℕ)
+    → IndexStands f has root index shard generation → IndexStands f has new index shard generation
+index_less f has root new less index shard generation s = record { held = s.held; held_reads = s.held_reads; files = s.files; snaps = λ l snap m n e. s.snaps l snap m (less snap n) e; below = s.below }
 
 module _ (f : Formats) (has now : BlobName → Bytes → Type 0) (keeps : (name : BlobName) (bytes : Bytes) → has name bytes → now name bytes) where
   pub reads_kept : {V : Type 0} (name : BlobName) (kind : Kind V) (v : V) → Reads has name kind v → Reads now name kind v
@@ -52,12 +57,13 @@ module _ (f : Formats) (has now : BlobName → Bytes → Type 0) (keeps : (name 
         shards = AllPairs-map (shard_kept root snap.uuid) (shelf_places s.info.indices) shelved.shards s.shards;
       }
 
-  pub index_kept : (index shard generation : ℕ) → IndexStands f has index shard generation → IndexStands f now index shard generation
-  index_kept index shard generation s =
+  pub index_kept : (root : RootData) (index shard generation : ℕ) → IndexStands f has root index shard generation → IndexStands f now root index shard generation
+  index_kept root index shard generation s =
       record {
         held = s.held;
         held_reads = reads_kept _ _ _ s.held_reads;
         files = λ e h. let was = s.files e h in (was.0, file_kept index shard e was.0 was.1);
+        snaps = λ l snap m n e. let was = s.snaps l snap m n e in (was.0, reads_kept _ _ _ was.1);
         below = s.below;
       }
 
@@ -65,7 +71,7 @@ module _ (f : Formats) (has now : BlobName → Bytes → Type 0) (keeps : (name 
   root_kept root shelf s =
       record {
         snapshots = AllPairs-map (snap_kept root) root.snapshots shelf s.snapshots;
-        indices = λ index shard generation g. index_kept index shard generation (s.indices index shard generation g);
+        indices = λ index shard generation g. index_kept root index shard generation (s.indices index shard generation g);
       }
 
   pub stands_kept : (n : ℕ) (shelf : List Shelved) → Stands f has n shelf → Stands f now n shelf

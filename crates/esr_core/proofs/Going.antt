@@ -1,17 +1,21 @@
 -- What a step that has nothing to do with restores leaves of them, of the numbers of ops and tickets, and of who has which.
-use Rattle.std.proofs.Common.{◌≡◌, ◌⊎◌, ℕ, suc, ◌+◌, ◌≤◌, Bool, true, false, Option, Some, None, refl, ap, ◌∙◌, inl, inr, arith, nat_cmp}
+use Rattle.std.proofs.Common.{◌≡◌, ◌⊎◌, ℕ, suc, ◌+◌, ◌≤◌, Bool, true, false, Option, Some, None, refl, ap, ◌∙◌, inl, inr, arith, nat_cmp, List, ◌++◌}
 use Rattle.std.specs.Prelude.{if◌then◌else◌}
 use Rattle.std.specs.FinMap.{FinMap}
 use Rattle.std.specs.FinMap as fin
-use Rattle.esr_model.specs.Values.{ShardResult, Formats}
+use Rattle.esr_model.specs.Values.{Has, ShardResult, Formats}
 use Rattle.esr_model.specs.Kept.{first_id}
+use Rattle.esr_model.specs.Names.{BlobName}
+use Rattle.esr_model.specs.Delete.{kept_count}
 use Rattle.esr_model.specs.Image.{Image}
-use Rattle.esr_core.specs.World.{World, Op, ShardWork, Drop, Swap, Ticket, swap, record_of}
+use Rattle.esr_core.specs.World.{World, Op, ShardWork, Drop, Swap, Ticket, swap, record_of, Deletion, Deleting}
 use Rattle.esr_core.specs.Steps.{noting, with_ticket, shard_ticket, final_ticket}
 use Rattle.esr_core.specs.Turns.{plain_ticket}
-use Rattle.esr_core.specs.Entry.{Snapshot, Restore, Given, GivenShard, GivenFinalize, GivenDrop, GivenRestore, Step, AskStep, TakeStep, DrawStep, BeginStep, CommitStep, LatestStep, FetchStep, RaiseStep, SettleStep, DoneStep, FailedStep, FinishStep, DroppedStep, ElectStep, ReadStep, DepotFault, Reply, Gave, WasDone, WasThere, WasFetched, HasEnded, Refused, Clone, DeleteSnapshots, Cleanup}
-use Rattle.esr_core.specs.After.{asked_op, taken_shard, taken_by, shard_of, with_given, committing, told_blob, fetching, settled_by, settled_of, done_by, done_of, is_stale, failed_by, failed_of, dropped_of, done_step, has_text, fallen, is_latest, tried, faulted, answered}
+use Rattle.esr_core.specs.Pruning.{planned, dooms}
+use Rattle.esr_core.specs.Entry.{Snapshot, Restore, Given, GivenShard, GivenFinalize, GivenDrop, GivenRestore, Step, AskStep, TakeStep, DrawStep, BeginStep, CommitStep, LatestStep, FetchStep, RaiseStep, SettleStep, DoneStep, FailedStep, FinishStep, DroppedStep, ElectStep, ReadStep, DepotFault, Reply, Gave, WasDone, WasThere, WasFetched, HasEnded, Refused, Clone, DeleteSnapshots, Cleanup, GivenDelete, Prune, FetchShard, PlanShards, SettlePruned, RemoveDoomed, EndDelete, DeleteFails, PruneStep}
+use Rattle.esr_core.specs.After.{asked_op, taken_shard, taken_by, shard_of, with_given, committing, told_blob, fetching, settled_by, settled_of, done_by, done_of, is_stale, failed_by, failed_of, dropped_of, done_step, has_text, fallen, is_latest, tried, faulted, answered, delete_settled_by, delete_settled, delete_failed_by, delete_failed, prune_step}
 use Rattle.esr_core.proofs.Queues.{was_in, left_in}
+use Rattle.esr_core.proofs.Reading.{Has-right}
 
 -- ---- maps
 
@@ -37,7 +41,7 @@ pub record Goes (w new : World) : Type 0 where
   pub restores : new.restores ≡ w.restores
   pub readers : new.readers ≡ w.readers
   pub caller : new.caller ≡ w.caller
-  pub doomed : new.doomed ≡ w.doomed
+  pub doomed : (name : BlobName) → Has w.doomed name → Has new.doomed name
   pub next_id : w.next_id ≤ new.next_id
   pub next_op : w.next_op ≤ new.next_op
   pub next_ticket : w.next_ticket ≤ new.next_ticket
@@ -46,15 +50,15 @@ pub record Goes (w new : World) : Type 0 where
   pub tickets : OldOrNew w.tickets w.next_ticket new.tickets
 
 goes_same : (w : World) → Goes w w
-goes_same w = record { restores = refl; readers = refl; caller = refl; doomed = refl; next_op = omega arith; next_ticket = omega arith; next_id = omega arith; ops = as_was w.ops w.next_op; deletes = as_was w.deletes w.next_op; tickets = as_was w.tickets w.next_ticket }
+goes_same w = record { restores = refl; readers = refl; caller = refl; doomed = λ name m. m; next_op = omega arith; next_ticket = omega arith; next_id = omega arith; ops = as_was w.ops w.next_op; deletes = as_was w.deletes w.next_op; tickets = as_was w.tickets w.next_ticket }
 
 -- a ticket that is given anew
 goes_ticket : (w : World) (k : ℕ) (old t : Ticket) → fin.get w.tickets k ≡ Some old → Goes w (record w { tickets = fin.insert w.tickets k t })
 goes_ticket w k old t there =
-    record { restores = refl; readers = refl; caller = refl; doomed = refl; next_op = omega arith; next_ticket = omega arith; next_id = omega arith; ops = as_was w.ops w.next_op; deletes = as_was w.deletes w.next_op; tickets = again w.tickets w.next_ticket k old t there }
+    record { restores = refl; readers = refl; caller = refl; doomed = λ name m. m; next_op = omega arith; next_ticket = omega arith; next_id = omega arith; ops = as_was w.ops w.next_op; deletes = as_was w.deletes w.next_op; tickets = again w.tickets w.next_ticket k old t there }
 
 goes_new : (w : World) (t : Ticket) (ops : FinMap nat_cmp Op) → OldOrNew w.ops w.next_op ops → Goes w (record w { ops = ops; tickets = fin.insert w.tickets w.next_ticket t; next_ticket = suc w.next_ticket })
-goes_new w t ops a = record { restores = refl; readers = refl; caller = refl; doomed = refl; next_op = omega arith; next_ticket = omega arith; next_id = omega arith; ops = a; deletes = as_was w.deletes w.next_op; tickets = more w.tickets w.next_ticket t }
+goes_new w t ops a = record { restores = refl; readers = refl; caller = refl; doomed = λ name m. m; next_op = omega arith; next_ticket = omega arith; next_id = omega arith; ops = a; deletes = as_was w.deletes w.next_op; tickets = more w.tickets w.next_ticket t }
 
 goes_change : (w : World) (k : ℕ) (g : Ticket → Ticket) (o : Option Ticket) → fin.get w.tickets k ≡ o → Goes w (with_given w k g o)
 goes_change w k g None is = goes_same w
@@ -91,11 +95,12 @@ goes_taken f w o (GivenFinalize info results) (Some op) old is = goes_new w (fin
 goes_taken f w o (GivenFinalize info results) None old is = goes_same w
 goes_taken f w o GivenDrop op old is = goes_new w (plain_ticket w o Drop) w.ops (as_was w.ops w.next_op)
 goes_taken f w o (GivenRestore index number uuid) op old is = absurd old
+goes_taken f w o (GivenDelete uuids) op old is = goes_new w (plain_ticket w o (Deleting uuids None)) w.ops (as_was w.ops w.next_op)
 goes_taken f w o unit op old is = goes_same w
 
 goes_settled_by : (f : Formats) (w : World) (k : ℕ) (t : Ticket) (s : Option Swap) (n : Option ℕ) → fin.get w.tickets k ≡ Some t → Goes w (settled_by f w k t s n)
 goes_settled_by f w k t (Some s) (Some n) is =
-    record { restores = refl; readers = refl; caller = refl; doomed = refl; next_op = omega arith; next_ticket = omega arith; next_id = omega arith; ops = less w.ops w.next_op t.op; deletes = less w.deletes w.next_op t.op; tickets = again w.tickets w.next_ticket k t (record t { settled = true }) is }
+    record { restores = refl; readers = refl; caller = refl; doomed = λ name m. m; next_op = omega arith; next_ticket = omega arith; next_id = omega arith; ops = less w.ops w.next_op t.op; deletes = less w.deletes w.next_op t.op; tickets = again w.tickets w.next_ticket k t (record t { settled = true }) is }
 goes_settled_by f w k t (Some s) None is = goes_same w
 goes_settled_by f w k t None n is = goes_same w
 
@@ -106,7 +111,7 @@ goes_settled f w k (Some t) is = goes_settled_by f w k t (swap f t) t.raised is
 goes_done_by : (w : World) (k : ℕ) (r : ShardResult) (t : Ticket) (op : Option Op) → fin.get w.tickets k ≡ Some t → fin.get w.ops t.op ≡ op → Goes w (done_by w k r t op)
 goes_done_by w k r t None is there = goes_same w
 goes_done_by w k r t (Some op) is there =
-    record { restores = refl; readers = refl; caller = refl; doomed = refl; next_op = omega arith; next_ticket = omega arith; next_id = omega arith; ops = again w.ops w.next_op t.op op _ there; deletes = as_was w.deletes w.next_op; tickets = again w.tickets w.next_ticket k t _ is }
+    record { restores = refl; readers = refl; caller = refl; doomed = λ name m. m; next_op = omega arith; next_ticket = omega arith; next_id = omega arith; ops = again w.ops w.next_op t.op op _ there; deletes = as_was w.deletes w.next_op; tickets = again w.tickets w.next_ticket k t _ is }
 
 goes_done : (w : World) (k : ℕ) (r : ShardResult) (o : Option Ticket) → fin.get w.tickets k ≡ o → Goes w (done_of w k r o)
 goes_done w k r None is = goes_same w
@@ -119,7 +124,7 @@ goes_either w a b false p q = q
 goes_failed_by : (w : World) (k : ℕ) (t : Ticket) (op : Option Op) → fin.get w.tickets k ≡ Some t → fin.get w.ops t.op ≡ op → Goes w (failed_by w k t op)
 goes_failed_by w k t None is there = goes_same w
 goes_failed_by w k t (Some op) is there =
-    record { restores = refl; readers = refl; caller = refl; doomed = refl; next_op = omega arith; next_ticket = omega arith; next_id = omega arith; ops = again w.ops w.next_op t.op op _ there; deletes = as_was w.deletes w.next_op; tickets = again w.tickets w.next_ticket k t _ is }
+    record { restores = refl; readers = refl; caller = refl; doomed = λ name m. m; next_op = omega arith; next_ticket = omega arith; next_id = omega arith; ops = again w.ops w.next_op t.op op _ there; deletes = as_was w.deletes w.next_op; tickets = again w.tickets w.next_ticket k t _ is }
 
 goes_failed : (w : World) (k : ℕ) (o : Option Ticket) → fin.get w.tickets k ≡ o → Goes w (failed_of w k o)
 goes_failed w k None is = goes_same w
@@ -128,11 +133,46 @@ goes_failed w k (Some t) is = goes_either w (with_ticket w k (record t { out = f
 goes_dropped : (w : World) (k : ℕ) (o : Option Ticket) → fin.get w.tickets k ≡ o → Goes w (dropped_of w k o)
 goes_dropped w k None is = goes_same w
 goes_dropped w k (Some t) is =
-    record { restores = refl; readers = refl; caller = refl; doomed = refl; next_op = omega arith; next_ticket = omega arith; next_id = omega arith; ops = less w.ops w.next_op t.op; deletes = less w.deletes w.next_op t.op; tickets = again w.tickets w.next_ticket k t (record t { out = false }) is }
+    record { restores = refl; readers = refl; caller = refl; doomed = λ name m. m; next_op = omega arith; next_ticket = omega arith; next_id = omega arith; ops = less w.ops w.next_op t.op; deletes = less w.deletes w.next_op t.op; tickets = again w.tickets w.next_ticket k t (record t { out = false }) is }
+
+-- ---- a delete's
+
+goes_delete_settled_by : (f : Formats) (w : World) (k : ℕ) (t : Ticket) (s : Option Swap) (n : Option ℕ) → fin.get w.tickets k ≡ Some t → Goes w (delete_settled_by f w k t s n)
+goes_delete_settled_by f w k t (Some s) (Some n) is =
+    record { restores = refl; readers = refl; caller = refl; doomed = λ name m. Has-right (dooms f t) w.doomed name m; next_op = omega arith; next_ticket = omega arith; next_id = omega arith; ops = less w.ops w.next_op t.op; deletes = less w.deletes w.next_op t.op; tickets = again w.tickets w.next_ticket k t (record t { settled = true }) is }
+goes_delete_settled_by f w k t (Some s) None is = goes_same w
+goes_delete_settled_by f w k t None n is = goes_same w
+
+goes_delete_settled : (f : Formats) (w : World) (k : ℕ) (o : Option Ticket) → fin.get w.tickets k ≡ o → Goes w (delete_settled f w k o)
+goes_delete_settled f w k None is = goes_same w
+goes_delete_settled f w k (Some t) is = goes_delete_settled_by f w k t (swap f t) t.raised is
+
+goes_delete_failed_by : (w : World) (k : ℕ) (t : Ticket) (x : Option Deletion) → fin.get w.tickets k ≡ Some t → fin.get w.deletes t.op ≡ x → Goes w (delete_failed_by w k t x)
+goes_delete_failed_by w k t None is there = goes_same w
+goes_delete_failed_by w k t (Some x) is there =
+    record { restores = refl; readers = refl; caller = refl; doomed = λ name m. m; next_op = omega arith; next_ticket = omega arith; next_id = omega arith; ops = as_was w.ops w.next_op; deletes = again w.deletes w.next_op t.op x (record x { failed = true }) there; tickets = again w.tickets w.next_ticket k t (record t { out = false }) is }
+
+goes_delete_failed : (w : World) (k : ℕ) (o : Option Ticket) → fin.get w.tickets k ≡ o → Goes w (delete_failed w k o)
+goes_delete_failed w k None is = goes_same w
+goes_delete_failed w k (Some t) is = goes_either w (with_ticket w k (record t { out = false })) (delete_failed_by w k t (fin.get w.deletes t.op)) (is_stale w t t.work) (goes_ticket w k t (record t { out = false }) is) (goes_delete_failed_by w k t (fin.get w.deletes t.op) is refl)
+
+goes_removed : (w : World) (removed : List BlobName) → Goes w (record w { removed = removed })
+goes_removed w removed = record { restores = refl; readers = refl; caller = refl; doomed = λ name m. m; next_op = omega arith; next_ticket = omega arith; next_id = omega arith; ops = as_was w.ops w.next_op; deletes = as_was w.deletes w.next_op; tickets = as_was w.tickets w.next_ticket }
+
+goes_prune : (f : Formats) (w : World) (k : ℕ) (prune : Prune) (reply : Reply) (image : Option Image) → Goes w (prune_step f w k prune reply image)
+goes_prune f w k (FetchShard name) WasFetched image = goes_change w k (fetching name (told_blob f image name)) (fin.get w.tickets k) refl
+goes_prune f w k (FetchShard name) reply image = goes_same w
+goes_prune f w k (PlanShards shards) reply image = goes_drawn w k (kept_count shards) (planned f shards w.next_id) (fin.get w.tickets k) refl
+goes_prune f w k SettlePruned reply image = goes_delete_settled f w k (fin.get w.tickets k) refl
+goes_prune f w k (RemoveDoomed names) reply image = goes_removed w (names ++ w.removed)
+goes_prune f w k EndDelete reply image = goes_change w k (λ t. record t { out = false }) (fin.get w.tickets k) refl
+goes_prune f w k (DeleteFails why) reply image = goes_delete_failed w k (fin.get w.tickets k) refl
+
+-- ---- all steps
 
 goes_step : (f : Formats) (w : World) (room : w.next_id ≤ first_id (suc w.term)) (k : ℕ) (step : Step) (reply : Reply) (image : Option Image) → IsOld step reply → Goes w (done_step f w k step reply image)
 goes_step f w room k (AskStep (Snapshot name indices moment)) reply image old =
-    record { restores = refl; readers = refl; caller = refl; doomed = refl; next_op = omega arith; next_ticket = omega arith; next_id = omega arith; ops = more w.ops w.next_op (asked_op w name indices moment); deletes = as_was w.deletes w.next_op; tickets = as_was w.tickets w.next_ticket }
+    record { restores = refl; readers = refl; caller = refl; doomed = λ name m. m; next_op = omega arith; next_ticket = omega arith; next_id = omega arith; ops = more w.ops w.next_op (asked_op w name indices moment); deletes = as_was w.deletes w.next_op; tickets = as_was w.tickets w.next_ticket }
 goes_step f w room k (AskStep (Restore name place)) reply image old = absurd old
 goes_step f w room k TakeStep (Gave ticket op unit) image old = goes_taken f w op unit (fin.get w.ops op) old refl
 goes_step f w room k (DrawStep n) reply image old = goes_drawn w k n (λ t. record t { first = w.next_id; drawn = n }) (fin.get w.tickets k) refl
@@ -147,8 +187,9 @@ goes_step f w room k (FailedStep why) reply image old = goes_failed w k (fin.get
 goes_step f w room k FinishStep reply image old = goes_change w k (λ t. record t { out = false }) (fin.get w.tickets k) refl
 goes_step f w room k DroppedStep reply image old = goes_dropped w k (fin.get w.tickets k) refl
 goes_step f w room k ElectStep reply image old =
-    record { restores = refl; readers = refl; caller = refl; doomed = refl; next_op = omega arith; next_ticket = omega arith; next_id = omega arith; ops = as_was w.ops w.next_op; deletes = as_was w.deletes w.next_op; tickets = as_was w.tickets w.next_ticket }
+    record { restores = refl; readers = refl; caller = refl; doomed = λ name m. m; next_op = omega arith; next_ticket = omega arith; next_id = omega arith; ops = as_was w.ops w.next_op; deletes = as_was w.deletes w.next_op; tickets = as_was w.tickets w.next_ticket }
 goes_step f w room k (ReadStep read) reply image old = absurd old
+goes_step f w room k (PruneStep prune) reply image old = goes_prune f w k prune reply image
 goes_step f w room k step reply image old = goes_same w
 
 goes_fallen : (f : Formats) (w up : World) (image : Option Image) → Goes w up → Goes w (fallen f w up image)
@@ -168,6 +209,8 @@ goes_fault f w room k SettleStep image old = goes_fallen f w _ image (goes_step 
 goes_fault f w room k DroppedStep image old = goes_fallen f w _ image (goes_step f w room k DroppedStep HasEnded image tt)
 goes_fault f w room k ElectStep image old = goes_fallen f w _ image (goes_step f w room k ElectStep HasEnded image tt)
 goes_fault f w room k (ReadStep read) image old = absurd old
+goes_fault f w room k (PruneStep SettlePruned) image old = goes_fallen f w _ image (goes_prune f w k SettlePruned HasEnded image)
+goes_fault f w room k (PruneStep (RemoveDoomed names)) image old = goes_removed w (names ++ w.removed)
 goes_fault f w room k step image old = goes_same w
 
 pub goes_answered : (f : Formats) (w : World) (room : w.next_id ≤ first_id (suc w.term)) (k : ℕ) (step : Step) (reply : Reply) (image : Option Image) → IsOld step reply → Goes w (answered f w k step reply image)

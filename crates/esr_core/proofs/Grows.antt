@@ -2,12 +2,12 @@
 use Rattle.std.proofs.Common.{◌≡◌, ℕ, zero, suc, List, [], ◌∷◌, Option, Some, None, subst, inl, inr, nat_cmp}
 use Rattle.std.specs.FinMap.{FinMap}
 use Rattle.esr_model.specs.Places.{shelf_places}
-use Rattle.esr_model.specs.Names.{BlobName, Root, Snap}
-use Rattle.esr_model.specs.Values.{Bytes, RootSnap, RootData, SnapInfo, ShardResult, Formats}
+use Rattle.esr_model.specs.Names.{BlobName, Root, Snap, ShardIndex}
+use Rattle.esr_model.specs.Values.{Bytes, RootSnap, RootData, SnapInfo, ShardFiles, ShardResult, Formats}
 use Rattle.esr_model.specs.Image.{Has, AllPairs, IsOne, Picked, ListsAs, SnapStands, RootStands}
 use Rattle.esr_model.specs.Shelf.{Shelved}
 use Rattle.esr_core.specs.World.{Op, ShardWork, Ticket}
-use Rattle.esr_core.specs.Generations.{IsOfShard, Carries, DoneStands, OpLaw, Base, ShardLaw, Carried}
+use Rattle.esr_core.specs.Generations.{IsOfShard, ListsOwn, Carries, DoneStands, OpLaw, Base, ShardLaw, Carried}
 use Rattle.esr_model.specs.Image.{RootIs}
 use Rattle.esr_core.proofs.Frames.{reads_kept, index_kept, file_kept, AllPairs-map}
 use Rattle.esr_core.proofs.Reading.{reads_one, safe_root_stands}
@@ -39,7 +39,10 @@ module _ (f : Formats) (has now : BlobName → Bytes → Type 0) (func : IsOne n
   pub carries_kept : (root : RootData) (shelf : List Shelved) → RootStands f has root shelf → (ops : FinMap nat_cmp Op) (index shard g : ℕ) → Carries f has root ops index shard g → Carries f now root ops index shard g
   carries_kept root shelf s ops index shard g c =
       record {
-        stands = index_kept f has now keeps index shard g c.stands;
+        stands = index_kept f has now keeps root index shard g c.stands;
+        own = λ held reads.
+            let same : c.stands.held ≡ held = reads_one now func (ShardIndex index shard g) f.shard_index c.stands.held held (reads_kept f has now keeps _ _ _ c.stands.held_reads) reads in
+            subst (λ (x : ShardFiles). ListsOwn ops index shard x) same (c.own c.stands.held c.stands.held_reads);
         done = λ uuid h d below. lists_kept index shard g uuid (c.done uuid h d below);
         listed = λ above snap m is. lists_kept index shard g snap.uuid (c.listed above snap m (of_shard_was root shelf s snap m index shard is));
       }
@@ -77,5 +80,6 @@ module _ (f : Formats) (has now : BlobName → Bytes → Type 0) (func : IsOne n
         shards = λ k t e out index shard is. shard_law_kept root shelf s ops k t index shard (c.shards k t e out index shard is);
         one_shard = c.one_shard;
         finals = c.finals;
+        plans = c.plans;
         held = c.held;
       }

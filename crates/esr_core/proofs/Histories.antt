@@ -18,6 +18,7 @@ use Rattle.esr_core.proofs.Reading.{some_same, none_some}
 use Rattle.esr_core.proofs.Turning.{turn_law}
 use Rattle.esr_core.proofs.Moments.{Turned, plain, turn_by}
 use Rattle.esr_core.proofs.Accepting.{accepted}
+use Rattle.esr_core.proofs.PruneTurns.{prune_turn}
 use Rattle.esr_core.proofs.Storing.{done_found}
 use Rattle.esr_core.proofs.Laws.{kept_of}
 use Rattle.esr_core.proofs.Lists.{shelf_after-append}
@@ -90,7 +91,7 @@ pub record Stepped (f : Formats) (w : World) (shelf : List Shelved) (m : Moment)
 
 -- each step in a world that isn't deposed is a turn
 step_turn : (f : Formats) (size : ℕ) (w : World) (shelf : List Shelved) → AllKnown f → Law f w shelf → IsHonest f w.blobs → (m : Moment) (i : Image) → m.image ≡ Some i → Allows f size w m.entry.who m.entry.step m.entry.reply m.image → Turned f w m.entry.who m.entry.step m.entry.reply (after f w m)
-step_turn f size w shelf known l honest m i told alive = turn_by f size w shelf l i doing (accepted f w shelf l) m.entry.who m.entry.step m.entry.reply m.image told alive
+step_turn f size w shelf known l honest m i told alive = turn_by f size w shelf l i doing (accepted f w shelf l) (prune_turn f w shelf l i) m.entry.who m.entry.step m.entry.reply m.image told alive
   where
     doing : (k : ℕ) (r : ShardResult) → DonesBy f size w k r (Some i) → i.blobs ≡ w.blobs → Turned f w k (DoneStep r) HasEnded (after f w (record { entry = record { who = k; step = DoneStep r; reply = HasEnded }; image = Some i }))
     doing k r d same =

@@ -98,4 +98,8 @@ module _ (f : Formats) (w : World) (shelf : List Shelved) (l : Law f w shelf) (b
           one = l.texts.one;
           plans = l.texts.plans;
         };
+        pruned = record {
+          unsettled = λ k t uuids plan e out uns pres is. let old = l.pruned.unsettled k t uuids plan e out uns pres is in record { held = λ n b m. keeps n b (old.held n b m); safe_is = old.safe_is; follows = old.follows };
+          settled = l.pruned.settled;
+        };
       }

@@ -238,6 +238,7 @@ module _ (f : Formats) (w : World) (shelf : List Shelved) (l : Sound f w shelf) 
       one_shard = l.carried.one_shard;
       held = l.carried.held;
       finals = λ j u e out uns pres. absurd (let h = (l.rooted.tickets j u e).term in omega (arith, h, pres));
+      plans = λ j u e out uns pres. absurd (let h = (l.rooted.tickets j u e).term in omega (arith, h, pres));
     };
     fresh = l.fresh;
   })

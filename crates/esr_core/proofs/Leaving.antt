@@ -12,6 +12,7 @@ use Rattle.esr_core.specs.Turns.{Dropped, CleanDropped}
 use Rattle.esr_core.specs.Generations.{DoneAt, IsLive, Carries, Base, Carried}
 use Rattle.esr_core.specs.Queue.{Lawful}
 use Rattle.esr_core.proofs.Law.{quiet, ended_same}
+use Rattle.esr_core.proofs.Owning.{OnWith, own_on, plan_on}
 use Rattle.esr_core.proofs.Queues.{Ops, was_in, left_in, stays_in, Like, queue_ticket, queue_remove, unit_back}
 
 module _ (f : Formats) (has : BlobName → Bytes → Type 0) (root : RootData) (ops : Ops) (o : ℕ) where
@@ -22,8 +23,11 @@ module _ (f : Formats) (has : BlobName → Bytes → Type 0) (root : RootData) (
   live_was index shard g (inl h) = inl h
   live_was index shard g (inr (u, a)) = inr (u, done_was u index shard g a)
 
+  on_with : OnWith ops (fin.remove ops o)
+  on_with = λ p op e. (op, (left_in ops o p op e).1, refl, (λ index shard has. has))
+
   carries_now : (index shard g : ℕ) → Carries f has root ops index shard g → Carries f has root (fin.remove ops o) index shard g
-  carries_now index shard g c = record { stands = c.stands; done = λ u h a below. c.done u h (done_was u index shard h a) below; listed = c.listed }
+  carries_now index shard g c = record { stands = c.stands; own = own_on ops (fin.remove ops o) on_with f has index shard g c.own; done = λ u h a below. c.done u h (done_was u index shard h a) below; listed = c.listed }
 
   base_now : (index shard : ℕ) (base : Option ℕ) → Base f has root ops index shard base → Base f has root (fin.remove ops o) index shard base
   base_now index shard None h = λ g live. h g (live_was index shard g live)
@@ -49,6 +53,7 @@ module _ (f : Formats) (has : BlobName → Bytes → Type 0) (root : RootData) (
           ids = l.ids;
         };
         one_shard = c.one_shard;
+        plans = λ j u e out uns pres uuids s is. plan_on ops (fin.remove ops o) on_with f root s (c.plans j u e out uns pres uuids s is);
         finals = λ j u e out uns pres info results made is. let l = c.finals j u e out uns pres info results made is in record {
           op = l.op;
           op_there = stays_in ops o u.op (λ same. idle j (record { t = u; there = e; out = out; op_is = same; counts = inr pres })) ∙ l.op_there;

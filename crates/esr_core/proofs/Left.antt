@@ -9,15 +9,15 @@ use Rattle.esr_model.specs.Image.{Image}
 use Rattle.esr_model.specs.Kept.{Kept}
 use Rattle.esr_core.specs.World.{World, Ticket, record_of, image_of}
 use Rattle.esr_core.specs.Ids.{Law}
-use Rattle.esr_core.specs.Entry.{Snapshot, Step, AskStep, BeginStep, LatestStep, RaiseStep, SettleStep, DroppedStep, ElectStep, DeposedAt, DepotFault, Reply, WasSettled, Refused, Moment}
-use Rattle.esr_core.specs.After.{asked, raised, with_given, settled_of, dropped_of, done_step, has_text, is_latest, tried, faulted, answered, after, told_blob, test_left}
+use Rattle.esr_core.specs.Entry.{Snapshot, Step, AskStep, BeginStep, LatestStep, RaiseStep, SettleStep, DroppedStep, ElectStep, DeposedAt, DepotFault, Reply, WasSettled, Refused, Moment, Prune, SettlePruned, PruneStep}
+use Rattle.esr_core.specs.After.{asked, raised, with_given, settled_of, dropped_of, done_step, has_text, is_latest, tried, faulted, answered, after, told_blob, test_left, delete_settled}
 use Rattle.esr_core.specs.Entry as entry
 use Rattle.esr_core.specs.Allowed as allowed
-use Rattle.esr_core.specs.Allowed.{Settles, Allows, Allowed, IsDeposed}
+use Rattle.esr_core.specs.Allowed.{Settles, SettlesDeletion, PruneAllows, Allows, Allowed, IsDeposed}
 use Rattle.esr_core.specs.History.{world_from, IsLegal, AllKnown, AreTold, AreHonest, counts, is_settle, command_of, commands_at, committed}
 use Rattle.esr_core.specs.Left.{cut_off, Leaves, safe_of, safe_by, safe_in}
 use Rattle.esr_core.proofs.Reading.{some_same}
-use Rattle.esr_core.proofs.Moments.{moment, settled_plain}
+use Rattle.esr_core.proofs.Moments.{moment, settled_plain, delete_settled_plain}
 use Rattle.esr_core.proofs.Laws.{kept_of}
 use Rattle.esr_core.proofs.Lists.{shelf_after-append}
 use Rattle.esr_core.proofs.Histories.{settled_above, deposed_stays, step_law, legal_law, image_is, legal_parts, told_parts, honest_parts, later_none}
@@ -71,6 +71,7 @@ fault_safe f w k ElectStep image e =
     let up : World = done_step f w k ElectStep entry.HasEnded image in either_safe w up (has_text image (f.cluster.text (record_of up))) refl
 fault_safe f w k LatestStep image e = given_safe w k (λ t. record t { tried_latest = true }) (fin.get w.tickets k)
 fault_safe f w k (BeginStep name) image e = either_safe w (tried w k) (is_latest name) (given_safe w k (λ t. record t { tried_latest = true }) (fin.get w.tickets k))
+fault_safe f w k (PruneStep SettlePruned) image e = absurd (true≢false e)
 fault_safe f w k (entry.ReadStep (entry.CommitTest name)) image e = left_safe w name (fin.get w.blobs (f.names.text name)) (told_blob f image name)
 fault_safe f w k step image e = refl
 
@@ -108,6 +109,24 @@ settles_alike f size w shelf l who reply image left (allowed.SettleStale k n t s
     absurd (apart (ap (λ (x : Ticket). x.term) one ∙ cut.present))
 settles_alike f size w shelf l who reply image left (allowed.SettleFails k im s same) cut = record { counted = λ safe. refl; ends = inl refl }
 
+allows_pruned : {f : Formats} {size : ℕ} {w : World} {who : ℕ} {prune : Prune} {reply : Reply} {image : Option Image} → Allows f size w who (PruneStep prune) reply image → PruneAllows f w who prune reply image
+allows_pruned (allowed.Pruning k prune rep im h) = h
+
+deletes_by_fault : {f : Formats} {w : World} {who : ℕ} {image : Option Image} → PruneAllows f w who SettlePruned (Refused DepotFault) image → (s : SettlesDeletion f w who) × (s.t.term ≡ w.term)
+deletes_by_fault (allowed.SettleDeleteFails k im s present same) = (s, present)
+
+deletes_alike : (f : Formats) (w : World) (shelf : List Shelved) → Law f w shelf → (who : ℕ) (reply : Reply) (image left : Option Image) → PruneAllows f w who SettlePruned reply image → (cut : SettlesDeletion f w who) → cut.t.term ≡ w.term
+    → Alike f w who (PruneStep SettlePruned) reply image left
+deletes_alike f w shelf l who reply image left (allowed.SettlingDelete k im s present same) cut now =
+    let up : World = delete_settled f w k (fin.get w.tickets k) in
+    let root : up.safe ≡ suc s.n = ap (λ (x : World). x.safe) (delete_settled_plain f w k s.n s.t s.s s.may) in
+    let above : w.safe ≤ s.n = settled_above f w shelf l k s.n s.t s.s s.may present in
+    record { counted = λ safe. refl; ends = inr (either_below w up (has_text left (f.cluster.text (record_of up))) (omega (arith, root, above))) }
+deletes_alike f w shelf l who reply image left (allowed.SettleDeleteStale k im s apart same) cut now =
+    let one : s.t ≡ cut.t = some_same s.t cut.t (sym s.may.out.there ∙ cut.may.out.there) in
+    absurd (apart (ap (λ (x : Ticket). x.term) one ∙ now))
+deletes_alike f w shelf l who reply image left (allowed.SettleDeleteFails k im s present same) cut now = record { counted = λ safe. refl; ends = inl refl }
+
 -- a step that is no settle has no commands
 no_command : (f : Formats) (safe : ℕ) (w : World) (who : ℕ) (step : Step) (reply : Reply) → is_settle step ≡ false → commands_at f safe w who step reply ≡ []
 no_command f safe w who step reply e = ap (λ (x : Bool). if counts reply && x then command_of f safe (fin.get w.tickets who) else []) e ∙ both (counts reply)
@@ -116,9 +135,10 @@ no_command f safe w who step reply e = ap (λ (x : Bool). if counts reply && x t
     both true = refl
     both false = refl
 
-which : (step : Step) → (step ≡ SettleStep) ⊎ (is_settle step ≡ false)
+which : (step : Step) → (step ≡ SettleStep) ⊎ ((step ≡ PruneStep SettlePruned) ⊎ (is_settle step ≡ false))
 which SettleStep = inl refl
-which step = inr refl
+which (PruneStep SettlePruned) = inr (inl refl)
+which step = inr (inr refl)
 
 alike_by : (f : Formats) (size : ℕ) (w : World) (shelf : List Shelved) → Law f w shelf → (who : ℕ) (step : Step) (reply : Reply) (image left : Option Image) → w.safe ≤ (after f w (moment who step reply image)).safe
     → Allows f size w who step reply image → Allows f size w who step (Refused DepotFault) left → Alike f w who step reply image left
@@ -126,7 +146,10 @@ alike_by f size w shelf l who step reply image left rises a cut = elim (which st
   | inl e ↦
       subst (λ x. Alike f w who x reply image left) (sym e)
       (settles_alike f size w shelf l who reply image left (subst (λ x. Allows f size w who x reply image) e a) (settles_by_fault (subst (λ x. Allows f size w who x (Refused DepotFault) left) e cut)))
-  | inr e ↦
+  | inr (inl e) ↦
+      let at = deletes_by_fault (allows_pruned (subst (λ x. Allows f size w who x (Refused DepotFault) left) e cut)) in
+      subst (λ x. Alike f w who x reply image left) (sym e) (deletes_alike f w shelf l who reply image left (allows_pruned (subst (λ x. Allows f size w who x reply image) e a)) at.0 at.1)
+  | inr (inr e) ↦
       let same : (faulted f w who step left).safe ≡ w.safe = fault_safe f w who step left e in
       record { counted = λ safe. no_command f safe w who step reply e ∙ sym (no_command f safe w who step (Refused DepotFault) e); ends = inr (omega (arith, same, rises)) }
 ]

@@ -5,6 +5,7 @@ pub mod Reading
 pub mod Results
 pub mod Ordered
 pub mod Pieces
+pub mod Owning
 pub mod Staging
 pub mod Finalizing
 pub mod Marked
@@ -43,6 +44,7 @@ pub mod Recorded
 pub mod Laws
 pub mod Removes
 pub mod Opening
+pub mod Agreeing
 pub mod Reaching
 pub mod Dooming
 pub mod Deleting
@@ -53,6 +55,15 @@ pub mod Determined
 pub mod Storing
 pub mod Accepting
 pub mod ListedInfo
+pub mod PrunedShards
+pub mod DeletedRoots
+pub mod DeletesHold
+pub mod DeletionLaws
+pub mod Plans
+pub mod DoomedNames
+pub mod PruneTurns
+pub mod PruneFrames
+pub mod NoDeletes
 pub mod Moments
 pub mod Histories
 pub mod Left

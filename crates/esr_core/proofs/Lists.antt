@@ -86,6 +86,7 @@ record_opens f blobs cluster root shelf k is below root_below ops_below =
       deletions = λ d x e u m. let (b, clean, from) = numbered_from 1 (kept_deletes cluster.ops) d x e in let (us, um, has) = from u m in kept_of_record (first_id (suc cluster.ledger.term)) cluster.ops ops_below us um u has;
       in_term = record { from = omega arith; below = omega arith };
       written = λ k t e. absurd (nothing k t e);
+      pruned = record { unsettled = λ k t uuids plan e. absurd (nothing k t e); settled = λ k t uuids s e. absurd (nothing k t e) };
       texts = record { swaps = λ k t info rs made e. absurd (nothing k t e); ops = λ o op e. absurd (nothing o op e); agree = λ k t info rs made o op e. absurd (nothing k t e); one = λ j k t u a b rs qs m n e. absurd (nothing j t e); plans = λ k t uuids s e. absurd (nothing k t e) };
     }
 

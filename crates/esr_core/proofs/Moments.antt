@@ -1,5 +1,5 @@
 -- Each moment of a legal history is a turn of the law.
-use Rattle.std.proofs.Common.{◌≡◌, ◌≢◌, ◌⊎◌, ℕ, suc, ◌+◌, ◌<◌, ◌≤◌, List, [], Bool, true, false, Option, Some, None, refl, sym, ap, ◌∙◌, subst, inl, inr, arith, zero, ◌∷◌}
+use Rattle.std.proofs.Common.{◌≡◌, ◌≢◌, ◌⊎◌, ℕ, suc, ◌+◌, ◌<◌, ◌≤◌, List, [], Bool, true, false, Option, Some, None, refl, sym, ap, ◌∙◌, subst, inl, inr, arith, zero, ◌∷◌, ◌++◌}
 use Rattle.std.specs.Prelude.{if◌then◌else◌, ◌&&◌, ◌==◌, nat_lt}
 use Rattle.std.proofs.lemmas.Bool.Decides.{eqb_tells}
 use Rattle.std.proofs.lemmas.Bool.{lt-ltb, le-ltb}
@@ -10,18 +10,19 @@ use Rattle.esr_model.specs.Values.{Bytes, ShardResult, Formats, SnapInfo, Has}
 use Rattle.esr_model.specs.Shelf.{Shelved}
 use Rattle.esr_model.specs.Kept.{first_id}
 use Rattle.esr_model.specs.Image.{Blobs, Image, At, Present, Reads}
-use Rattle.esr_core.specs.World.{World, Op, Work, Shard, Finalize, Deleting, Drop, Ticket, ReadState, Restored, NotRestored, Restoring, Reader}
+use Rattle.esr_core.specs.World.{World, Op, Work, Shard, Finalize, Deleting, Drop, Ticket, ReadState, Restored, NotRestored, Restoring, Reader, Swap}
 use Rattle.esr_core.specs.Ready.{IsShard, IsMaster}
 use Rattle.esr_core.specs.Restores.{IsReading, ListsPiece, waits, restore_opened, shard_ended}
-use Rattle.esr_core.specs.Steps.{IsOut, PutsLatest, Raise, with_ticket, noting, settled, Removes}
+use Rattle.esr_core.specs.Steps.{IsOut, PutsLatest, Raise, with_ticket, noting, settled, Removes, MaySettle}
+use Rattle.esr_core.specs.Pruning.{dooms}
 use Rattle.esr_core.specs.Ids.{Law}
 use Rattle.esr_core.specs.Queue.{Lists}
-use Rattle.esr_core.specs.Entry.{Asked, Snapshot, Given, GivenShard, GivenFinalize, GivenDrop, Why, Step, AskStep, TakeStep, DrawStep, BeginStep, CommitStep, LatestStep, FetchStep, ListStep, RaiseStep, SettleStep, DoneStep, FailedStep, FinishStep, DroppedStep, ElectStep, LookStep, Refusal, DepotFault, Reply, WasSettled, HasEnded, Refused, Entry, Moment, Restore, Read, ReadBlob, RestoredShard, CheckedAll, ReadFails, ReadStep, AcceptedRestore, GivenRestore, DrawTest, BeginTest, CommitTest, RemoveTests, VerifiedAll, GivenClone, GivenDelete, GivenCleanup}
-use Rattle.esr_core.specs.After.{asked, asked_op, taken_by, taken_shard, with_given, change, committing, fetching, told_blob, settled_of, settled_by, failed_of, failed_by, is_stale, dropped_of, is_latest, tried, blobs_in, after, stepped, caller_after, read_told, read_over, shard_over, taken_restore, taken_restore_shard, test_left}
+use Rattle.esr_core.specs.Entry.{Asked, Snapshot, Given, GivenShard, GivenFinalize, GivenDrop, Why, Step, AskStep, TakeStep, DrawStep, BeginStep, CommitStep, LatestStep, FetchStep, ListStep, RaiseStep, SettleStep, DoneStep, FailedStep, FinishStep, DroppedStep, ElectStep, LookStep, Refusal, DepotFault, Reply, WasSettled, HasEnded, Refused, Entry, Moment, Restore, Read, ReadBlob, RestoredShard, CheckedAll, ReadFails, ReadStep, AcceptedRestore, GivenRestore, DrawTest, BeginTest, CommitTest, RemoveTests, VerifiedAll, GivenClone, GivenDelete, GivenCleanup, Prune, PruneStep}
+use Rattle.esr_core.specs.After.{asked, asked_op, taken_by, taken_shard, with_given, change, committing, fetching, told_blob, settled_of, settled_by, failed_of, failed_by, is_stale, dropped_of, is_latest, tried, blobs_in, after, stepped, caller_after, read_told, read_over, shard_over, taken_restore, taken_restore_shard, test_left, delete_settled, delete_settled_by}
 use Rattle.esr_core.specs.Allowed as allowed
-use Rattle.esr_core.specs.Allowed.{latest_text, Told, SameBlobs, Adds, Accepts, Gives, GivesShard, GivesFinalize, Draws, Commits, Refinds, Puts, Raises, Settles, Fails, Finishes, Drops, Dones, Allows, MayRead, Fetcher, ByReader, ByCheck, RestoreAllows, OpeningRestore, NotListed, NamedByDelete, FullOfRestores, ReadAllows, ReadFound, ReadMissing, ReadFault, RestoringShard, ReaderFailing, CheckingAll, CheckFailing, ByVerify, IsOwnTest, MayRemoveTests, VerifyAllows, DrawingTest, TestSpent, BeginningTest, BeginTestFails, CommittingTest, TestTaken, CommitTestFails, RemovingTests, RemoveTestsFails, VerifyingAll, VerifyFailing}
+use Rattle.esr_core.specs.Allowed.{PruneAllows, latest_text, Told, SameBlobs, Adds, Accepts, Gives, GivesShard, GivesFinalize, Draws, Commits, Refinds, Puts, Raises, Settles, Fails, Finishes, Drops, Dones, Allows, MayRead, Fetcher, ByReader, ByCheck, RestoreAllows, OpeningRestore, NotListed, NamedByDelete, FullOfRestores, ReadAllows, ReadFound, ReadMissing, ReadFault, RestoringShard, ReaderFailing, CheckingAll, CheckFailing, ByVerify, IsOwnTest, MayRemoveTests, VerifyAllows, DrawingTest, TestSpent, BeginningTest, BeginTestFails, CommittingTest, TestTaken, CommitTestFails, RemovingTests, RemoveTestsFails, VerifyingAll, VerifyFailing}
 use Rattle.esr_core.specs.History.{counts, is_settle, command_of, command_by, commands_at}
-use Rattle.esr_core.specs.Turns.{AskCreate, AsksCreate, plain_ticket, SettleFinal, Failed, Dropped, Turn, Stays, Latests, Fetches, Raises as RaisesTurn, Finds, SettlesFinal, Elects, TakesShard, TakesFinal, TakesDrop, DrawsShard, Ending, Fails as FailsTurn, Drops as DropsTurn, Deposes, commands_of, Besides, OpensRestore, HandsShard, ReadsMore, EndsShard, Calls, Tests, DrawsTest, AddsTest, RemovesTests}
+use Rattle.esr_core.specs.Turns.{AskCreate, AsksCreate, plain_ticket, SettleFinal, Failed, Dropped, Turn, Stays, Latests, Fetches, Raises as RaisesTurn, Finds, SettlesFinal, Elects, TakesShard, TakesFinal, TakesDrop, DrawsShard, Ending, Fails as FailsTurn, Drops as DropsTurn, Deposes, commands_of, Besides, OpensRestore, HandsShard, ReadsMore, EndsShard, Calls, Tests, DrawsTest, AddsTest, RemovesTests, TakesDelete}
 use Rattle.esr_core.specs.Turns as turns
 use Rattle.esr_core.specs.Entry as entry
 use Rattle.esr_core.proofs.Maps.{get_same, texts_same}
@@ -29,7 +30,7 @@ use Rattle.esr_core.proofs.Reading.{some_same}
 use Rattle.esr_core.proofs.ListedInfo.{made_info}
 
 -- the blobs after a step that leaves them
-blobs_same : (w : World) (image : Option Image) → SameBlobs w image → blobs_in image w.blobs ≡ w.blobs
+pub blobs_same : (w : World) (image : Option Image) → SameBlobs w image → blobs_in image w.blobs ≡ w.blobs
 blobs_same w None same = refl
 blobs_same w (Some i) same = same
 
@@ -54,7 +55,7 @@ plain f w who step reply new turn no_settle none =
     both false safe = refl
 
 -- a step that leaves the world
-stays : (f : Formats) (w : World) (who : ℕ) (step : Step) (reply : Reply) (image : Option Image) → SameBlobs w image → counts reply ≡ false → Turned f w who step reply (record w { blobs = blobs_in image w.blobs })
+pub stays : (f : Formats) (w : World) (who : ℕ) (step : Step) (reply : Reply) (image : Option Image) → SameBlobs w image → counts reply ≡ false → Turned f w who step reply (record w { blobs = blobs_in image w.blobs })
 stays f w who step reply image same no_count =
     record {
       turn = Stays (record w { blobs = blobs_in image w.blobs }) (λ j. record w { blobs = blobs_same w image same j });
@@ -77,12 +78,12 @@ module _ (f : Formats) (w : World) where
       }
 
   -- a record swap that failed leaves the world as before, or as where Ok, and deposed
-  falls : (up : World) → Turn f w up → (b : Bool) (blobs : Blobs) → blobs ≡ w.blobs → up.blobs ≡ w.blobs → Turn f w (record (if b then up else w) { deposed = true; blobs = blobs })
+  pub falls : (up : World) → Turn f w up → (b : Bool) (blobs : Blobs) → blobs ≡ w.blobs → up.blobs ≡ w.blobs → Turn f w (record (if b then up else w) { deposed = true; blobs = blobs })
   falls up turn true blobs same kept = Deposes (record up { deposed = true; blobs = blobs }) up turn (λ j. record up { deposed = true; blobs = (same ∙ sym kept) j })
   falls up turn false blobs same kept = Deposes (record w { deposed = true; blobs = blobs }) w (Stays w refl) (λ j. record w { deposed = true; blobs = same j })
 
   -- its commands are those of the swap where the new record stands
-  falls_commands : (up : World) (turn : Turn f w up) (b : Bool) (blobs : Blobs) (same : blobs ≡ w.blobs) (kept : up.blobs ≡ w.blobs)
+  pub falls_commands : (up : World) (turn : Turn f w up) (b : Bool) (blobs : Blobs) (same : blobs ≡ w.blobs) (kept : up.blobs ≡ w.blobs)
       → commands_of f w (record (if b then up else w) { deposed = true; blobs = blobs }) (falls up turn b blobs same kept) ≡ (if b then commands_of f w up turn else [])
   unfolding falls
   falls_commands up turn true blobs same kept = refl
@@ -118,7 +119,12 @@ module _ (f : Formats) (w : World) where
         new_is = λ j. record (taken_by f w o (GivenFinalize info results) (g.ready.op_there j)) { blobs = blobs_same w image same j };
       })) refl refl
   gives_turn k o (GivenClone index number source base) image g same = absurd g
-  gives_turn k o (GivenDelete uuids) image g same = absurd g
+  gives_turn k o (GivenDelete uuids) image g same =
+      plain f w 0 TakeStep (entry.Gave k o (GivenDelete uuids)) _ (TakesDelete _ o g.0 (record { ready = g.1; new_is = deleting (fin.get w.ops o) })) refl refl
+    where
+      deleting : (found : Option Op) → record (taken_by f w o (GivenDelete uuids) found) { blobs = blobs_in image w.blobs } ≡ record w { tickets = fin.insert w.tickets w.next_ticket (plain_ticket w o (Deleting g.0.uuids None)); next_ticket = suc w.next_ticket }
+      deleting None = λ j. record w { tickets = fin.insert w.tickets w.next_ticket (plain_ticket w o (Deleting (g.2 j) None)); next_ticket = suc w.next_ticket; blobs = blobs_same w image same j }
+      deleting (Some op) = λ j. record w { tickets = fin.insert w.tickets w.next_ticket (plain_ticket w o (Deleting (g.2 j) None)); next_ticket = suc w.next_ticket; blobs = blobs_same w image same j }
   gives_turn k o GivenCleanup image g same = absurd g
   gives_turn k o (GivenRestore index number uuid) image g same =
       plain f w 0 TakeStep (entry.Gave k o (GivenRestore index number uuid)) _
@@ -157,16 +163,19 @@ module _ (f : Formats) (w : World) where
       plain f w k step reply _
       (Latests _ k (record { now = blobs; puts = puts; tries = record { t = c.t; out = record { there = c.out.there; out = c.out.out }; s = c.s; is = c.is; unsettled = c.unsettled; new_is = λ j. record (with_given w k (λ (t : Ticket). record t { tried_latest = true }) (c.out.there j)) { blobs = blobs } } })) no_settle refl
 
-  fetch_turn : (k : ℕ) (name : BlobName) (i : Image) (t : Ticket) → IsOut w k t → (bytes : Bytes) → At f w.blobs name bytes → i.blobs ≡ w.blobs → Turned f w k (FetchStep name) entry.WasFetched (record (change w k (fetching name (told_blob f (Some i) name))) { blobs = i.blobs })
-  fetch_turn k name i t out bytes at same =
+  fetch_turn : (k : ℕ) (name : BlobName) (i : Image) (t : Ticket) → IsOut w k t → IsShard t.work → (bytes : Bytes) → At f w.blobs name bytes → i.blobs ≡ w.blobs → Turned f w k (FetchStep name) entry.WasFetched (record (change w k (fetching name (told_blob f (Some i) name))) { blobs = i.blobs })
+  fetch_turn k name i t out shard bytes at same =
       let told : fin.get i.blobs (f.names.text name) ≡ Some bytes = ap (λ (b : Blobs). fin.get b (f.names.text name)) same ∙ at.0 in
       plain f w k (FetchStep name) entry.WasFetched _
-      (Fetches _ k name (record { t = t; out = out; bytes = bytes; there = at; new_is = λ j. record (with_given w k (fetching name (told j)) (out.there j)) { blobs = same j } })) refl refl
+      (Fetches _ k name (record { t = t; out = out; aside = λ uuids plan e. absurd (subst IsShard e shard); bytes = bytes; there = at; new_is = λ j. record (with_given w k (fetching name (told j)) (out.there j)) { blobs = same j } })) refl refl
 
   -- ---- settle
 
   settled_is : (k : ℕ) (s : Settles f w k) (blobs : Blobs) → record (settled_of f w k (fin.get w.tickets k)) { blobs = blobs } ≡ record (settled w k s.t s.n s.s.root) { deletes = fin.remove w.deletes s.t.op; blobs = blobs }
   settled_is k s blobs = (λ j. record (settled_of f w k (s.may.out.there j)) { blobs = blobs }) ∙ (λ j. record (settled_by f w k s.t (s.may.is j) (s.may.raised j)) { blobs = blobs })
+
+  pub delete_settled_plain : (k n : ℕ) (t : Ticket) (s : Swap) → MaySettle f w k n t s → delete_settled f w k (fin.get w.tickets k) ≡ record (settled w k t n s.root) { deletes = fin.remove w.deletes t.op; doomed = dooms f t ++ w.doomed }
+  delete_settled_plain k n t s may = (λ j. delete_settled f w k (may.out.there j)) ∙ (λ j. delete_settled_by f w k t (may.is j) (may.raised j))
 
   pub settled_plain : (k : ℕ) (s : Settles f w k) → settled_of f w k (fin.get w.tickets k) ≡ record (settled w k s.t s.n s.s.root) { deletes = fin.remove w.deletes s.t.op }
   settled_plain k s = (λ j. settled_of f w k (s.may.out.there j)) ∙ (λ j. settled_by f w k s.t (s.may.is j) (s.may.raised j))
@@ -309,20 +318,21 @@ begin_fails f w k name image no_latest same =
     (plain f w k (BeginStep name) (Refused DepotFault) _ (Stays _ (λ j. record w { blobs = blobs_same w image same j })) refl refl)
 
 -- a call that failed and leaves all but the record as it was
-fault_stays : (f : Formats) (w : World) (who : ℕ) (step : Step) (image : Option Image) → SameBlobs w image → is_settle step ≡ false → Turned f w who step (Refused DepotFault) (record w { blobs = blobs_in image w.blobs })
+pub fault_stays : (f : Formats) (w : World) (who : ℕ) (step : Step) (image : Option Image) → SameBlobs w image → is_settle step ≡ false → Turned f w who step (Refused DepotFault) (record w { blobs = blobs_in image w.blobs })
 fault_stays f w who step image same no_settle = plain f w who step (Refused DepotFault) _ (Stays _ (λ j. record w { blobs = blobs_same w image same j })) no_settle refl
 
 abbrev pub moment : ℕ → Step → Reply → Option Image → Moment
 moment who step reply image = record { entry = record { who = who; step = step; reply = reply }; image = image }
 
 -- a told condition, of the image that is told
-of_told : (i : Image) (image : Option Image) (P : Blobs → Type 0) → image ≡ Some i → Told image P → P i.blobs
+pub of_told : (i : Image) (image : Option Image) (P : Blobs → Type 0) → image ≡ Some i → Told image P → P i.blobs
 of_told i None P e h = absurd (cc)
 of_told i (Some x) P e h = subst (λ (y : Image). P y.blobs) (some_same _ _ e) h
 
 module _ (f : Formats) (size : ℕ) (w : World) (shelf : List Shelved) (l : Law f w shelf) (i : Image)
     (doing : (k : ℕ) (r : ShardResult) → Dones f size w k r (Some i) → i.blobs ≡ w.blobs → Turned f w k (DoneStep r) HasEnded (stepped f w (moment k (DoneStep r) HasEnded (Some i))))
-    (asking : (name : Bytes) (indices : List entry.AskedIndex) (time o : ℕ) → Accepts f w name indices time o → AskCreate f w (asked_op w name indices time) (asked w (Snapshot name indices time))) where
+    (asking : (name : Bytes) (indices : List entry.AskedIndex) (time o : ℕ) → Accepts f w name indices time o → AskCreate f w (asked_op w name indices time) (asked w (Snapshot name indices time)))
+    (pruning : (k : ℕ) (prune : Prune) (reply : Reply) → PruneAllows f w k prune reply (Some i) → Turned f w k (PruneStep prune) reply (stepped f w (moment k (PruneStep prune) reply (Some i)))) where
   ask_turn : (name : Bytes) (indices : List entry.AskedIndex) (time o : ℕ) (image : Option Image) → Accepts f w name indices time o → SameBlobs w image → Turned f w 0 (AskStep (Snapshot name indices time)) (entry.Accepted o) (stepped f w (moment 0 (AskStep (Snapshot name indices time)) (entry.Accepted o) image))
   ask_turn name indices time o image acc same =
       plain f w 0 _ _ _ (AsksCreate _ (asked_op w name indices time) (subst (AskCreate f w (asked_op w name indices time)) (λ j. record (asked w (Snapshot name indices time)) { blobs = sym (blobs_same w image same) j }) (asking name indices time o acc))) refl refl
@@ -489,7 +499,7 @@ module _ (f : Formats) (size : ℕ) (w : World) (shelf : List Shelved) (l : Law 
       latest_turn f w k LatestStep entry.WasReplaced im c refl (blobs_in im w.blobs) (inr (latest_text c.n, blobs_told w i im told ∙ here, named))
   turn_of who step reply image told (allowed.Fetching k name im g found) =
       let here = of_told i im (λ blobs. (bytes : Bytes) × (fin.get w.blobs (f.names.text name) ≡ Some bytes) × (blobs ≡ w.blobs)) told found in
-      subst (λ x. Turned f w k (FetchStep name) entry.WasFetched (stepped f w (moment k (FetchStep name) entry.WasFetched x))) (sym told) (fetch_turn f w k name i g.t g.out here.0 (here.1, g.stored) here.2)
+      subst (λ x. Turned f w k (FetchStep name) entry.WasFetched (stepped f w (moment k (FetchStep name) entry.WasFetched x))) (sym told) (fetch_turn f w k name i g.t g.out (subst IsShard (sym g.work) tt) here.0 (here.1, g.stored) here.2)
   turn_of who step reply image told (allowed.Missing k name im g found) =
       let here = of_told i im (λ blobs. (fin.get w.blobs (f.names.text name) ≡ None) × (blobs ≡ w.blobs)) told found in
       stays f w k (FetchStep name) entry.WasAbsent im (subst (SameBlobs w) (sym told) here.1) refl
@@ -508,6 +518,8 @@ module _ (f : Formats) (size : ℕ) (w : World) (shelf : List Shelved) (l : Law 
   turn_of who step reply image told (allowed.AskingRestore name place rep im h same) = asks_restore name place rep im told h same
   turn_of who step reply image told (allowed.Reading k read rep im h same) = reads k read rep im told h same
   turn_of who step reply image told (allowed.Verifying read rep im h) = verifies read rep im told h
+  turn_of who step reply image told (allowed.Pruning k prune rep im h) =
+      subst (λ x. Turned f w k (PruneStep prune) rep (stepped f w (moment k (PruneStep prune) rep x))) (sym told) (pruning k prune rep (subst (PruneAllows f w k prune rep) told h))
   turn_of who step reply image told (allowed.Cleaning c d x im recorded there clean same) = stays f w 0 (AskStep c) _ im same refl
   turn_of who step reply image told (allowed.Used name indices time uuid im clear is same) = stays f w 0 (AskStep (Snapshot name indices time)) _ im same refl
   turn_of who step reply image told (allowed.Full name indices time im clear unused full same) = stays f w 0 (AskStep (Snapshot name indices time)) _ im same refl

@@ -10,7 +10,7 @@ use Rattle.esr_core.specs.Ids.{OpIds}
 use Rattle.esr_core.specs.Entry.{AskedIndex}
 use Rattle.esr_core.specs.After.{known_id, refs_from, new_names, all_pending, asked_op}
 use Rattle.esr_core.specs.Allowed.{AreDistinct, IsUnused}
-use Rattle.esr_core.specs.Tracked.{IsOneIndex, Named}
+use Rattle.esr_core.specs.Tracked.{IsOneIndex, IsWithin, Named}
 use Rattle.esr_core.proofs.Reading.{Has-append, Has-mapped}
 use Rattle.esr_core.proofs.Results.{found_done}
 use Rattle.esr_core.proofs.Staging.{larger_is}
@@ -121,6 +121,27 @@ named_up root ops c d le n =
 -- an op that leaves
 pub named_left : (root : RootData) (ops : Ops) (next o : ℕ) → Named root ops next → Named root (fin.remove ops o) next
 named_left root ops next o n = named_from root ops (fin.remove ops o) next n (λ p q e. (q, (left_in ops o p q e).1, alike_same next q))
+
+-- a root within
+pub named_within : (root new : RootData) (ops : Ops) (next : ℕ) → IsWithin root new next → Named root ops next → Named new ops next
+named_within root new ops next w n =
+    record {
+      unlisted = λ o op s e m. n.unlisted o op s e (w.shrinks.snapshots s m);
+      apart = n.apart;
+      unused = λ o op y e m has. let (x, there, name, id, was) = w.shrinks.indices y m in n.unused o op x e there (was op.uuid has);
+      indices = n.indices;
+      once = n.once;
+      rooted = λ o op r y e rm m. let (x, there, name, id, was) = w.shrinks.indices y m in one_at r.name x.name r.name y.name r.id x.id r.id y.id (n.rooted o op r x e rm there) refl refl name id;
+      root_indices = λ y z ym zm.
+          let (x, there, name, id, was) = w.shrinks.indices y ym in
+          let (v, v_there, v_name, v_id, v_was) = w.shrinks.indices z zm in
+          one_at x.name v.name y.name z.name x.id v.id y.id z.id (n.root_indices x v there v_there) name id v_name v_id;
+      shards = n.shards;
+      distinct = n.distinct;
+      results = n.results;
+      below = n.below;
+      root_below = w.below;
+    }
 
 -- the root with the snapshot of an op that leaves
 module _ (root : RootData) (ops : Ops) (next : ℕ) (n : Named root ops next) (o : ℕ) (op : Op) (there : fin.get ops o ≡ Some op) (results : List ShardResult) (done : AllDone op.shards results) where

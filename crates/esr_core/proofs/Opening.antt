@@ -8,7 +8,7 @@ use Rattle.esr_model.specs.Values.{Bytes, IndexRef, RootData, SnapInfo, Ledger, 
 use Rattle.esr_model.specs.Shelf.{Shelved, ShelfShard}
 use Rattle.esr_model.specs.Image.{Blobs, Has, AllPairs, At, IsOne, Generation, ListsAs, KeptAt, RootStands, ShardStands}
 use Rattle.esr_core.specs.World.{Op, Safely, opened}
-use Rattle.esr_core.specs.Generations.{DoneAt, Carries}
+use Rattle.esr_core.specs.Generations.{DoneAt, IsOwn, Carries}
 use Rattle.esr_model.specs.Image.{RootIs}
 use Rattle.esr_core.specs.Sound.{Sound}
 use Rattle.esr_core.proofs.Frames.{picked_kept, stands_kept}
@@ -22,7 +22,7 @@ nothing k x e = none_some x (sym (fin.get-empty nat_cmp k) ∙ e)
     none_some x e = cc
 
 -- the shard of a listed snapshot stands under the root's generation
-listed_as : (f : Formats) (has : BlobName → Bytes → Type 0) (root : RootData) (uuid : ℕ) (places : List (IndexRef × ℕ)) (shards : List ShelfShard) → AllPairs (ShardStands f has root uuid) places shards
+pub listed_as : (f : Formats) (has : BlobName → Bytes → Type 0) (root : RootData) (uuid : ℕ) (places : List (IndexRef × ℕ)) (shards : List ShelfShard) → AllPairs (ShardStands f has root uuid) places shards
     → (place : IndexRef × ℕ) → Has places place → (g : ℕ) → Generation root place.0.id place.1 g → ListsAs f has place.0.id place.1 g uuid
 listed_as f has root uuid [] shards h place m g is = absurd m
 listed_as f has root uuid (x ∷ xs) [] h place m g is = absurd h
@@ -34,10 +34,11 @@ listed_as f has root uuid (x ∷ xs) (y ∷ ys) h place (inr m) g is = listed_as
 
 -- in a root that stands each generation serves the listed snapshots
 pub root_carries : (f : Formats) (has : BlobName → Bytes → Type 0) → IsOne has → (root : RootData) (shelf : List Shelved) → RootStands f has root shelf → (ops : FinMap nat_cmp Op)
-    → (index shard g : ℕ) → Generation root index shard g → ((uuid h : ℕ) → DoneAt ops uuid index shard h → ⊥) → Carries f has root ops index shard g
-root_carries f has func root shelf s ops index shard g is none =
+    → (index shard g : ℕ) → Generation root index shard g → ((uuid h : ℕ) → DoneAt ops uuid index shard h → ⊥) → IsOwn f has ops index shard g → Carries f has root ops index shard g
+root_carries f has func root shelf s ops index shard g is none own =
     record {
       stands = s.indices index shard g is;
+      own = own;
       done = λ uuid h d below. absurd (none uuid h d);
       listed = λ above snap m shard_of.
           let (shelved, stands) = info_there f has root root.snapshots shelf s.snapshots snap m in
@@ -67,12 +68,13 @@ opening_sound f blobs cluster root shelf k is =
         ops = λ o op e. absurd (nothing o op e);
         together = λ o p a b apart e h. absurd (nothing o a e);
         carries = λ index shard g live. elim live [
-          | inl gen ↦ root_carries f (Safely f blobs []) (safely_one f blobs []) root shelf stands fin.empty index shard g gen (λ u h d. nothing d.number d.op d.there)
+          | inl gen ↦ root_carries f (Safely f blobs []) (safely_one f blobs []) root shelf stands fin.empty index shard g gen (λ u h d. nothing d.number d.op d.there) (λ held reads l m o op e same. absurd (nothing o op e))
           | inr d ↦ absurd (nothing d.1.number d.1.op d.1.there)
         ];
         shards = λ j t e. absurd (nothing j t e);
         one_shard = λ i j t u a. absurd (nothing i t a);
         finals = λ j t e. absurd (nothing j t e);
+        plans = λ j t e. absurd (nothing j t e);
         held = λ o op s j e. absurd (nothing o op e);
       };
       fresh = λ j t e. absurd (nothing j t e);

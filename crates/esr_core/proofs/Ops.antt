@@ -7,9 +7,10 @@ use Rattle.esr_model.specs.Names.{BlobName}
 use Rattle.esr_model.specs.Values.{Bytes, IndexRef, RootData, ShardResult, Formats}
 use Rattle.esr_model.specs.Image.{Has}
 use Rattle.esr_core.specs.World.{Op, ShardWork, Done}
-use Rattle.esr_core.specs.Generations.{DoneAt, IsLive, Carries, DoneStands, OpLaw, Together, Base}
+use Rattle.esr_core.specs.Generations.{DoneAt, IsLive, HasShard, Carries, DoneStands, OpLaw, Together, Base}
 use Rattle.esr_core.proofs.Maps.{get_was}
-use Rattle.esr_core.proofs.Reading.{Has-mapped}
+use Rattle.esr_core.proofs.Reading.{Has-map, Has-mapped}
+use Rattle.esr_core.proofs.Owning.{OnWith, own_on}
 
 pub record GoesOn (g : ShardWork → ShardWork) : Type 0 where
   pub ref : (s : ShardWork) → (g s).ref ≡ s.ref
@@ -40,8 +41,17 @@ module _ (f : Formats) (has : BlobName → Bytes → Type 0) (root : RootData) (
   live_was index shard n (inl h) = inl h
   live_was index shard n (inr (u, a)) = inr (u, done_was u index shard n a)
 
+  has_still : (index shard : ℕ) → HasShard op index shard → HasShard op_now index shard
+  has_still index shard h = (g h.0, Has-map g op.shards h.0 h.1, ap (λ (r : IndexRef). r.id) (on.ref h.0) ∙ h.2, on.number h.0 ∙ h.3)
+
+  pub on_with : OnWith ops ops_now
+  on_with = λ p q e. elim (op_was p q e) [
+    | inl h ↦ (op, ap (fin.get ops) h.0 ∙ there, ap (λ (x : Op). x.uuid) h.1, (λ index shard has. subst (λ (x : Op). HasShard x index shard) h.1 (has_still index shard has)))
+    | inr h ↦ (q, h.1, refl, (λ index shard has. has))
+  ]
+
   pub carries_now : (index shard n : ℕ) → Carries f has root ops index shard n → Carries f has root ops_now index shard n
-  carries_now index shard n c = record { stands = c.stands; done = λ u h a below. c.done u h (done_was u index shard h a) below; listed = c.listed }
+  carries_now index shard n c = record { stands = c.stands; own = own_on ops ops_now on_with f has index shard n c.own; done = λ u h a below. c.done u h (done_was u index shard h a) below; listed = c.listed }
 
   pub base_now : (index shard : ℕ) (base : Option ℕ) → Base f has root ops index shard base → Base f has root ops_now index shard base
   base_now index shard None h = λ n live. h n (live_was index shard n live)

@@ -1,5 +1,5 @@
 -- Each step keeps the order of the generations that tickets have raised.
-use Rattle.std.proofs.Common.{◌≡◌, ◌≢◌, ℕ, suc, ◌<◌, ◌≤◌, List, [], ◌∷◌, Bool, true, false, true≢false, Option, Some, None, refl, sym, ap, ◌∙◌, subst, inl, inr, arith}
+use Rattle.std.proofs.Common.{◌≡◌, ◌≢◌, ℕ, suc, ◌<◌, ◌≤◌, List, [], ◌∷◌, Bool, true, false, true≢false, Option, Some, None, refl, sym, ap, ◌∙◌, subst, inl, inr, arith, ◌+◌}
 use Rattle.std.specs.Prelude.{if◌then◌else◌}
 use Rattle.std.specs.Ordering.{nat_cmp}
 use Rattle.std.specs.FinMap.{FinMap}
@@ -7,20 +7,22 @@ use Rattle.std.specs.FinMap as fin
 use Rattle.esr_model.specs.Names.{BlobName}
 use Rattle.esr_model.specs.Values.{Bytes, RootData, ShardResult, ClusterRecord, Formats}
 use Rattle.esr_model.specs.Image.{Image, Blobs}
-use Rattle.esr_core.specs.World.{World, Op, Work, Shard, Finalize, Deleting, Drop, Ticket, Swap, swap_of, opened}
+use Rattle.esr_model.specs.Delete.{PrunedShard, kept_count}
+use Rattle.esr_core.specs.Pruning.{planned}
+use Rattle.esr_core.specs.World.{World, Op, Work, Shard, Finalize, Deleting, Drop, Ticket, Swap, swap_of, opened, Deletion}
 use Rattle.esr_core.specs.Ready.{IsMaster}
 use Rattle.esr_core.specs.Steps.{with_ticket}
-use Rattle.esr_core.specs.Entry.{Given, GivenShard, GivenFinalize, GivenDrop, Step, Reply, Moment, GivenRestore, Restore, AskStep, ReadStep, Read, ReadBlob, RestoredShard, ReadFails, WasFetched, WasAbsent, HasEnded, GivenClone, GivenDelete, GivenCleanup}
-use Rattle.esr_core.specs.After.{taken_by, taken_shard, with_given, change, committing, fetching, told_blob, done_of, done_by, failed_of, failed_by, is_stale, settled_of, dropped_of, tried, answered, blobs_in, after, test_left}
+use Rattle.esr_core.specs.Entry.{Given, GivenShard, GivenFinalize, GivenDrop, Step, Reply, Moment, GivenRestore, Restore, AskStep, ReadStep, Read, ReadBlob, RestoredShard, ReadFails, WasFetched, WasAbsent, HasEnded, GivenClone, GivenDelete, GivenCleanup, Prune, PruneStep}
+use Rattle.esr_core.specs.After.{taken_by, taken_shard, with_given, change, committing, fetching, told_blob, done_of, done_by, failed_of, failed_by, is_stale, settled_of, dropped_of, tried, answered, blobs_in, after, test_left, delete_settled, delete_failed, delete_failed_by}
 use Rattle.esr_core.specs.Allowed as allowed
-use Rattle.esr_core.specs.Allowed.{Gives, Settles, Fails, Drops, Dones, Allows, Allowed, MayRaise, RestoreAllows, OpeningRestore, NotListed, NamedByDelete, FullOfRestores, ReadAllows, ReadFound, ReadMissing, ReadFault, RestoringShard, ReaderFailing, CheckingAll, CheckFailing, VerifyAllows, DrawingTest, TestSpent, BeginningTest, BeginTestFails, CommittingTest, TestTaken, CommitTestFails, RemovingTests, RemoveTestsFails, VerifyingAll, VerifyFailing}
+use Rattle.esr_core.specs.Allowed.{MayPlan, SettlesDeletion, FailsDeletion, PruneAllows, FetchingShard, ShardMissing, FetchShardFails, Planning, PlanSpent, SettlingDelete, SettleDeleteStale, SettleDeleteFails, RemovingDoomed, RemoveDoomedFails, EndingDelete, FailingDelete, Gives, Settles, Fails, Drops, Dones, Allows, Allowed, MayRaise, RestoreAllows, OpeningRestore, NotListed, NamedByDelete, FullOfRestores, ReadAllows, ReadFound, ReadMissing, ReadFault, RestoringShard, ReaderFailing, CheckingAll, CheckFailing, VerifyAllows, DrawingTest, TestSpent, BeginningTest, BeginTestFails, CommittingTest, TestTaken, CommitTestFails, RemovingTests, RemoveTestsFails, VerifyingAll, VerifyFailing}
 use Rattle.esr_core.specs.History.{world_from, IsLegal}
 use Rattle.esr_core.specs.Tracked.{Tracked}
 use Rattle.esr_core.specs.Ranked.{Ranks, Ranked}
 use Rattle.esr_core.proofs.Opening.{nothing}
 use Rattle.esr_core.proofs.Queues.{was_in}
 use Rattle.esr_core.proofs.Besides.{aside_taken, aside_by, kept_aside}
-use Rattle.esr_core.proofs.Moments.{moment, not_latest, settled_plain}
+use Rattle.esr_core.proofs.Moments.{moment, not_latest, settled_plain, delete_settled_plain}
 use Rattle.esr_core.proofs.TrackingSteps.{tracked_step}
 
 -- a ticket that goes on: nothing that ranks it changes, and it is out and unsettled only where it was
@@ -156,7 +158,11 @@ module _ (f : Formats) (size : ℕ) (w : World) (q : Tracked w) (l : Ranked w) w
 
   gives : (o : ℕ) (unit : Given) → Gives f w o unit → Ranked (taken_by f w o unit (fin.get w.ops o))
   gives o (GivenClone index number source base) g = absurd g
-  gives o (GivenDelete uuids) g = absurd g
+  gives o (GivenDelete uuids) g = deleting (fin.get w.ops o)
+    where
+      deleting : (found : Option Op) → Ranked (taken_by f w o (GivenDelete uuids) found)
+      deleting None = ranks_new w.safe w.pending w.term w.tickets l w.next_ticket _ refl
+      deleting (Some op) = ranks_new w.safe w.pending w.term w.tickets l w.next_ticket _ refl
   gives o GivenCleanup g = absurd g
   gives o (GivenRestore index number uuid) g = kept_aside Ranked w _ (aside_taken w o index number (fin.get w.restores o)) l
   gives o (GivenShard index number base) g =
@@ -193,6 +199,48 @@ module _ (f : Formats) (size : ℕ) (w : World) (q : Tracked w) (l : Ranked w) w
 
   drops_step : (k : ℕ) → Drops w k → Ranked (dropped_of w k (fin.get w.tickets k))
   drops_step k d = subst (λ x. Ranked (dropped_of w k x)) (sym d.may.out.there) (ends k d.may.t d.may.out.there)
+
+  -- ---- steps of a delete's ticket
+
+  -- it has raised nothing before its plan
+  plans : (k : ℕ) (shards : List PrunedShard) (image : Option Image) (p : MayPlan f w k shards image) → Ranked (record (change w k (planned f shards w.next_id)) { next_id = w.next_id + kept_count shards })
+  plans k shards image p =
+      subst (λ o. Ranked (record (with_given w k (planned f shards w.next_id) o) { next_id = w.next_id + kept_count shards })) (sym p.deleting.out.there)
+      (ranks_new w.safe w.pending w.term w.tickets l k (planned f shards w.next_id p.t) p.unraised)
+
+  deletion_settles : (k : ℕ) (s : SettlesDeletion f w k) → s.t.term ≡ w.term → Ranked (delete_settled f w k (fin.get w.tickets k))
+  deletion_settles k s present =
+      subst Ranked (sym (delete_settled_plain f w k s.n s.t s.s s.may)) (ranks_settle w.safe w.pending w.term w.tickets l k s.n s.t s.may.out.there s.may.raised alone)
+    where
+      alone : (j : ℕ) (u : Ticket) → j ≢ k → fin.get w.tickets j ≡ Some u → u.out ≡ true → u.settled ≡ false → u.term ≡ w.term → IsMaster u.work → ⊥
+      alone j u away e out uns pres master =
+          away (q.one_swap j k (record { t = u; there = e; out = out; unsettled = uns; present = pres; swaps = master })
+          (record { t = s.t; there = s.may.out.there; out = s.may.out.out; unsettled = s.may.unsettled; present = present; swaps = subst IsMaster (sym s.deleting.work) tt }))
+
+  deletion_fails : (k : ℕ) (c : FailsDeletion w k) → Ranked (delete_failed w k (fin.get w.tickets k))
+  deletion_fails k c = subst (λ x. Ranked (delete_failed w k x)) (sym c.deleting.out.there) (by_term (is_stale w c.t c.t.work))
+    where
+      by_op : (x : Option Deletion) → Ranked (delete_failed_by w k c.t x)
+      by_op None = l
+      by_op (Some x) = ends k c.t c.deleting.out.there
+
+      by_term : (b : Bool) → Ranked (if b then with_ticket w k (record c.t { out = false }) else delete_failed_by w k c.t (fin.get w.deletes c.t.op))
+      by_term true = ends k c.t c.deleting.out.there
+      by_term false = by_op (fin.get w.deletes c.t.op)
+
+  prunes : (k : ℕ) (prune : Prune) (reply : Reply) (image : Option Image) → PruneAllows f w k prune reply image → Ranked (after f w (moment k (PruneStep prune) reply image))
+  prunes who prune reply image (FetchingShard k name im g found) = fetches k g.t g.deleting.out.there name (told_blob f im name)
+  prunes who prune reply image (ShardMissing k name im g found) = l
+  prunes who prune reply image (FetchShardFails k name im g same) = l
+  prunes who prune reply image (Planning k shards im p fits back same) = plans k shards im p
+  prunes who prune reply image (PlanSpent k shards im p spent same) = l
+  prunes who prune reply image (SettlingDelete k im s present same) = deletion_settles k s present
+  prunes who prune reply image (SettleDeleteStale k im s apart same) = l
+  prunes who prune reply image (SettleDeleteFails k im s present same) = ranks_falls w _ l (deletion_settles k s present) _ (blobs_in im w.blobs)
+  prunes who prune reply image (RemovingDoomed k names im r removed) = l
+  prunes who prune reply image (RemoveDoomedFails k names im r removes) = l
+  prunes who prune reply image (EndingDelete k im e same) = changes k e.t e.deleting.out.there (λ (t : Ticket). record t { out = false }) (alike_ended e.t)
+  prunes who prune reply image (FailingDelete k why im c same) = deletion_fails k c
 
   elects : Ranks w.safe w.pending (suc w.term) w.tickets
   elects = ranks_elect w.safe w.pending w.term w.tickets l (suc w.term) (λ k t there same. let b : t.term ≤ w.term = (q.tickets k t there).1 in absurd (omega (arith, b, same)))
@@ -257,6 +305,7 @@ module _ (f : Formats) (size : ℕ) (w : World) (q : Tracked w) (l : Ranked w) w
   ranked_by who step reply image (allowed.Looking im same) = l
   ranked_by who step reply image (allowed.AskingRestore name place rep im h same) = asks_restore name place rep im h
   ranked_by who step reply image (allowed.Reading k read rep im h same) = reads k read rep im h
+  ranked_by who step reply image (allowed.Pruning k prune rep im h) = prunes k prune rep im h
   ranked_by who step reply image (allowed.Verifying read rep im h) = verifies read rep im h
   ranked_by who step reply image (allowed.Cleaning c d x im recorded there clean same) = l
   ranked_by who step reply image (allowed.Used name indices time uuid im clear is same) = l

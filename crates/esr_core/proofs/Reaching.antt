@@ -67,12 +67,13 @@ module _ (f : Formats) (has : BlobName → Bytes → Type 0) (root : RootData) w
         shards = AllPairs-with (ShardStands f has root snap.uuid) (ShardStands f Used root snap.uuid) (shelf_places s.info.indices) shelved.shards (λ place shard p h. shard_used snap m place shard h) s.shards;
       }
 
-  index_used : (i k g : ℕ) → Generation root i k g → IndexStands f has i k g → IndexStands f Used i k g
+  index_used : (i k g : ℕ) → Generation root i k g → IndexStands f has root i k g → IndexStands f Used root i k g
   index_used i k g gen s =
       record {
         held = s.held;
         held_reads = reads_used _ _ _ (ReachIndex i k g gen) s.held_reads;
         files = λ e m. let was = s.files e m in (was.0, file_used i k g s.held gen s.held_reads e m was.0 was.1);
+        snaps = λ l snap m n e. let was = s.snaps l snap m n e in (was.0, reads_used _ _ _ (ReachShardSnap i k g snap s.held l gen s.held_reads m n e) was.1);
         below = s.below;
       }
 

@@ -70,7 +70,7 @@ read_goes w new l g =
       };
       once = subst FetchesOnce (sym g.caller) l.once;
       drawn = λ v e. let b : v < w.next_id = l.drawn v (ap (λ (x : Caller). x.drawn) (sym g.caller) ∙ e) in let c : w.next_id ≤ new.next_id = g.next_id in omega (arith, b, c);
-      doomed = λ name m. subst (λ xs. Has xs name) (sym g.doomed) (l.doomed name (subst (λ (x : Caller). Has x.committed name) g.caller m));
+      doomed = λ name m. g.doomed name (l.doomed name (subst (λ (x : Caller). Has x.committed name) g.caller m));
     }
 
 module _ (f : Formats) (size : ℕ) (w : World) (t : Tracked w) (l : ReadTracked w) where

@@ -5,15 +5,16 @@ use Rattle.std.specs.FinMap as fin
 use Rattle.esr_model.specs.Names.{BlobName, Latest}
 use Rattle.esr_model.specs.Values.{Bytes, Has, ShardResult, Formats}
 use Rattle.esr_model.specs.Image.{Image}
-use Rattle.esr_core.specs.World.{World, Op, ShardWork, ReadState, RestoreShard, Restoring, Reader, Ticket, Swap, swap}
+use Rattle.esr_core.specs.World.{World, Op, ShardWork, ReadState, RestoreShard, Restoring, Reader, Ticket, Swap, swap, Deletion}
 use Rattle.esr_core.specs.Restores.{restore_shard}
 use Rattle.esr_core.specs.Steps.{with_ticket}
-use Rattle.esr_core.specs.Entry.{Asked, Snapshot, Restore, Given, GivenShard, GivenFinalize, GivenDrop, GivenRestore, Read, ReadBlob, RestoredShard, CheckedAll, DrawTest, BeginTest, CommitTest, RemoveTests, VerifiedAll, ReadFails, Step, AskStep, TakeStep, DrawStep, BeginStep, CommitStep, LatestStep, FetchStep, ListStep, RaiseStep, SettleStep, DoneStep, FailedStep, FinishStep, DroppedStep, ElectStep, LookStep, ReadStep, Refusal, DepotFault, Reply, Gave, DrawnFrom, WasDone, WasThere, WasFetched, HasEnded, Refused, AcceptedRestore, Moment}
-use Rattle.esr_core.specs.After.{shard_of, taken_shard, taken_restore_shard, taken_restore, taken_by, with_given, change, told_blob, settled_by, settled_of, done_by, done_of, is_stale, failed_by, failed_of, dropped_of, read_told, shard_over, read_over, read_step, read_by, done_step, swaps_record, fallen, is_latest, tried, test_left, faulted, answered, after}
+use Rattle.esr_core.specs.Entry.{Asked, Snapshot, Restore, Given, GivenShard, GivenFinalize, GivenDrop, GivenRestore, Read, ReadBlob, RestoredShard, CheckedAll, DrawTest, BeginTest, CommitTest, RemoveTests, VerifiedAll, ReadFails, Step, AskStep, TakeStep, DrawStep, BeginStep, CommitStep, LatestStep, FetchStep, ListStep, RaiseStep, SettleStep, DoneStep, FailedStep, FinishStep, DroppedStep, ElectStep, LookStep, ReadStep, Refusal, DepotFault, Reply, Gave, DrawnFrom, WasDone, WasThere, WasFetched, HasEnded, Refused, AcceptedRestore, Moment, Prune, FetchShard, PlanShards, SettlePruned, RemoveDoomed, EndDelete, DeleteFails, PruneStep}
+use Rattle.esr_core.specs.After.{shard_of, taken_shard, taken_restore_shard, taken_restore, taken_by, with_given, change, told_blob, settled_by, settled_of, done_by, done_of, is_stale, failed_by, failed_of, dropped_of, read_told, shard_over, read_over, read_step, read_by, done_step, swaps_record, fallen, is_latest, tried, test_left, faulted, answered, after, delete_settled_by, delete_settled, delete_failed_by, delete_failed, prune_step}
+use Rattle.esr_core.specs.Pruning.{planned}
 use Rattle.esr_core.specs.Allowed as allowed
-use Rattle.esr_core.specs.Allowed.{RestoreAllows, ReadAllows, VerifyAllows, Allows, Allowed}
+use Rattle.esr_core.specs.Allowed.{RestoreAllows, ReadAllows, VerifyAllows, PruneAllows, Allows, Allowed}
 use Rattle.esr_core.specs.History.{world_from, IsLegal}
-use Rattle.esr_core.specs.Refusing.{MayRefuse, InCleanup, InUse, InFull, NoIdForAsk, AskFault, NotListed, NamedByDelete, FullOfRestores, NoIds, BeginFault, CommitFault, CommitTaken, LatestFault, FetchFault, ListFault, RaiseFault, RaiseStale, RaiseSpent, SettleFault, SettleStale, DropFault, DropStale, ElectFault, NoTerms, ReadFault, NoTestId, BeginTestFault, CommitTestFault, TestTaken, RemoveFault, RefusedSo, SwapFailed}
+use Rattle.esr_core.specs.Refusing.{MayRefuse, InCleanup, InUse, InFull, NoIdForAsk, AskFault, NotListed, NamedByDelete, FullOfRestores, NoIds, BeginFault, CommitFault, CommitTaken, LatestFault, FetchFault, ListFault, RaiseFault, RaiseStale, RaiseSpent, SettleFault, SettleStale, DropFault, DropStale, ElectFault, NoTerms, ReadFault, NoTestId, BeginTestFault, CommitTestFault, TestTaken, RemoveFault, RefusedSo, SwapFailed, FetchShardFault, NoPlanIds, SettleDeleteFault, SettleDeleteStale, RemoveDoomedFault}
 
 -- ---- refusals
 
@@ -33,9 +34,17 @@ module _ (f : Formats) (size : ℕ) (w : World) where
   verify_refused read refusal image (allowed.CommitTestFails name bytes im own leaves) = CommitTestFault name
   verify_refused read refusal image (allowed.RemoveTestsFails names im may left) = RemoveFault names
 
+  prune_refused : (k : ℕ) (prune : Prune) (refusal : Refusal) (image : Option Image) → PruneAllows f w k prune (Refused refusal) image → MayRefuse (PruneStep prune) refusal
+  prune_refused who prune refusal image (allowed.FetchShardFails k name im g same) = FetchShardFault name
+  prune_refused who prune refusal image (allowed.PlanSpent k shards im p spent same) = NoPlanIds shards w.next_id
+  prune_refused who prune refusal image (allowed.SettleDeleteStale k im s apart same) = SettleDeleteStale s.t.term w.term
+  prune_refused who prune refusal image (allowed.SettleDeleteFails k im s present same) = SettleDeleteFault
+  prune_refused who prune refusal image (allowed.RemoveDoomedFails k names im r removes) = RemoveDoomedFault names
+
   refused_by : (who : ℕ) (step : Step) (refusal : Refusal) (image : Option Image) → Allows f size w who step (Refused refusal) image → MayRefuse step refusal
   refused_by who step refusal image (allowed.AskingRestore name place rep im h same) = restore_refused name place refusal image h
   refused_by who step refusal image (allowed.Verifying read rep im h) = verify_refused read refusal image h
+  refused_by who step refusal image (allowed.Pruning k prune rep im h) = prune_refused k prune refusal image h
   refused_by who step refusal image (allowed.Reading k read rep im h same) = read_refused k read refusal image h
   refused_by who step refusal image (allowed.Cleaning command d x im recorded there clean same) = InCleanup command d recorded
   refused_by who step refusal image (allowed.Used name indices moment uuid im clear is same) = InUse name indices moment uuid
@@ -158,6 +167,36 @@ module _ (f : Formats) (w : World) where
   read_mark zero read reply image = refl
   read_mark (suc k) read reply image = read_step_mark (suc k) read reply image
 
+  delete_settled_by_mark : (k : ℕ) (t : Ticket) (s : Option Swap) (n : Option ℕ) → (delete_settled_by f w k t s n).deposed ≡ w.deposed
+  delete_settled_by_mark k t (Some s) (Some n) = refl
+  delete_settled_by_mark k t (Some s) None = refl
+  delete_settled_by_mark k t None n = refl
+
+  delete_settled_mark : (k : ℕ) (o : Option Ticket) → (delete_settled f w k o).deposed ≡ w.deposed
+  delete_settled_mark k None = refl
+  delete_settled_mark k (Some t) = delete_settled_by_mark k t (swap f t) t.raised
+
+  delete_failed_by_mark : (k : ℕ) (t : Ticket) (x : Option Deletion) → (delete_failed_by w k t x).deposed ≡ w.deposed
+  delete_failed_by_mark k t None = refl
+  delete_failed_by_mark k t (Some x) = refl
+
+  delete_failed_mark : (k : ℕ) (o : Option Ticket) → (delete_failed w k o).deposed ≡ w.deposed
+  delete_failed_mark k None = refl
+  delete_failed_mark k (Some t) = go (is_stale w t t.work)
+    where
+      go : (b : Bool) → (if b then with_ticket w k (record t { out = false }) else delete_failed_by w k t (fin.get w.deletes t.op)).deposed ≡ w.deposed
+      go true = refl
+      go false = delete_failed_by_mark k t (fin.get w.deletes t.op)
+
+  prune_mark : (k : ℕ) (prune : Prune) (reply : Reply) (image : Option Image) → (prune_step f w k prune reply image).deposed ≡ w.deposed
+  prune_mark k (FetchShard name) WasFetched image = change_mark k _
+  prune_mark k (FetchShard name) reply image = refl
+  prune_mark k (PlanShards shards) reply image = change_mark k (planned f shards w.next_id)
+  prune_mark k SettlePruned reply image = delete_settled_mark k (fin.get w.tickets k)
+  prune_mark k (RemoveDoomed names) reply image = refl
+  prune_mark k EndDelete reply image = change_mark k _
+  prune_mark k (DeleteFails why) reply image = delete_failed_mark k (fin.get w.tickets k)
+
   step_mark : (k : ℕ) (step : Step) (reply : Reply) (image : Option Image) → (done_step f w k step reply image).deposed ≡ w.deposed
   step_mark k (AskStep (Snapshot name indices moment)) reply image = refl
   step_mark k (AskStep (Restore name place)) (AcceptedRestore o uuid indices) image = refl
@@ -175,6 +214,7 @@ module _ (f : Formats) (w : World) where
   step_mark k FinishStep reply image = change_mark k _
   step_mark k DroppedStep reply image = dropped_mark k (fin.get w.tickets k)
   step_mark k (ReadStep read) reply image = read_mark k read reply image
+  step_mark k (PruneStep prune) reply image = prune_mark k prune reply image
   step_mark k step reply image = refl
 
   tried_mark : (k : ℕ) (b : Bool) → (if b then tried w k else w).deposed ≡ w.deposed
@@ -204,6 +244,8 @@ module _ (f : Formats) (w : World) where
   fault_mark k SettleStep image = inr refl
   fault_mark k DroppedStep image = inr refl
   fault_mark k ElectStep image = inr refl
+  fault_mark k (PruneStep SettlePruned) image = inr refl
+  fault_mark k (PruneStep (RemoveDoomed names)) image = inl refl
   fault_mark k step image = inl refl
 
   answered_mark : (k : ℕ) (step : Step) (reply : Reply) (image : Option Image) → ((answered f w k step reply image).deposed ≡ w.deposed) ⊎ ((swaps_record step ≡ true) × (reply ≡ Refused DepotFault))

@@ -15,6 +15,7 @@ use Rattle.esr_core.proofs.Maps.{get_left}
 use Rattle.esr_core.proofs.Ordered.{in_shelf_places}
 use Rattle.esr_core.proofs.Reading.{some_same, reads_one, Has-append, Has-mapped}
 use Rattle.esr_core.proofs.Results.{done_of, found_done, done_found}
+use Rattle.esr_core.proofs.Owning.{OnWith, own_on, stands_on}
 use Rattle.esr_core.proofs.Staging.{larger_is, larger_old, larger_new}
 
 module _ (f : Formats) (has : BlobName → Bytes → Type 0) (root new : RootData) (ops : FinMap nat_cmp Op) (o : ℕ) (op : Op) (results : List ShardResult)
@@ -40,10 +41,14 @@ module _ (f : Formats) (has : BlobName → Bytes → Type 0) (root new : RootDat
   ]
   live_was index shard g (inr h) = inr (h.0, done_was h.0 index shard g h.1)
 
+  on_with : OnWith ops (fin.remove ops o)
+  on_with = λ p q e. (q, (get_left nat_cmp_total nat_cmp-IsAntisymmetric ops o p q e).1, refl, (λ index shard has_it. has_it))
+
   pub carried : (index shard g : ℕ) → Carries f has root ops index shard g → Carries f has new (fin.remove ops o) index shard g
   carried index shard g c =
       record {
-        stands = c.stands;
+        stands = stands_on f has root new ops o op results there law done fins index shard g c;
+        own = own_on ops (fin.remove ops o) on_with f has index shard g c.own;
         done = λ uuid h d below. c.done uuid h (done_was uuid index shard h d) below;
         listed = λ above snap m shard_of. elim (Has-append root.snapshots _ snap (subst (λ xs. Has xs snap) fins.snapshots m)) [
           | inl old ↦ c.listed (λ h is. let now = larger_old _ (done_at results index shard) h is in let b : now.0 ≤ g = above now.0 (fins.generations index shard ∙ now.1) in elim now.2 [ inl e ↦ omega (arith, e, b) | inr e ↦ omega (arith, e.0, b) ]) snap old shard_of

@@ -49,6 +49,12 @@ settles_shards f w shelf k n t s l c may present info results made work =
       held = λ o op z j e m state.
           let h = c.held o op z j (get_left nat_cmp_total nat_cmp-IsAntisymmetric w.ops t.op o op e).1 m state in
           record { t = h.t; there = stays t.work info results made work j h.t h.there z.ref.id z.number h.work; out = h.out; op_is = h.op_is; work = h.work };
+      plans = λ j u e out uns pres uuids x is. absurd (elim (get_was nat_cmp_total nat_cmp-IsAntisymmetric w.tickets k _ j u e) [
+        | inl h ↦ true≢false (ap (λ (x : Ticket). x.settled) h.1 ∙ uns)
+        | inr h ↦ h.0 (l.single j k
+            (record { t = u; there = h.1; s = x; is = record { is = ap (λ y. swap_of f y u.root) is; out = out; unsettled = uns }; present = pres })
+            (record { t = t; there = may.out.there; s = s; is = unsettled; present = present }))
+      ]);
       finals = λ j u e out uns pres info' results' made' is. absurd (elim (get_was nat_cmp_total nat_cmp-IsAntisymmetric w.tickets k _ j u e) [
         | inl h ↦ true≢false (ap (λ (x : Ticket). x.settled) h.1 ∙ uns)
         | inr h ↦ h.0 (l.single j k

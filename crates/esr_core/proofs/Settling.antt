@@ -5,16 +5,16 @@ use Rattle.std.proofs.lemmas.Bool.{cases_order}
 use Rattle.std.specs.FinMap.{FinMap}
 use Rattle.std.specs.FinMap as fin
 use Rattle.esr_model.specs.Parts.{part_names}
-use Rattle.esr_model.specs.Names.{BlobName, Root, File, Part}
+use Rattle.esr_model.specs.Names.{BlobName, Root, ShardIndex, File, Part}
 use Rattle.esr_model.specs.Reach.{Reached, ReachSnap, ReachMeta, ReachIndexMeta, ReachIndex, ReachShardSnap, ReachPart}
-use Rattle.esr_model.specs.Values.{RootSnap, RootData, SnapInfo, FileEntry, ShardResult, Formats}
+use Rattle.esr_model.specs.Values.{RootSnap, RootData, SnapInfo, FileEntry, ShardFiles, ShardResult, Formats}
 use Rattle.esr_model.specs.Shelf.{Shelved, shelf_after, names_uuid}
-use Rattle.esr_model.specs.Image.{Has, RootStands}
+use Rattle.esr_model.specs.Image.{Has, Generation, RootStands}
 use Rattle.esr_core.specs.World.{World, Op, Deletion, ShardWork, Out, Work, Shard, Finalize, Deleting, Drop, Ticket, Swap, swap_of, ledger_of, info_of, HeldIn}
 use Rattle.esr_core.specs.Ready.{Idle, IsMaster, SwapIsOut}
 use Rattle.esr_core.specs.Steps.{MaySettle, settled}
 use Rattle.esr_core.specs.Turns.{SettleFinal, SettleDelete}
-use Rattle.esr_core.specs.Generations.{DoneAt, FinalLaw}
+use Rattle.esr_core.specs.Generations.{DoneAt, ListsOwn, IsOwn, FinalLaw, PlanLaw}
 use Rattle.esr_model.specs.Image.{RootIs}
 use Rattle.esr_core.specs.Swaps.{Rooted, IsUnsettled, SwapLaw, Counts}
 use Rattle.esr_core.specs.Doomed.{Dooms}
@@ -24,8 +24,9 @@ use Rattle.esr_model.specs.Finalize.{Finalizes, finalized_root}
 use Rattle.esr_core.proofs.Pieces.{in_parts}
 use Rattle.esr_core.proofs.Finalizing.{finalizes, root_one_each}
 use Rattle.esr_core.proofs.SettleShards.{of_swap}
-use Rattle.esr_core.proofs.Reading.{some_same, none_some, held_one, safe_root_stands, Has-left}
+use Rattle.esr_core.proofs.Reading.{some_same, none_some, held_one, reads_one, safe_root_stands, Has-left}
 use Rattle.esr_core.proofs.Opening.{root_carries}
+use Rattle.esr_core.proofs.Owning.{OnWith, lists_on, own_on}
 use Rattle.esr_core.proofs.Settle.{settles}
 use Rattle.esr_core.proofs.SettleWhole.{CarriedIn}
 use Rattle.esr_core.proofs.Dooming.{dooming_sound}
@@ -153,6 +154,22 @@ module _ (f : Formats) (w : World) (shelf : List Shelved) (l : Lawful f w shelf)
       differ : Deleting d.uuids (Some s) ≡ Shard index shard → ⊥
       differ e = cc
 
+  plan : PlanLaw f w.root w.ops s
+  plan = l.sound.carried.plans k t d.may.out.there d.may.out.out d.may.unsettled d.present d.uuids s d.work
+
+  on_with : OnWith w.ops (fin.remove w.ops t.op)
+  on_with = λ o op e. (op, (left_in w.ops t.op o op e).1, refl, (λ i x has. has))
+
+  -- what the new root's indices list of the open ops is their own
+  own_left : (i x g : ℕ) → Generation s.root i x g → IsOwn f (HeldIn f w) (fin.remove w.ops t.op) i x g
+  own_left i x g gen = λ held reads. elim (plan i x g gen) [
+    | inl old ↦ own_on w.ops (fin.remove w.ops t.op) on_with f (HeldIn f w) i x g (l.sound.carried.carries i x g (inl old)).own held reads
+    | inr y ↦
+        let there : HeldIn f w (ShardIndex i x g) (f.shard_index.text y.index_of) = swapping.noted (ShardIndex i x g) (f.shard_index.text y.index_of) y.there (d.may.ready (ShardIndex i x g) (f.shard_index.text y.index_of) y.there) in
+        let same : y.index_of ≡ held = reads_one (HeldIn f w) (held_one f w) (ShardIndex i x g) f.shard_index y.index_of held (record { bytes = f.shard_index.text y.index_of; there = there; reads = y.back }) reads in
+        lists_on w.ops (fin.remove w.ops t.op) on_with i x held (subst (λ (v : ShardFiles). ListsOwn w.ops i x v) same y.lists)
+  ]
+
   carried : CarriedIn f now
   carried =
       record {
@@ -169,11 +186,12 @@ module _ (f : Formats) (w : World) (shelf : List Shelved) (l : Lawful f w shelf)
         };
         together = λ o p a b apart e h. l.sound.carried.together o p a b apart (left_in w.ops t.op o a e).1 (left_in w.ops t.op p b h).1;
         carries = λ i x g live. elim live [
-          | inl gen ↦ root_carries f (HeldIn f w) (held_one f w) s.root after stands (fin.remove w.ops t.op) i x g gen (λ u h a. done_left u i x h a)
+          | inl gen ↦ root_carries f (HeldIn f w) (held_one f w) s.root after stands (fin.remove w.ops t.op) i x g gen (λ u h a. done_left u i x h a) (own_left i x g gen)
           | inr a ↦ absurd (done_left a.0 i x g a.1)
         ];
         shards = λ j u e out i x is. absurd (no_shard j u e out i x is);
         one_shard = λ i j a b ea eb ao bo x y ai bi. absurd (no_shard i a ea ao x y ai);
+        plans = λ j u e out uns pres uuids x is. absurd (idle_after f w shelf l k n t s d.may d.present j (record { t = u; there = e; out = out; unsettled = uns; present = pres; swaps = subst IsMaster (sym is) tt }));
         finals = λ j u e out uns pres info results made is. absurd (idle_after f w shelf l k n t s d.may d.present j (record { t = u; there = e; out = out; unsettled = uns; present = pres; swaps = subst IsMaster (sym is) tt }));
         held = λ o op z j e m state. absurd (no_out o op (left_in w.ops t.op o op e).1 z m j state);
       }

@@ -15,6 +15,7 @@ use Rattle.esr_core.specs.Generations.{DoneAt, IsLive, Carries, DoneStands, OpTe
 use Rattle.esr_core.specs.Swaps.{OrOwn}
 use Rattle.esr_core.proofs.Frames.{reads_kept, file_kept, index_kept, AllPairs-map}
 use Rattle.esr_core.proofs.Results.{done_of}
+use Rattle.esr_core.proofs.Owning.{stands_on}
 use Rattle.esr_core.proofs.Ordered.{Has-sorted, map-sorted}
 use Rattle.esr_core.proofs.Reading.{some_same, reads_one, AllPairs-snoc, AllPairs-with, Has-map}
 
@@ -195,9 +196,10 @@ stage f has func root new ops shelf o op results there law carries done at_resul
           (AllPairs-with (SnapStands f has root) (SnapStands f (Then f has func own) new) root.snapshots shelf
           (λ snap shelved m h. old_snap f has func own root new ops info results fin (λ i s g e. carries i s g (inr (op.uuid, done_at_op i s g e))) snap m (law.unlisted snap m) shelved h) stands.snapshots)
           (new_snap f has func root new ops o op results there law carries done at_results fin));
-      indices = λ index shard g is. index_kept f has (Then f has func own) (lift f has func own) index shard g
-          (elim (larger_is _ (done_at results index shard) g (sym (fin.generations index shard) ∙ is)) [
-            | inl e ↦ stands.indices index shard g e
-            | inr e ↦ (carries index shard g (inr (op.uuid, done_at_op index shard g e))).stands
-          ]);
+      indices = λ index shard g is.
+          let live : IsLive root ops index shard g = elim (larger_is _ (done_at results index shard) g (sym (fin.generations index shard) ∙ is)) [
+            | inl e ↦ inl e
+            | inr e ↦ inr (op.uuid, done_at_op index shard g e)
+          ] in
+          index_kept f has (Then f has func own) (lift f has func own) new index shard g (stands_on f has root new ops o op results there law done fin index shard g (carries index shard g live));
     }

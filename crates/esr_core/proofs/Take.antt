@@ -1,5 +1,5 @@
 -- A finalization that is taken keeps the law: what it stages stands.
-use Rattle.std.proofs.Common.{◌≡◌, ◌≢◌, ℕ, suc, ◌<◌, List, [], ◌∷◌, ◌++◌, Some, refl, sym, ap, ◌∙◌, subst, inl, inr, arith, le_refl}
+use Rattle.std.proofs.Common.{◌≡◌, ◌≢◌, ℕ, suc, ◌<◌, List, [], ◌∷◌, ◌++◌, Option, Some, refl, sym, ap, ◌∙◌, subst, inl, inr, arith, le_refl}
 use Rattle.std.specs.Cmp.{nat_cmp_total}
 use Rattle.std.specs.FinMap.{nat_cmp-IsAntisymmetric}
 use Rattle.std.specs.FinMap as fin
@@ -8,7 +8,7 @@ use Rattle.esr_model.specs.Values.{Bytes, IndexRef, RootData, SnapInfo, ShardRes
 use Rattle.esr_model.specs.Shelf.{Shelved, Create}
 use Rattle.esr_model.specs.Image.{Has, RootStands, global_of}
 use Rattle.esr_model.specs.Finalize.{finalized_root}
-use Rattle.esr_core.specs.World.{World, Op, ShardWork, Shard, Finalize, Ticket, Swap, Done, AllDone, info_of, shelved_of, metadata, ledger_of, HeldIn}
+use Rattle.esr_core.specs.World.{World, Op, ShardWork, Shard, Finalize, Deleting, Ticket, Swap, Done, AllDone, info_of, shelved_of, metadata, ledger_of, HeldIn}
 use Rattle.esr_core.specs.Steps.{TakeFinalize, final_ticket}
 use Rattle.esr_core.specs.Restores.{IsTestOf}
 use Rattle.esr_core.specs.Swaps.{Rooted, IsSwapping, SwapLaw, SwapShape, TicketLaw, OrOwn}
@@ -150,7 +150,14 @@ module _ (f : Formats) (w : World) (shelf : List Shelved) (o : ℕ) (op : Op) (r
               record { op = op; op_there = ap (λ (x : Ticket). fin.get w.ops x.op) (sym h.1) ∙ d.op_there; done = subst (AllDone op.shards) same.1 d.done; info_is = sym same.0 ∙ ap (info_of op) same.1; made_is = sym same.2; root_is = ap (λ (x : Ticket). x.root) (sym h.1) }
           | inr h ↦ c.finals j u h.1 out uns pres info rs made is
         ];
+        plans = λ j u e out uns pres uuids s is. elim (get_was nat_cmp_total nat_cmp-IsAntisymmetric w.tickets w.next_ticket v j u e) [
+          | inl h ↦ absurd (no_plan (ap (λ (x : Ticket). x.work) h.1 ∙ is))
+          | inr h ↦ c.plans j u h.1 out uns pres uuids s is
+        ];
       }
     where
+      no_plan : {info : SnapInfo} {rs : List ShardResult} {made : Shelved} {us : List ℕ} {p : Option Swap} → Finalize info rs made ≡ Deleting us p → ⊥
+      no_plan e = cc
+
       parts : (a b : SnapInfo) (rs qs : List ShardResult) (m n : Shelved) → Finalize a rs m ≡ Finalize b qs n → (a ≡ b) × (rs ≡ qs) × (m ≡ n)
       parts a b rs qs m n e = (cc, cc, cc)

@@ -7,13 +7,14 @@ use Rattle.std.proofs.lemmas.Bool.Decides.{eqb_tells}
 use Rattle.esr_model.specs.Values.{IndexRef, SnapInfo, ShardResult, Formats}
 use Rattle.esr_model.specs.Shelf.{Shelved}
 use Rattle.esr_model.specs.Image.{Has}
-use Rattle.esr_core.specs.World.{World, Op, ShardWork, Pending, Out, Done, Shard, Finalize, Ticket, HeldIn}
+use Rattle.esr_core.specs.World.{World, Op, ShardWork, Pending, Out, Done, Shard, Finalize, Deleting, Ticket, Swap, HeldIn}
 use Rattle.esr_core.specs.Steps.{TakeShard, given, Largest, shard_ticket}
 use Rattle.esr_core.specs.Generations.{OpLaw, Base, ShardLaw, Carried}
 use Rattle.esr_core.proofs.Maps.{get_was, get_same, get_other, split}
 use Rattle.esr_core.proofs.Reading.{some_same, Has-map, Has-mapped}
 use Rattle.esr_core.proofs.Results.{choose_true, choose_false, done_of}
-use Rattle.esr_core.proofs.Ops.{GoesOn, op_now, ops_now, op_was, live_was, carries_now, base_now, op_law_now, together_now}
+use Rattle.esr_core.proofs.Ops.{GoesOn, op_now, ops_now, op_was, live_was, on_with, carries_now, base_now, op_law_now, together_now}
+use Rattle.esr_core.proofs.Owning.{plan_on}
 
 out_same : {a b : ℕ} → Out a ≡ Out b → a ≡ b
 out_same e = cc
@@ -26,6 +27,9 @@ pending_done e = cc
 
 out_done : {a : ℕ} {r : ShardResult} → Out a ≡ Done r → ⊥
 out_done e = cc
+
+shard_deleting : {i n : ℕ} {us : List ℕ} {p : Option Swap} → Shard i n ≡ Deleting us p → ⊥
+shard_deleting e = cc
 
 -- the one of this place goes to the ticket, the others stay
 pub given_is : (k i n : ℕ) (s : ShardWork) → ((s.ref.id ≡ i) × (s.number ≡ n) × (given k i n s ≡ record s { state = Out k })) ⊎ ((s.ref.id ≡ i → s.number ≡ n → ⊥) × (given k i n s ≡ s))
@@ -147,6 +151,10 @@ module _ (f : Formats) (w : World) (o : ℕ) (op : Op) (s : ShardWork) (base : O
             | inl y ↦ absurd (d.free i t x.1 ao (ai ∙ sym bi ∙ ap (λ (z : Ticket). z.work) (sym y.1)))
             | inr y ↦ c.one_shard i j t u x.1 y.1 ao bo index shard ai bi
           ]
+        ];
+        plans = λ j u e out uns pres uuids x is. elim (ticket_was j u e) [
+          | inl h ↦ absurd (shard_deleting (ap (λ (y : Ticket). y.work) h.1 ∙ is))
+          | inr h ↦ plan_on w.ops ops (on_with f (HeldIn f w) w.root w.ops o op d.op_there g (goes_on k s.ref.id s.number) op.failed) f w.root x (c.plans j u h.1 out uns pres uuids x is)
         ];
         finals = λ j u e out uns pres info results made is. elim (ticket_was j u e) [
           | inl h ↦ absurd (differ (ap (λ (x : Ticket). x.work) h.1 ∙ is))

@@ -61,7 +61,8 @@ module _ (f : Formats) (w : World) (shelf : List Shelved) (l : Rooted f w shelf)
 
 -- a new ticket that is neither of a shard nor of a finalization
 module _ (f : Formats) (w : World) (c : Carried f (HeldIn f w) w.safe w.term w.root w.ops w.tickets) (fresh : (k : ℕ) (t : Ticket) → fin.get w.tickets k ≡ Some t → k < w.next_ticket)
-    (v : Ticket) (no_shard : (i n : ℕ) → v.work ≡ Shard i n → ⊥) (no_final : (info : SnapInfo) (results : List ShardResult) (made : Shelved) → v.work ≡ Finalize info results made → ⊥) where
+    (v : Ticket) (no_shard : (i n : ℕ) → v.work ≡ Shard i n → ⊥) (no_final : (info : SnapInfo) (results : List ShardResult) (made : Shelved) → v.work ≡ Finalize info results made → ⊥)
+    (no_plan : (uuids : List ℕ) (s : Swap) → v.work ≡ Deleting uuids (Some s) → ⊥) where
   shard_was : (j : ℕ) (u : Ticket) → fin.get (fin.insert w.tickets w.next_ticket v) j ≡ Some u → (index shard : ℕ) → u.work ≡ Shard index shard → fin.get w.tickets j ≡ Some u
   shard_was j u e index shard is = elim (was_in w.tickets w.next_ticket v j u e) [
     | inl h ↦ absurd (no_shard index shard (ap (λ (x : Ticket). x.work) h.1 ∙ is))
@@ -82,6 +83,10 @@ module _ (f : Formats) (w : World) (c : Carried f (HeldIn f w) w.safe w.term w.r
         finals = λ j u e out uns pres info rs made is. elim (was_in w.tickets w.next_ticket v j u e) [
           | inl h ↦ absurd (no_final info rs made (ap (λ (x : Ticket). x.work) h.1 ∙ is))
           | inr h ↦ c.finals j u h.1 out uns pres info rs made is
+        ];
+        plans = λ j u e out uns pres uuids s is. elim (was_in w.tickets w.next_ticket v j u e) [
+          | inl h ↦ absurd (no_plan uuids s (ap (λ (x : Ticket). x.work) h.1 ∙ is))
+          | inr h ↦ c.plans j u h.1 out uns pres uuids s is
         ];
       }
 
@@ -112,7 +117,7 @@ module _ (f : Formats) (w : World) (shelf : List Shelved) (l : Lawful f w shelf)
   drop_lawful o new d = subst (λ x. Lawful f x shelf) (sym d.new_is) (record {
     sound = record {
       rooted = rooted_new f w shelf l.sound.rooted (drop_ticket o) refl refl refl w.ops;
-      carried = carried_plain f w l.sound.carried l.sound.fresh (drop_ticket o) (λ i n e. cc) (λ a b c e. cc);
+      carried = carried_plain f w l.sound.carried l.sound.fresh (drop_ticket o) (λ i n e. cc) (λ a b c e. cc) (λ us s e. cc);
       fresh = fresh_new w.tickets w.next_ticket (drop_ticket o) l.sound.fresh;
     };
     queue = queue_new w.term w.tickets w.next_ticket (drop_ticket o) w.root w.ops w.deletes w.completed w.next_op (λ uuids plan e. absurd (differ e)) (λ e. (d.ready.stopped, d.ready.idle)) (λ m. absurd m)
@@ -131,7 +136,7 @@ module _ (f : Formats) (w : World) (shelf : List Shelved) (l : Lawful f w shelf)
   delete_lawful d x new h = subst (λ x. Lawful f x shelf) (sym h.new_is) (record {
     sound = record {
       rooted = rooted_new f w shelf l.sound.rooted (deleting_ticket d x) refl refl refl w.ops;
-      carried = carried_plain f w l.sound.carried l.sound.fresh (deleting_ticket d x) (λ i n e. cc) (λ a b c e. cc);
+      carried = carried_plain f w l.sound.carried l.sound.fresh (deleting_ticket d x) (λ i n e. cc) (λ a b c e. cc) (λ us s e. none_some s (unplanned e));
       fresh = fresh_new w.tickets w.next_ticket (deleting_ticket d x) l.sound.fresh;
     };
     queue = queue_new w.term w.tickets w.next_ticket (deleting_ticket d x) w.root w.ops w.deletes w.completed w.next_op
@@ -161,7 +166,7 @@ module _ (f : Formats) (w : World) (shelf : List Shelved) (l : Lawful f w shelf)
   cleanup_lawful d x new h = subst (λ x. Lawful f x shelf) (sym h.new_is) (record {
     sound = record {
       rooted = rooted_new f w shelf l.sound.rooted (deleting_ticket d x) refl refl refl w.ops;
-      carried = carried_plain f w l.sound.carried l.sound.fresh (deleting_ticket d x) (λ i n e. cc) (λ a b c e. cc);
+      carried = carried_plain f w l.sound.carried l.sound.fresh (deleting_ticket d x) (λ i n e. cc) (λ a b c e. cc) (λ us s e. none_some s (unplanned e));
       fresh = fresh_new w.tickets w.next_ticket (deleting_ticket d x) l.sound.fresh;
     };
     queue = queue_new w.term w.tickets w.next_ticket (deleting_ticket d x) w.root w.ops w.deletes w.completed w.next_op

@@ -1,17 +1,19 @@
 -- What each change of tickets, ids and the term leaves of the order of a world.
-use Rattle.std.proofs.Common.{◌≡◌, ◌⊎◌, ℕ, suc, ◌+◌, ◌<◌, ◌≤◌, List, Bool, true, false, Some, refl, sym, ap, ◌∙◌, subst, inl, inr, arith}
+use Rattle.std.proofs.Common.{◌≡◌, ◌⊎◌, ℕ, suc, ◌+◌, ◌<◌, ◌≤◌, List, Bool, true, false, Some, refl, sym, ap, ◌∙◌, subst, inl, inr, arith, Option, nat_cmp}
+use Rattle.std.specs.FinMap.{FinMap}
 use Rattle.std.specs.FinMap as fin
 use Rattle.esr_model.specs.Names.{BlobName}
-use Rattle.esr_model.specs.Values.{SnapInfo, ShardResult}
+use Rattle.esr_model.specs.Values.{SnapInfo, ShardResult, RootData}
 use Rattle.esr_model.specs.Shelf.{Shelved}
 use Rattle.esr_model.specs.Kept.{first_id}
 use Rattle.esr_model.specs.Image.{Blobs}
-use Rattle.esr_core.specs.World.{World, Finalize, Drop, Ticket}
+use Rattle.esr_core.specs.World.{World, Finalize, Drop, Ticket, Deletion, Deleting, Swap}
 use Rattle.esr_core.specs.Ready.{IsShard, IsMaster, SwapIsOut}
-use Rattle.esr_core.specs.Tracked.{ShardTracked, FinalTracked, DropTracked, Tracked}
+use Rattle.esr_core.specs.Tracked.{ShardTracked, FinalTracked, DropTracked, Tracked, IsWithin, DeleteTracked}
 use Rattle.esr_core.proofs.Reading.{some_same}
 use Rattle.esr_core.proofs.Queues.{Ops, was_in, same_in, other_in, split_at}
 use Rattle.esr_core.proofs.Naming.{named_up}
+use Rattle.esr_core.proofs.Below.{root_up}
 
 -- what isn't read of a world
 pub tracked_aside : (w : World) → Tracked w → (blobs : Blobs) (safe pending : ℕ) (completed : List ℕ) (doomed : List BlobName) (deposed : Bool)
@@ -28,6 +30,7 @@ tracked_aside w l blobs safe pending completed doomed deposed =
       held = l.held;
       finals = l.finals;
       drops = l.drops;
+      deleting = l.deleting;
       one_swap = l.one_swap;
       named = l.named;
       in_term = record { from = l.in_term.from; below = l.in_term.below };
@@ -65,6 +68,14 @@ shard_follows ops j t v i n f h =
       place_is = h.place_is ∙ sym f.place;
       name_is = h.name_is ∙ sym f.name;
     }
+
+delete_follows : (root : RootData) (deletes : FinMap nat_cmp Deletion) (next : ℕ) (t v : Ticket) (plan : Option Swap) → Follows t v → DeleteTracked root deletes next t plan → DeleteTracked root deletes next v plan
+delete_follows root deletes next t v plan f h = record { x = h.x; there = ap (fin.get deletes) f.op ∙ h.there; unfailed = h.unfailed; root_is = f.root ∙ h.root_is; planned = h.planned }
+
+-- with more ids
+pub delete_up : (root : RootData) (deletes : FinMap nat_cmp Deletion) (c d : ℕ) (t : Ticket) (plan : Option Swap) → c ≤ d → DeleteTracked root deletes c t plan → DeleteTracked root deletes d t plan
+delete_up root deletes c d t plan le h =
+    record { x = h.x; there = h.there; unfailed = h.unfailed; root_is = h.root_is; planned = λ s e. let p = h.planned s e in record { shrinks = p.shrinks; below = root_up s.root c d le p.below } }
 
 module _ (w : World) (l : Tracked w) (k : ℕ) (t v : Ticket) (there : fin.get w.tickets k ≡ Some t) (like : Follows t v) (drawn : v.first + v.drawn ≤ w.next_id) where
   -- each ticket follows one that was
@@ -112,7 +123,11 @@ module _ (w : World) (l : Tracked w) (k : ℕ) (t v : Ticket) (there : fin.get w
             record {
               stopped = λ op ot. h.stopped op (ap (fin.get w.ops) (sym f.op) ∙ ot);
               idle = λ i y e out shard same. let (z, zt, g) = was i y e in h.idle i z zt (g.out out) (subst IsShard g.work shard) (sym g.op ∙ same ∙ f.op);
+              failed = λ y yt. h.failed y (ap (fin.get w.deletes) (sym f.op) ∙ yt);
             };
+        deleting = λ j u uuids plan e out uns pres is.
+            let (x, xt, f) = was j u e in
+            delete_follows w.root w.deletes w.next_id x u plan f (l.deleting j x uuids plan xt (f.out out) (f.settled uns) (sym f.term ∙ pres) (sym f.work ∙ is));
         one_swap = λ i j a b. l.one_swap i j (swap_was i a) (swap_was j b);
         named = l.named;
         in_term = record { from = l.in_term.from; below = l.in_term.below };
@@ -122,15 +137,17 @@ module _ (w : World) (l : Tracked w) (k : ℕ) (t v : Ticket) (there : fin.get w
 
 module _ (w : World) (l : Tracked w) (v : Ticket) (term : v.term ≤ w.term) (drawn : v.first + v.drawn ≤ w.next_id) (begun : v.op < w.next_op) (no_shard : IsShard v.work → ⊥)
     (final : (info : SnapInfo) (results : List ShardResult) (made : Shelved) → v.work ≡ Finalize info results made → FinalTracked w.root w.ops v info results)
-    (drop : v.work ≡ Drop → DropTracked w.ops w.tickets v) (alone : IsMaster v.work → (k : ℕ) → SwapIsOut w.tickets w.term k → ⊥) where
+    (drop : v.work ≡ Drop → DropTracked w.ops w.deletes w.tickets v) (alone : IsMaster v.work → (k : ℕ) → SwapIsOut w.tickets w.term k → ⊥)
+    (fresh : (uuids : List ℕ) (plan : Option Swap) → v.work ≡ Deleting uuids plan → DeleteTracked w.root w.deletes w.next_id v plan) where
   stays : (j : ℕ) (u : Ticket) → fin.get w.tickets j ≡ Some u → fin.get (fin.insert w.tickets w.next_ticket v) j ≡ Some u
   stays j u e = other_in w.tickets w.next_ticket v j (λ q. let b : j < w.next_ticket = (l.tickets j u e).0 in omega (arith, b, q)) ∙ e
 
-  idle_on : (u : Ticket) → DropTracked w.ops w.tickets u → DropTracked w.ops (fin.insert w.tickets w.next_ticket v) u
+  idle_on : (u : Ticket) → DropTracked w.ops w.deletes w.tickets u → DropTracked w.ops w.deletes (fin.insert w.tickets w.next_ticket v) u
   idle_on u d =
       record {
         stopped = d.stopped;
         idle = λ i y e out shard. elim (was_in w.tickets w.next_ticket v i y e) [ inl h ↦ absurd (no_shard (subst (λ (z : Ticket). IsShard z.work) (sym h.1) shard)) | inr h ↦ d.idle i y h.1 out shard ];
+        failed = d.failed;
       }
 
   swap_is : (j : ℕ) → SwapIsOut (fin.insert w.tickets w.next_ticket v) w.term j → ((j ≡ w.next_ticket) × IsMaster v.work) ⊎ SwapIsOut w.tickets w.term j
@@ -161,13 +178,130 @@ module _ (w : World) (l : Tracked w) (v : Ticket) (term : v.term ≤ w.term) (dr
           | inr h ↦ l.finals j u info rs made h.1 out uns pres is
         ];
         drops = λ j u e out pres is. elim (was_in w.tickets w.next_ticket v j u e) [
-          | inl h ↦ subst (DropTracked w.ops (fin.insert w.tickets w.next_ticket v)) h.1 (idle_on v (drop (ap (λ (y : Ticket). y.work) h.1 ∙ is)))
+          | inl h ↦ subst (DropTracked w.ops w.deletes (fin.insert w.tickets w.next_ticket v)) h.1 (idle_on v (drop (ap (λ (y : Ticket). y.work) h.1 ∙ is)))
           | inr h ↦ idle_on u (l.drops j u h.1 out pres is)
+        ];
+        deleting = λ j u uuids plan e out uns pres is. elim (was_in w.tickets w.next_ticket v j u e) [
+          | inl h ↦ subst (λ (y : Ticket). DeleteTracked w.root w.deletes w.next_id y plan) h.1 (fresh uuids plan (ap (λ (y : Ticket). y.work) h.1 ∙ is))
+          | inr h ↦ l.deleting j u uuids plan h.1 out uns pres is
         ];
         one_swap = λ i j a b. elim (swap_is i a) [
           | inl x ↦ elim (swap_is j b) [ inl y ↦ x.0 ∙ sym y.0 | inr y ↦ absurd (alone x.1 j y) ]
           | inr x ↦ elim (swap_is j b) [ inl y ↦ absurd (alone y.1 i x) | inr y ↦ l.one_swap i j x y ]
         ];
+        named = l.named;
+        in_term = record { from = l.in_term.from; below = l.in_term.below };
+      }
+
+-- ---- a delete that has its plan
+
+module _ (w : World) (l : Tracked w) (k : ℕ) (t : Ticket) (there : fin.get w.tickets k ≡ Some t) (uuids : List ℕ) (p q : Option Swap) (work : t.work ≡ Deleting uuids p) (first n : ℕ) (drawn : first + n ≤ w.next_id)
+    (within : t.out ≡ true → t.settled ≡ false → t.term ≡ w.term → (s : Swap) → q ≡ Some s → IsWithin w.root s.root w.next_id) where
+  abbrev now : Ticket
+  now = record t { first = first; drawn = n; work = Deleting uuids q }
+
+  no_shard_now : IsShard (Deleting uuids q) → ⊥
+  no_shard_now h = h
+
+  plan_same : (us : List ℕ) (plan : Option Swap) → Deleting uuids q ≡ Deleting us plan → q ≡ plan
+  plan_same us plan e = cc
+
+  no_final : (info : SnapInfo) (results : List ShardResult) (made : Shelved) → Deleting uuids q ≡ Finalize info results made → ⊥
+  no_final info results made e = cc
+
+  no_drop : Deleting uuids q ≡ Drop → ⊥
+  no_drop e = cc
+
+  was_swap : (j : ℕ) → SwapIsOut (fin.insert w.tickets k (record t { first = first; drawn = n; work = Deleting uuids q })) w.term j → SwapIsOut w.tickets w.term j
+  was_swap j h = elim (was_in w.tickets k now j h.t h.there) [
+    | inl z ↦ record {
+      t = t;
+      there = ap (fin.get w.tickets) z.0 ∙ there;
+      out = ap (λ (y : Ticket). y.out) z.1 ∙ h.out;
+      unsettled = ap (λ (y : Ticket). y.settled) z.1 ∙ h.unsettled;
+      present = ap (λ (y : Ticket). y.term) z.1 ∙ h.present;
+      swaps = subst IsMaster (sym work) tt;
+    }
+    | inr z ↦ record { t = h.t; there = z.1; out = h.out; unsettled = h.unsettled; present = h.present; swaps = h.swaps }
+  ]
+
+  pub tracked_planned : Tracked (record w { tickets = fin.insert w.tickets k (record t { first = first; drawn = n; work = Deleting uuids q }) })
+  tracked_planned =
+      record {
+        numbers = l.numbers;
+        delete_numbers = l.delete_numbers;
+        apart = l.apart;
+        tickets = λ j u e. elim (was_in w.tickets k now j u e) [
+          | inl h ↦ let x = l.tickets k t there in subst (λ (y : Ticket). (j < w.next_ticket) × (y.term ≤ w.term) × (y.first + y.drawn ≤ w.next_id)) h.1 (subst (λ i. i < w.next_ticket) (sym h.0) x.0, x.1, drawn)
+          | inr h ↦ l.tickets j u h.1
+        ];
+        begun = λ j u e. elim (was_in w.tickets k now j u e) [ inl h ↦ subst (λ (y : Ticket). y.op < w.next_op) h.1 (l.begun k t there) | inr h ↦ l.begun j u h.1 ];
+        first_ticket = l.first_ticket;
+        shards = λ j u i m e out is. elim (was_in w.tickets k now j u e) [
+          | inl h ↦ absurd (no_shard_now (subst IsShard (sym (ap (λ (y : Ticket). y.work) h.1 ∙ is)) tt))
+          | inr h ↦ l.shards j u i m h.1 out is
+        ];
+        held = λ o op s j e m state.
+            let h = l.held o op s j e m state in
+            let apart : j ≡ k → ⊥ = λ same. subst IsShard (sym h.work ∙ ap (λ (y : Ticket). y.work) (some_same h.t t (sym h.there ∙ ap (fin.get w.tickets) same ∙ there)) ∙ work) tt in
+            record { t = h.t; there = other_in w.tickets k now j apart ∙ h.there; out = h.out; op_is = h.op_is; work = h.work };
+        finals = λ j u info rs made e out uns pres is. elim (was_in w.tickets k now j u e) [
+          | inl h ↦ absurd (no_final info rs made (ap (λ (y : Ticket). y.work) h.1 ∙ is))
+          | inr h ↦ l.finals j u info rs made h.1 out uns pres is
+        ];
+        drops = λ j u e out pres is. elim (was_in w.tickets k now j u e) [
+          | inl h ↦ absurd (no_drop (ap (λ (y : Ticket). y.work) h.1 ∙ is))
+          | inr h ↦
+              let d = l.drops j u h.1 out pres is in
+              record {
+                stopped = d.stopped;
+                idle = λ i y ye yout shard. elim (was_in w.tickets k now i y ye) [ inl z ↦ absurd (no_shard_now (subst (λ (x : Ticket). IsShard x.work) (sym z.1) shard)) | inr z ↦ d.idle i y z.1 yout shard ];
+                failed = d.failed;
+              }
+        ];
+        deleting = λ j u us plan e out uns pres is. elim (was_in w.tickets k now j u e) [
+          | inl h ↦
+              let o = ap (λ (y : Ticket). y.out) h.1 ∙ out in
+              let s = ap (λ (y : Ticket). y.settled) h.1 ∙ uns in
+              let r = ap (λ (y : Ticket). y.term) h.1 ∙ pres in
+              let old = l.deleting k t uuids p there o s r work in
+              let same : q ≡ plan = plan_same us plan (ap (λ (y : Ticket). y.work) h.1 ∙ is) in
+              subst (λ (y : Ticket). DeleteTracked w.root w.deletes w.next_id y plan) h.1 (record { x = old.x; there = old.there; unfailed = old.unfailed; root_is = old.root_is; planned = λ swap at. within o s r swap (same ∙ at) })
+          | inr h ↦ l.deleting j u us plan h.1 out uns pres is
+        ];
+        one_swap = λ i j a b. l.one_swap i j (was_swap i a) (was_swap j b);
+        named = l.named;
+        in_term = record { from = l.in_term.from; below = l.in_term.below };
+      }
+
+-- ---- a delete that has failed, of which no ticket is out
+
+module _ (w : World) (l : Tracked w) (o : ℕ) (x : Deletion) (there : fin.get w.deletes o ≡ Some x)
+    (idle : (k : ℕ) (t : Ticket) (uuids : List ℕ) (plan : Option Swap) → fin.get w.tickets k ≡ Some t → t.out ≡ true → t.settled ≡ false → t.term ≡ w.term → t.work ≡ Deleting uuids plan → t.op ≡ o → ⊥) where
+  abbrev failed_one : Deletion
+  failed_one = record x { failed = true }
+
+  pub tracked_failed : Tracked (record w { deletes = fin.insert w.deletes o (record x { failed = true }) })
+  tracked_failed =
+      record {
+        numbers = l.numbers;
+        delete_numbers = λ d y e. elim (was_in w.deletes o failed_one d y e) [ inl h ↦ subst (λ n. n < w.next_op) (sym h.0) (l.delete_numbers o x there) | inr h ↦ l.delete_numbers d y h.1 ];
+        apart = λ p op y e h. elim (was_in w.deletes o failed_one p y h) [ inl z ↦ l.apart o op x (ap (fin.get w.ops) (sym z.0) ∙ e) there | inr z ↦ l.apart p op y e z.1 ];
+        tickets = l.tickets;
+        begun = l.begun;
+        first_ticket = l.first_ticket;
+        shards = l.shards;
+        held = l.held;
+        finals = l.finals;
+        drops = λ k t e out pres is. let d = l.drops k t e out pres is in record {
+          stopped = d.stopped;
+          idle = d.idle;
+          failed = λ y yt. elim (was_in w.deletes o failed_one t.op y yt) [ inl h ↦ sym (ap (λ (z : Deletion). z.failed) h.1) | inr h ↦ d.failed y h.1 ];
+        };
+        deleting = λ k t uuids plan e out uns pres is.
+            let h = l.deleting k t uuids plan e out uns pres is in
+            record { x = h.x; there = other_in w.deletes o failed_one t.op (idle k t uuids plan e out uns pres is) ∙ h.there; unfailed = h.unfailed; root_is = h.root_is; planned = h.planned };
+        one_swap = l.one_swap;
         named = l.named;
         in_term = record { from = l.in_term.from; below = l.in_term.below };
       }
@@ -188,6 +322,7 @@ tracked_drawn w l n fits =
       held = l.held;
       finals = l.finals;
       drops = l.drops;
+      deleting = λ k t uuids plan e out uns pres is. delete_up w.root w.deletes w.next_id (w.next_id + n) t plan (omega arith) (l.deleting k t uuids plan e out uns pres is);
       one_swap = l.one_swap;
       named = named_up w.root w.ops w.next_id (w.next_id + n) (omega arith) l.named;
       in_term = record { from = let b : first_id w.term ≤ w.next_id = l.in_term.from in omega (arith, b); below = fits };
@@ -207,6 +342,7 @@ tracked_elect w l =
       held = l.held;
       finals = λ k t info rs made e out uns pres is. absurd (older k t e pres);
       drops = λ k t e out pres is. absurd (older k t e pres);
+      deleting = λ k t uuids plan e out uns pres is. absurd (older k t e pres);
       one_swap = λ i j a b. absurd (older i a.t a.there a.present);
       named = named_up w.root w.ops w.next_id (first_id (suc w.term)) (let c : w.next_id < first_id (suc w.term) = l.in_term.below in omega (arith, c)) l.named;
       in_term = record { from = omega arith; below = omega arith };

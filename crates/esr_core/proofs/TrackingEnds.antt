@@ -107,7 +107,9 @@ module _ (w : World) (l : Tracked w) (k : ℕ) (t : Ticket) (out : IsOut w k t) 
             record {
               stopped = λ q qt. elim (was_in w.ops t.op now u.op q qt) [ inl h ↦ subst Stopped h.1 (stopped_on (x.stopped op (ap (fin.get w.ops) h.0 ∙ there))) | inr h ↦ x.stopped q h.1 ];
               idle = λ i y ye yo shard. x.idle i y (out_was i y ye yo).1 yo shard;
+              failed = x.failed;
             };
+        deleting = λ j u uuids plan e o uns pres is. l.deleting j u uuids plan (out_was j u e o).1 o uns pres is;
         one_swap = λ i j a b. l.one_swap i j (swap_was i a) (swap_was j b);
         named = named_from w.root w.ops ops w.next_id l.named (λ p q e. elim (was_in w.ops t.op now p q e) [ inl h ↦ (op, ap (fin.get w.ops) h.0 ∙ there, subst (Alike w.next_id op) h.1 alike) | inr h ↦ (q, h.1, alike_same w.next_id q) ]);
         in_term = record { from = l.in_term.from; below = l.in_term.below };

@@ -3,7 +3,7 @@ use Rattle.std.proofs.Common.{◌≡◌, ◌≢◌, ℕ, suc, ◌+◌, ◌<◌, 
 use Rattle.std.specs.FinMap as fin
 use Rattle.esr_model.specs.Values.{Has, SnapInfo, ShardResult}
 use Rattle.esr_model.specs.Shelf.{Shelved}
-use Rattle.esr_core.specs.World.{World, Op, ShardWork, Out, Done, Shard, Finalize, Drop, Ticket}
+use Rattle.esr_core.specs.World.{World, Op, ShardWork, Out, Done, Shard, Finalize, Drop, Ticket, Deleting, Swap}
 use Rattle.esr_core.specs.Generations.{IsHeldBy}
 use Rattle.esr_core.specs.Ready.{IsMaster, SwapIsOut, ReadyShard}
 use Rattle.esr_core.specs.Steps.{given, shard_ticket}
@@ -127,6 +127,9 @@ module _ (w : World) (l : Tracked w) (o : ℕ) (op : Op) (s : ShardWork) (base :
   shard_drop : Shard s.ref.id s.number ≡ Drop → ⊥
   shard_drop e = cc
 
+  shard_delete : (uuids : List ℕ) (plan : Option Swap) → Shard s.ref.id s.number ≡ Deleting uuids plan → ⊥
+  shard_delete uuids plan e = cc
+
   swap_was : (j : ℕ) → SwapIsOut tickets w.term j → SwapIsOut w.tickets w.term j
   swap_was j x = elim (was_in w.tickets k v j x.t x.there) [
     | inl h ↦ absurd (subst (λ (y : Ticket). IsMaster y.work) (sym h.1) x.swaps)
@@ -174,7 +177,12 @@ module _ (w : World) (l : Tracked w) (o : ℕ) (op : Op) (s : ShardWork) (base :
               record {
                 stopped = λ q there. x.stopped q (sym (other_in w.ops o now u.op away) ∙ there);
                 idle = λ i y ye yout shard same. elim (was_in w.tickets k v i y ye) [ inl z ↦ away (sym (ap (λ (b : Ticket). b.op) z.1 ∙ same)) | inr z ↦ x.idle i y z.1 yout shard same ];
+                failed = x.failed;
               }
+        ];
+        deleting = λ j u uuids plan e out uns pres is. elim (was_in w.tickets k v j u e) [
+          | inl h ↦ absurd (shard_delete uuids plan (ap (λ (y : Ticket). y.work) h.1 ∙ is))
+          | inr h ↦ l.deleting j u uuids plan h.1 out uns pres is
         ];
         one_swap = λ i j a b. l.one_swap i j (swap_was i a) (swap_was j b);
         named = named_from w.root w.ops ops w.next_id l.named (λ p q e. elim (was_in w.ops o now p q e) [ inl h ↦ (op, ap (fin.get w.ops) h.0 ∙ ready.op_there, subst (Alike w.next_id op) h.1 alike) | inr h ↦ (q, h.1, alike_same w.next_id q) ]);

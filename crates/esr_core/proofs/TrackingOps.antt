@@ -1,21 +1,22 @@
 -- What an op that comes or leaves changes in the order of a world.
-use Rattle.std.proofs.Common.{◌≡◌, ◌≢◌, ℕ, suc, ◌+◌, ◌<◌, ◌≤◌, List, true, false, true≢false, Some, None, sym, ap, ◌∙◌, subst, inl, inr, arith}
+use Rattle.std.proofs.Common.{◌≡◌, ◌≢◌, ℕ, suc, ◌+◌, ◌<◌, ◌≤◌, List, true, false, true≢false, Some, None, sym, ap, ◌∙◌, subst, inl, inr, arith, Option}
 use Rattle.std.specs.FinMap as fin
 use Rattle.esr_model.specs.Values.{Bytes, Has, RootData, SnapInfo, ShardResult}
 use Rattle.esr_model.specs.Shelf.{Shelved}
 use Rattle.esr_model.specs.Kept.{first_id}
-use Rattle.esr_core.specs.World.{World, Op, ShardWork, Done, Finalize, Ticket}
+use Rattle.esr_core.specs.World.{World, Op, ShardWork, Done, Finalize, Ticket, Deleting, Swap}
 use Rattle.esr_core.specs.Ready.{Goes, Stopped, IsShard}
 use Rattle.esr_core.specs.Entry.{AskedIndex}
 use Rattle.esr_core.specs.After.{new_names, asked_op}
 use Rattle.esr_core.specs.Allowed.{AreDistinct, IsUnused}
-use Rattle.esr_core.specs.Tracked.{FinalTracked, Named, Tracked}
+use Rattle.esr_core.specs.Tracked.{FinalTracked, Named, Tracked, IsWithin}
 use Rattle.esr_core.proofs.Reading.{some_same}
 use Rattle.esr_core.proofs.Results.{done_of}
 use Rattle.esr_core.proofs.Queues.{was_in, other_in, left_in, stays_in}
 use Rattle.esr_core.proofs.Evolving.{pending_out}
 use Rattle.esr_core.proofs.Accepting.{in_all}
 use Rattle.esr_core.proofs.Naming.{named_asked}
+use Rattle.esr_core.proofs.Tracking.{delete_up}
 
 pub goes_not_stopped : (op : Op) → Goes op → Stopped op → ⊥
 goes_not_stopped op g (inl failed) = true≢false (sym failed ∙ g.unfailed)
@@ -61,7 +62,9 @@ module _ (w : World) (l : Tracked w) (name : Bytes) (indices : List AskedIndex) 
         drops = λ k t e out pres is. let h = l.drops k t e out pres is in record {
           stopped = λ x there. elim (was_in w.ops w.next_op op t.op x there) [ inl z ↦ absurd (let b : t.op < w.next_op = l.begun k t e in let same : t.op ≡ w.next_op = z.0 in omega (arith, b, same)) | inr z ↦ h.stopped x z.1 ];
           idle = h.idle;
+          failed = h.failed;
         };
+        deleting = λ k t uuids plan e out uns pres is. delete_up w.root w.deletes w.next_id (w.next_id + suc (new_names w indices)) t plan (omega arith) (l.deleting k t uuids plan e out uns pres is);
         one_swap = l.one_swap;
         named = named_asked w l.named name indices moment distinct unused;
         in_term = record { from = let b : first_id w.term ≤ w.next_id = l.in_term.from in omega (arith, b); below = fits };
@@ -71,7 +74,8 @@ module _ (w : World) (l : Tracked w) (name : Bytes) (indices : List AskedIndex) 
 
 module _ (w : World) (l : Tracked w) (o : ℕ) (root : RootData) (named : Named root (fin.remove w.ops o) w.next_id)
     (no_shard : (k : ℕ) (t : Ticket) → fin.get w.tickets k ≡ Some t → t.out ≡ true → IsShard t.work → t.op ≢ o)
-    (aside : (k : ℕ) (t : Ticket) (info : SnapInfo) (results : List ShardResult) (made : Shelved) → fin.get w.tickets k ≡ Some t → t.out ≡ true → t.settled ≡ false → t.term ≡ w.term → t.work ≡ Finalize info results made → (t.op ≢ o) × (root ≡ w.root)) where
+    (aside : (k : ℕ) (t : Ticket) (info : SnapInfo) (results : List ShardResult) (made : Shelved) → fin.get w.tickets k ≡ Some t → t.out ≡ true → t.settled ≡ false → t.term ≡ w.term → t.work ≡ Finalize info results made → (t.op ≢ o) × (root ≡ w.root))
+    (others : (k : ℕ) (t : Ticket) (uuids : List ℕ) (plan : Option Swap) → fin.get w.tickets k ≡ Some t → t.out ≡ true → t.settled ≡ false → t.term ≡ w.term → t.work ≡ Deleting uuids plan → (t.op ≢ o) × (root ≡ w.root)) where
   pub tracked_left : Tracked (record w { root = root; ops = fin.remove w.ops o; deletes = fin.remove w.deletes o })
   tracked_left =
       record {
@@ -100,7 +104,12 @@ module _ (w : World) (l : Tracked w) (o : ℕ) (root : RootData) (named : Named 
             let h = l.finals k t info rs made e out uns pres is in
             let (away, same) = aside k t info rs made e out uns pres is in
             record { op = h.op; op_there = stays_in w.ops o t.op away ∙ h.op_there; done = h.done; goes = h.goes; uuid_is = h.uuid_is; info_is = h.info_is; root_is = h.root_is ∙ sym same };
-        drops = λ k t e out pres is. let h = l.drops k t e out pres is in record { stopped = λ q there. h.stopped q (left_in w.ops o t.op q there).1; idle = h.idle };
+        drops = λ k t e out pres is. let h = l.drops k t e out pres is in
+            record { stopped = λ q there. h.stopped q (left_in w.ops o t.op q there).1; idle = h.idle; failed = λ x there. h.failed x (left_in w.deletes o t.op x there).1 };
+        deleting = λ k t uuids plan e out uns pres is.
+            let h = l.deleting k t uuids plan e out uns pres is in
+            let (away, same) = others k t uuids plan e out uns pres is in
+            record { x = h.x; there = stays_in w.deletes o t.op away ∙ h.there; unfailed = h.unfailed; root_is = h.root_is ∙ sym same; planned = λ s at. subst (λ (r : RootData). IsWithin r s.root w.next_id) (sym same) (h.planned s at) };
         one_swap = l.one_swap;
         named = named;
         in_term = record { from = l.in_term.from; below = l.in_term.below };

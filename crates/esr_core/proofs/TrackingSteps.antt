@@ -1,5 +1,5 @@
 -- Each step keeps the order of ops, tickets, names and ids, whatever the container tells.
-use Rattle.std.proofs.Common.{◌≡◌, ◌≢◌, ◌⊎◌, ℕ, suc, ◌+◌, ◌<◌, ◌≤◌, List, [], ◌∷◌, Bool, true, false, true≢false, Option, Some, None, map, refl, sym, ap, ◌∙◌, subst, inl, inr, arith}
+use Rattle.std.proofs.Common.{◌≡◌, ◌≢◌, ◌⊎◌, ℕ, suc, ◌+◌, ◌<◌, ◌≤◌, List, [], ◌∷◌, Bool, true, false, true≢false, Option, Some, None, map, refl, sym, ap, ◌∙◌, subst, inl, inr, arith, ◌++◌}
 use Rattle.std.specs.Prelude.{if◌then◌else◌, length}
 use Rattle.std.proofs.lemmas.Bool.Decides.{eqb_tells}
 use Rattle.std.specs.FinMap as fin
@@ -8,17 +8,19 @@ use Rattle.esr_model.specs.Values.{Bytes, Has, RootIndex, RootData, SnapInfo, Sh
 use Rattle.esr_model.specs.Shelf.{Shelved}
 use Rattle.esr_model.specs.Kept.{RootIds, first_id}
 use Rattle.esr_model.specs.Finalize.{finalized_root}
+use Rattle.esr_model.specs.Delete.{PrunedShard, kept_count}
+use Rattle.esr_core.specs.Pruning.{delete_swap, planned_work, planned, dooms}
 use Rattle.esr_model.specs.Image.{Image, Blobs}
-use Rattle.esr_core.specs.World.{World, Op, ShardWork, Out, Done, Work, Shard, Finalize, Deleting, Drop, Ticket, Swap, AllDone, swap_of, marked, info_of, shelved_of, kept_deletes, opened}
-use Rattle.esr_core.specs.Ready.{Stopped, IsShard, IsMaster, ReadyDrop}
+use Rattle.esr_core.specs.World.{World, Op, ShardWork, Out, Done, Work, Shard, Finalize, Deleting, Drop, Ticket, Swap, AllDone, swap_of, marked, info_of, shelved_of, kept_deletes, opened, Deletion}
+use Rattle.esr_core.specs.Ready.{Stopped, IsShard, IsMaster, ReadyDrop, SwapIsOut}
 use Rattle.esr_core.specs.Steps.{with_ticket, completing, final_ticket}
 use Rattle.esr_core.specs.Turns.{plain_ticket, fails}
-use Rattle.esr_core.specs.Entry.{AskedIndex, Snapshot, Given, GivenShard, GivenFinalize, GivenDrop, Step, Reply, Moment, GivenRestore, Restore, AskStep, ReadStep, Read, ReadBlob, RestoredShard, ReadFails, WasFetched, WasAbsent, HasEnded, GivenClone, GivenDelete, GivenCleanup}
-use Rattle.esr_core.specs.After.{asked, asked_op, taken_by, taken_shard, with_given, change, committing, fetching, told_blob, done_of, done_by, failed_of, failed_by, is_stale, settled_of, dropped_of, tried, answered, blobs_in, after, stepped, test_left}
+use Rattle.esr_core.specs.Entry.{AskedIndex, Snapshot, Given, GivenShard, GivenFinalize, GivenDrop, Step, Reply, Moment, GivenRestore, Restore, AskStep, ReadStep, Read, ReadBlob, RestoredShard, ReadFails, WasFetched, WasAbsent, HasEnded, GivenClone, GivenDelete, GivenCleanup, Prune, PruneStep}
+use Rattle.esr_core.specs.After.{asked, asked_op, taken_by, taken_shard, with_given, change, committing, fetching, told_blob, done_of, done_by, failed_of, failed_by, is_stale, settled_of, dropped_of, tried, answered, blobs_in, after, stepped, test_left, delete_settled, delete_failed, delete_failed_by}
 use Rattle.esr_core.specs.Allowed as allowed
-use Rattle.esr_core.specs.Allowed.{Accepts, Gives, Settles, Fails, Drops, Dones, Allows, Allowed, RestoreAllows, OpeningRestore, NotListed, NamedByDelete, FullOfRestores, ReadAllows, ReadFound, ReadMissing, ReadFault, RestoringShard, ReaderFailing, CheckingAll, CheckFailing, VerifyAllows, DrawingTest, TestSpent, BeginningTest, BeginTestFails, CommittingTest, TestTaken, CommitTestFails, RemovingTests, RemoveTestsFails, VerifyingAll, VerifyFailing}
+use Rattle.esr_core.specs.Allowed.{MayPlan, SettlesDeletion, FailsDeletion, PruneAllows, FetchingShard, ShardMissing, FetchShardFails, Planning, PlanSpent, SettlingDelete, SettleDeleteStale, SettleDeleteFails, RemovingDoomed, RemoveDoomedFails, EndingDelete, FailingDelete, Accepts, Gives, Settles, Fails, Drops, Dones, Allows, Allowed, RestoreAllows, OpeningRestore, NotListed, NamedByDelete, FullOfRestores, ReadAllows, ReadFound, ReadMissing, ReadFault, RestoringShard, ReaderFailing, CheckingAll, CheckFailing, VerifyAllows, DrawingTest, TestSpent, BeginningTest, BeginTestFails, CommittingTest, TestTaken, CommitTestFails, RemovingTests, RemoveTestsFails, VerifyingAll, VerifyFailing}
 use Rattle.esr_core.specs.History.{world_from, IsLegal}
-use Rattle.esr_core.specs.Tracked.{IsOneIndex, FinalTracked, Named, Tracked}
+use Rattle.esr_core.specs.Tracked.{IsOneIndex, FinalTracked, Named, Tracked, IsWithin, DeleteTracked}
 use Rattle.esr_core.proofs.Reading.{some_same}
 use Rattle.esr_core.proofs.Results.{done_same, done_out}
 use Rattle.esr_core.proofs.Marked.{marked_is, marked_ref, marked_number}
@@ -26,13 +28,14 @@ use Rattle.esr_core.proofs.Opening.{nothing}
 use Rattle.esr_core.proofs.Lists.{numbered_from}
 use Rattle.esr_core.proofs.Queues.{was_in}
 use Rattle.esr_core.proofs.Evolving.{out_same, pending_out, out_done, up_out, up_done, failed_is, failed_grows}
-use Rattle.esr_core.proofs.Moments.{moment, not_latest, shard_stale, master_stale, no_shard, settled_plain}
-use Rattle.esr_core.proofs.Besides.{aside_opened, aside_taken, aside_by, tracked_aside_of}
+use Rattle.esr_core.proofs.Moments.{moment, not_latest, shard_stale, master_stale, no_shard, settled_plain, delete_settled_plain}
+use Rattle.esr_core.proofs.Besides.{aside_opened, aside_taken, aside_by, tracked_aside_of, aside_removed}
 use Rattle.esr_core.proofs.Heard.{aside_heard}
-use Rattle.esr_core.proofs.Naming.{named_left, named_root}
-use Rattle.esr_core.proofs.Tracking.{Follows, tracked_aside, tracked_ticket, tracked_new, tracked_drawn, tracked_elect}
+use Rattle.esr_core.proofs.Naming.{named_left, named_root, named_within}
+use Rattle.esr_core.proofs.Tracking.{Follows, tracked_aside, tracked_ticket, tracked_new, tracked_drawn, tracked_elect, tracked_planned, tracked_failed}
 use Rattle.esr_core.proofs.TrackingOps.{goes_not_stopped, final_apart, tracked_asked, tracked_left}
 use Rattle.esr_core.proofs.TrackingGiven.{tracked_given}
+use Rattle.esr_core.proofs.Plans.{plan_within}
 use Rattle.esr_core.proofs.TrackingEnds.{GoesOnPast, tracked_went}
 
 -- other blobs
@@ -84,6 +87,21 @@ module _ (f : Formats) (size : ℕ) (w : World) (l : Tracked w) where
   final_drop : (a : SnapInfo) (rs : List ShardResult) (m : Shelved) → Finalize a rs m ≡ Drop → ⊥
   final_drop a rs m e = cc
 
+  drop_delete : (uuids : List ℕ) (plan : Option Swap) → Drop ≡ Deleting uuids plan → ⊥
+  drop_delete uuids plan e = cc
+
+  final_delete : (a : SnapInfo) (rs : List ShardResult) (m : Shelved) (uuids : List ℕ) (plan : Option Swap) → Finalize a rs m ≡ Deleting uuids plan → ⊥
+  final_delete a rs m uuids plan e = cc
+
+  delete_final : (uuids : List ℕ) (plan : Option Swap) (a : SnapInfo) (rs : List ShardResult) (m : Shelved) → Deleting uuids plan ≡ Finalize a rs m → ⊥
+  delete_final uuids plan a rs m e = cc
+
+  delete_drop : (uuids : List ℕ) (plan : Option Swap) → Deleting uuids plan ≡ Drop → ⊥
+  delete_drop uuids plan e = cc
+
+  no_plan : (us vs : List ℕ) (plan : Option Swap) (s : Swap) → Deleting us None ≡ Deleting vs plan → plan ≡ Some s → ⊥
+  no_plan us vs plan s e is = cc
+
   drop_final : (a : SnapInfo) (rs : List ShardResult) (m : Shelved) → Drop ≡ Finalize a rs m → ⊥
   drop_final a rs m e = cc
 
@@ -94,12 +112,26 @@ module _ (f : Formats) (size : ℕ) (w : World) (l : Tracked w) where
       (λ e. record {
         stopped = λ op there. elim ready.stopped [ inl z ↦ subst Stopped (some_same _ _ (sym z.1 ∙ there)) z.2 | inr z ↦ absurd (l.apart o op z.0 there z.1) ];
         idle = λ k u there out shard same. ready.idle k (record { t = u; there = there; out = out; op_is = same; counts = inl shard });
+        failed = λ x there. elim ready.stopped [ inl z ↦ absurd (l.apart o z.0 x z.1 there) | inr z ↦ ap (λ (y : Deletion). y.failed) (some_same _ _ (sym there ∙ z.1)) ∙ z.2 ];
       })
       (λ h. absurd h)
+      (λ uuids plan e. absurd (drop_delete uuids plan e))
 
   gives : (o : ℕ) (unit : Given) → Gives f w o unit → Tracked (taken_by f w o unit (fin.get w.ops o))
   gives o (GivenClone index number source base) g = absurd g
-  gives o (GivenDelete uuids) g = absurd g
+  gives o (GivenDelete uuids) g = deleting (fin.get w.ops o)
+    where
+      given : Tracked (record w { tickets = fin.insert w.tickets w.next_ticket (plain_ticket w o (Deleting uuids None)); next_ticket = suc w.next_ticket })
+      given =
+          tracked_new w l (plain_ticket w o (Deleting uuids None)) (omega arith) (omega arith) (l.delete_numbers o g.0 g.1.there) (λ h. h)
+          (λ info rs made e. absurd (delete_final uuids None info rs made e))
+          (λ e. absurd (delete_drop uuids None e))
+          (λ h k s. g.1.no_swap k s)
+          (λ us plan e. record { x = g.0; there = g.1.there; unfailed = g.1.unfailed; root_is = refl; planned = λ s is. absurd (no_plan uuids us plan s e is) })
+
+      deleting : (found : Option Op) → Tracked (taken_by f w o (GivenDelete uuids) found)
+      deleting None = given
+      deleting (Some op) = given
   gives o GivenCleanup g = absurd g
   gives o (GivenRestore index number uuid) g = tracked_aside_of w _ (aside_taken w o index number (fin.get w.restores o)) l
   gives o (GivenShard index number base) g =
@@ -119,7 +151,8 @@ module _ (f : Formats) (size : ℕ) (w : World) (l : Tracked w) where
         root_is = refl;
       })
       (λ e. absurd (final_drop (info_of g.op results) results (shelved_of f g.op) e))
-      (λ h k s. g.ready.no_swap k s))
+      (λ h k s. g.ready.no_swap k s)
+      (λ uuids plan e. absurd (final_delete (info_of g.op results) results (shelved_of f g.op) uuids plan e)))
   gives o GivenDrop g = dropping (fin.get w.ops o)
     where
       dropping : (found : Option Op) → Tracked (taken_by f w o GivenDrop found)
@@ -242,7 +275,7 @@ module _ (f : Formats) (size : ℕ) (w : World) (l : Tracked w) where
       let v : World = record w { tickets = fin.insert w.tickets k (record s.t { settled = true }) } in
       let x : World = record v { root = s.s.root; ops = fin.remove w.ops s.t.op; deletes = fin.remove w.deletes s.t.op } in
       subst Tracked (sym (settled_plain f w k s))
-      (tracked_aside x (tracked_left v (tracked_ticket w l k s.t (record s.t { settled = true }) s.may.out.there (settles s.t) (drew k s.t s.may.out.there)) s.t.op s.s.root named shards finals) w.blobs (suc s.n) w.pending w.completed w.doomed w.deposed)
+      (tracked_aside x (tracked_left v (tracked_ticket w l k s.t (record s.t { settled = true }) s.may.out.there (settles s.t) (drew k s.t s.may.out.there)) s.t.op s.s.root named shards finals others) w.blobs (suc s.n) w.pending w.completed w.doomed w.deposed)
     where
       it : FinalTracked w.root w.ops s.t s.info s.results
       it = l.finals k s.t s.info s.results s.made s.may.out.there s.may.out.out s.may.unsettled s.present s.work
@@ -270,11 +303,19 @@ module _ (f : Formats) (size : ℕ) (w : World) (l : Tracked w) where
             (record { t = s.t; there = s.may.out.there; out = s.may.out.out; unsettled = s.may.unsettled; present = s.present; swaps = subst IsMaster (sym s.work) tt })))
       ]
 
+      others : (j : ℕ) (u : Ticket) (uuids : List ℕ) (plan : Option Swap) → fin.get (fin.insert w.tickets k (record s.t { settled = true })) j ≡ Some u → u.out ≡ true → u.settled ≡ false → u.term ≡ w.term → u.work ≡ Deleting uuids plan
+          → (u.op ≢ s.t.op) × (s.s.root ≡ w.root)
+      others j u uuids plan e out uns pres is = elim (was_in w.tickets k (record s.t { settled = true }) j u e) [
+        | inl h ↦ absurd (true≢false (ap (λ (y : Ticket). y.settled) h.1 ∙ uns))
+        | inr h ↦ absurd (h.0 (l.one_swap j k (record { t = u; there = h.1; out = out; unsettled = uns; present = pres; swaps = subst IsMaster (sym is) tt })
+            (record { t = s.t; there = s.may.out.there; out = s.may.out.out; unsettled = s.may.unsettled; present = s.present; swaps = subst IsMaster (sym s.work) tt })))
+      ]
+
   drops_step : (k : ℕ) → Drops w k → Tracked (dropped_of w k (fin.get w.tickets k))
   drops_step k d =
       let v : World = record w { tickets = fin.insert w.tickets k (record d.may.t { out = false }) } in
       subst (λ x. Tracked (dropped_of w k x)) (sym d.may.out.there)
-      (tracked_left v (tracked_ticket w l k d.may.t (record d.may.t { out = false }) d.may.out.there (ended d.may.t (λ h. subst IsShard d.may.work h)) (drew k d.may.t d.may.out.there)) d.may.t.op w.root (named_left w.root w.ops w.next_id d.may.t.op l.named) shards finals)
+      (tracked_left v (tracked_ticket w l k d.may.t (record d.may.t { out = false }) d.may.out.there (ended d.may.t (λ h. subst IsShard d.may.work h)) (drew k d.may.t d.may.out.there)) d.may.t.op w.root (named_left w.root w.ops w.next_id d.may.t.op l.named) shards finals others)
     where
       out_was : (j : ℕ) (u : Ticket) → fin.get (fin.insert w.tickets k (record d.may.t { out = false })) j ≡ Some u → u.out ≡ true → fin.get w.tickets j ≡ Some u
       out_was j u e out = elim (was_in w.tickets k (record d.may.t { out = false }) j u e) [ inl h ↦ absurd (true≢false (sym out ∙ ap (λ (y : Ticket). y.out) (sym h.1))) | inr h ↦ h.1 ]
@@ -288,6 +329,117 @@ module _ (f : Formats) (size : ℕ) (w : World) (l : Tracked w) where
           let y = l.finals j u info results made (out_was j u e out) out uns pres is in
           let x = l.drops k d.may.t d.may.out.there d.may.out.out d.present d.may.work in
           ((λ same. goes_not_stopped y.op y.goes (x.stopped y.op (ap (fin.get w.ops) (sym same) ∙ y.op_there))), refl)
+
+      others : (j : ℕ) (u : Ticket) (uuids : List ℕ) (plan : Option Swap) → fin.get (fin.insert w.tickets k (record d.may.t { out = false })) j ≡ Some u → u.out ≡ true → u.settled ≡ false → u.term ≡ w.term → u.work ≡ Deleting uuids plan
+          → (u.op ≢ d.may.t.op) × (w.root ≡ w.root)
+      others j u uuids plan e out uns pres is =
+          let y = l.deleting j u uuids plan (out_was j u e out) out uns pres is in
+          let x = l.drops k d.may.t d.may.out.there d.may.out.out d.present d.may.work in
+          ((λ same. true≢false (sym (x.failed y.x (ap (fin.get w.deletes) (sym same) ∙ y.there)) ∙ y.unfailed)), refl)
+
+  -- ---- steps of a delete's ticket
+
+  plans : (k : ℕ) (shards : List PrunedShard) (image : Option Image) (p : MayPlan f w k shards image) → w.next_id + kept_count shards < first_id (suc w.term) → Tracked (record (change w k (planned f shards w.next_id)) { next_id = w.next_id + kept_count shards })
+  plans k shards image p fits =
+      let drawn : World = record w { next_id = w.next_id + kept_count shards } in
+      subst (λ (o : Option Ticket). Tracked (record (with_given w k (planned f shards w.next_id) o) { next_id = w.next_id + kept_count shards })) (sym p.deleting.out.there)
+      (subst (λ (x : Work). Tracked (record drawn { tickets = fin.insert w.tickets k (record p.t { first = w.next_id; drawn = kept_count shards; work = planned_work f p.t shards w.next_id x }) })) (sym p.deleting.work)
+      (tracked_planned drawn (tracked_drawn w l (kept_count shards) fits) k p.t p.deleting.out.there p.uuids None (Some (delete_swap f p.t.root p.t.read p.uuids shards w.next_id)) p.deleting.work w.next_id (kept_count shards) (omega arith) within))
+    where
+      within : p.t.out ≡ true → p.t.settled ≡ false → p.t.term ≡ w.term → (s : Swap) → ◌≡◌ {A = Option Swap} (Some (delete_swap f p.t.root p.t.read p.uuids shards w.next_id)) (Some s) → IsWithin w.root s.root (w.next_id + kept_count shards)
+      within out uns pres s is =
+          let root_is : p.t.root ≡ w.root = (l.deleting k p.t p.uuids None p.deleting.out.there out uns pres p.deleting.work).root_is in
+          let ids : RootIds p.t.root w.next_id = subst (λ (r : RootData). RootIds r w.next_id) (sym root_is) l.named.root_below in
+          subst (λ (r : RootData). IsWithin r s.root (w.next_id + kept_count shards)) root_is
+          (subst (λ (x : Swap). IsWithin p.t.root x.root (w.next_id + kept_count shards)) (some_same _ _ is) (plan_within f p.t.root p.one_each p.uuids shards w.next_id p.of_root ids))
+
+  deletion_settles : (k : ℕ) (s : SettlesDeletion f w k) → s.t.term ≡ w.term → Tracked (delete_settled f w k (fin.get w.tickets k))
+  deletion_settles k s present =
+      let v : World = record w { tickets = fin.insert w.tickets k (record s.t { settled = true }) } in
+      let x : World = record v { root = s.s.root; ops = fin.remove w.ops s.t.op; deletes = fin.remove w.deletes s.t.op } in
+      subst Tracked (sym (delete_settled_plain f w k s.n s.t s.s s.may))
+      (tracked_aside x (tracked_left v (tracked_ticket w l k s.t (record s.t { settled = true }) s.may.out.there (settles s.t) (drew k s.t s.may.out.there)) s.t.op s.s.root named shards finals others) w.blobs (suc s.n) w.pending w.completed (dooms f s.t ++ w.doomed) w.deposed)
+    where
+      it : DeleteTracked w.root w.deletes w.next_id s.t (Some s.s)
+      it = l.deleting k s.t s.uuids (Some s.s) s.may.out.there s.may.out.out s.may.unsettled present s.deleting.work
+
+      named : Named s.s.root (fin.remove w.ops s.t.op) w.next_id
+      named = named_left s.s.root w.ops w.next_id s.t.op (named_within w.root s.s.root w.ops w.next_id (it.planned s.s refl) l.named)
+
+      mine : (j : ℕ) → SwapIsOut w.tickets w.term j → j ≡ k
+      mine j h = l.one_swap j k h (record { t = s.t; there = s.may.out.there; out = s.may.out.out; unsettled = s.may.unsettled; present = present; swaps = subst IsMaster (sym s.deleting.work) tt })
+
+      shards : (j : ℕ) (u : Ticket) → fin.get (fin.insert w.tickets k (record s.t { settled = true })) j ≡ Some u → u.out ≡ true → IsShard u.work → u.op ≢ s.t.op
+      shards j u e out shard same = elim (was_in w.tickets k (record s.t { settled = true }) j u e) [
+        | inl h ↦ subst IsShard (ap (λ (y : Ticket). y.work) (sym h.1) ∙ s.deleting.work) shard
+        | inr h ↦
+            let (i, n, work) = shard_of u.work shard in
+            let y = l.shards j u i n h.1 out work in
+            l.apart s.t.op y.op it.x (ap (fin.get w.ops) (sym same) ∙ y.op_there) it.there
+      ]
+
+      finals : (j : ℕ) (u : Ticket) (info : SnapInfo) (results : List ShardResult) (made : Shelved) → fin.get (fin.insert w.tickets k (record s.t { settled = true })) j ≡ Some u → u.out ≡ true → u.settled ≡ false → u.term ≡ w.term → u.work ≡ Finalize info results made
+          → (u.op ≢ s.t.op) × (s.s.root ≡ w.root)
+      finals j u info results made e out uns pres is = elim (was_in w.tickets k (record s.t { settled = true }) j u e) [
+        | inl h ↦ absurd (true≢false (ap (λ (y : Ticket). y.settled) h.1 ∙ uns))
+        | inr h ↦ absurd (h.0 (mine j (record { t = u; there = h.1; out = out; unsettled = uns; present = pres; swaps = subst IsMaster (sym is) tt })))
+      ]
+
+      others : (j : ℕ) (u : Ticket) (uuids : List ℕ) (plan : Option Swap) → fin.get (fin.insert w.tickets k (record s.t { settled = true })) j ≡ Some u → u.out ≡ true → u.settled ≡ false → u.term ≡ w.term → u.work ≡ Deleting uuids plan
+          → (u.op ≢ s.t.op) × (s.s.root ≡ w.root)
+      others j u uuids plan e out uns pres is = elim (was_in w.tickets k (record s.t { settled = true }) j u e) [
+        | inl h ↦ absurd (true≢false (ap (λ (y : Ticket). y.settled) h.1 ∙ uns))
+        | inr h ↦ absurd (h.0 (mine j (record { t = u; there = h.1; out = out; unsettled = uns; present = pres; swaps = subst IsMaster (sym is) tt })))
+      ]
+
+  deletion_ends : (k : ℕ) (t : Ticket) (uuids : List ℕ) (plan : Option Swap) → fin.get w.tickets k ≡ Some t → t.work ≡ Deleting uuids plan → Tracked (record w { tickets = fin.insert w.tickets k (record t { out = false }) })
+  deletion_ends k t uuids plan there work = tracked_ticket w l k t (record t { out = false }) there (ended t (λ shard. subst IsShard work shard)) (drew k t there)
+
+  deletion_fails : (k : ℕ) (c : FailsDeletion w k) → Tracked (delete_failed w k (fin.get w.tickets k))
+  deletion_fails k c = elim (eqb_tells c.t.term w.term) [
+    | inl e ↦ by_term false (master_stale f w c.t c.t.work master ∙ ap (λ (b : Bool). if b then false else true) e.0) (failing e.1)
+    | inr e ↦ by_term true (master_stale f w c.t c.t.work master ∙ ap (λ (b : Bool). if b then false else true) e.0) (deletion_ends k c.t c.uuids c.plan c.deleting.out.there c.deleting.work)
+  ]
+    where
+      master : IsMaster c.t.work
+      master = subst IsMaster (sym c.deleting.work) tt
+
+      by_term : (b : Bool) → is_stale w c.t c.t.work ≡ b → Tracked (if b then with_ticket w k (record c.t { out = false }) else delete_failed_by w k c.t (fin.get w.deletes c.t.op)) → Tracked (delete_failed w k (fin.get w.tickets k))
+      by_term b is h =
+          subst (λ x. Tracked (delete_failed w k x)) (sym c.deleting.out.there)
+          (subst (λ x. Tracked (if x then with_ticket w k (record c.t { out = false }) else delete_failed_by w k c.t (fin.get w.deletes c.t.op))) (sym is) h)
+
+      -- no ticket of it is out any more
+      alone : c.t.term ≡ w.term → (j : ℕ) (u : Ticket) (uuids : List ℕ) (plan : Option Swap) → fin.get (fin.insert w.tickets k (record c.t { out = false })) j ≡ Some u → u.out ≡ true → u.settled ≡ false → u.term ≡ w.term → u.work ≡ Deleting uuids plan → u.op ≡ c.t.op → ⊥
+      alone present j u uuids plan e out uns pres is same = elim (was_in w.tickets k (record c.t { out = false }) j u e) [
+        | inl h ↦ true≢false (sym out ∙ ap (λ (y : Ticket). y.out) (sym h.1))
+        | inr h ↦ h.0 (l.one_swap j k (record { t = u; there = h.1; out = out; unsettled = uns; present = pres; swaps = subst IsMaster (sym is) tt })
+            (record { t = c.t; there = c.deleting.out.there; out = c.deleting.out.out; unsettled = c.unsettled; present = present; swaps = master }))
+      ]
+
+      failing : c.t.term ≡ w.term → Tracked (delete_failed_by w k c.t (fin.get w.deletes c.t.op))
+      failing present =
+          let it = l.deleting k c.t c.uuids c.plan c.deleting.out.there c.deleting.out.out c.unsettled present c.deleting.work in
+          let v : World = record w { tickets = fin.insert w.tickets k (record c.t { out = false }) } in
+          subst (λ x. Tracked (delete_failed_by w k c.t x)) (sym it.there)
+          (tracked_failed v (deletion_ends k c.t c.uuids c.plan c.deleting.out.there c.deleting.work) c.t.op it.x it.there (alone present))
+
+  removed_more : (names : List BlobName) → Tracked (record w { removed = names ++ w.removed })
+  removed_more names = tracked_aside_of w _ (aside_removed w _ (names ++ w.removed) refl) l
+
+  prunes : (k : ℕ) (prune : Prune) (reply : Reply) (image : Option Image) → PruneAllows f w k prune reply image → Tracked (stepped f w (moment k (PruneStep prune) reply image))
+  prunes who prune reply image (FetchingShard k name im g found) = kept _ (fetches k g.t g.deleting.out.there name (told_blob f im name)) (blobs_in im w.blobs)
+  prunes who prune reply image (ShardMissing k name im g found) = kept w l (blobs_in im w.blobs)
+  prunes who prune reply image (FetchShardFails k name im g same) = kept w l (blobs_in im w.blobs)
+  prunes who prune reply image (Planning k shards im p fits back same) = kept _ (plans k shards im p fits) (blobs_in im w.blobs)
+  prunes who prune reply image (PlanSpent k shards im p spent same) = kept w l (blobs_in im w.blobs)
+  prunes who prune reply image (SettlingDelete k im s present same) = kept _ (deletion_settles k s present) (blobs_in im w.blobs)
+  prunes who prune reply image (SettleDeleteStale k im s apart same) = kept w l (blobs_in im w.blobs)
+  prunes who prune reply image (SettleDeleteFails k im s present same) = falls w _ l (deletion_settles k s present) _ (blobs_in im w.blobs)
+  prunes who prune reply image (RemovingDoomed k names im r removed) = kept _ (removed_more names) (blobs_in im w.blobs)
+  prunes who prune reply image (RemoveDoomedFails k names im r removes) = kept _ (removed_more names) (blobs_in im w.blobs)
+  prunes who prune reply image (EndingDelete k im e same) = kept _ (changed k e.t e.deleting.out.there (λ (t : Ticket). record t { out = false }) (ended e.t (λ shard. subst IsShard e.deleting.work shard)) (drew k e.t e.deleting.out.there)) (blobs_in im w.blobs)
+  prunes who prune reply image (FailingDelete k why im c same) = kept _ (deletion_fails k c) (blobs_in im w.blobs)
 
   -- ---- restores and reading
 
@@ -352,6 +504,7 @@ module _ (f : Formats) (size : ℕ) (w : World) (l : Tracked w) where
   tracked_by who step reply image (allowed.Looking im same) = kept w l (blobs_in im w.blobs)
   tracked_by who step reply image (allowed.AskingRestore name place rep im h same) = kept _ (asks_restore name place rep im h) (blobs_in im w.blobs)
   tracked_by who step reply image (allowed.Reading k read rep im h same) = kept _ (reads k read rep im h) (blobs_in im w.blobs)
+  tracked_by who step reply image (allowed.Pruning k prune rep im h) = prunes k prune rep im h
   tracked_by who step reply image (allowed.Verifying read rep im h) = kept _ (verifies read rep im h) (blobs_in im w.blobs)
   tracked_by who step reply image (allowed.Cleaning c d x im recorded there clean same) = kept w l (blobs_in im w.blobs)
   tracked_by who step reply image (allowed.Used name indices time uuid im clear is same) = kept w l (blobs_in im w.blobs)
@@ -401,6 +554,7 @@ tracked_opened blobs cluster root ids one =
       held = λ o op s j e. absurd (nothing o op e);
       finals = λ k t info rs made e. absurd (nothing k t e);
       drops = λ k t e. absurd (nothing k t e);
+      deleting = λ k t uuids plan e. absurd (nothing k t e);
       one_swap = λ i j a. absurd (nothing i a.t a.there);
       named = record {
         unlisted = λ o op s e. absurd (nothing o op e);

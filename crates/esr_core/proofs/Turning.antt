@@ -31,6 +31,7 @@ use Rattle.esr_core.proofs.Exists.{exists_sound, turn_texted}
 use Rattle.esr_core.proofs.Founding.{found}
 use Rattle.esr_core.proofs.Below.{final_clean, draw_above, plan_clean, is_apart, one_id}
 use Rattle.esr_core.proofs.Drawing.{draw_shard_lawful, draw_plan_lawful}
+use Rattle.esr_core.proofs.DeletionLaws.{turn_pruned}
 
 module _ (f : Formats) (w : World) (shelf : List Shelved) (l : Lawful f w shelf) where
   -- a ticket that the queue sees as it was
@@ -163,7 +164,7 @@ turn_lawful f w new shelf law d (Drops m k h) = dropped_lawful f w shelf law.law
 turn_lawful f w new shelf law d (TakesCleanup m n x h) = cleanup_lawful f w shelf law.lawful n x m h
 turn_lawful f w new shelf law d (AsksCleanup m h) = cleanup_asked_lawful f w shelf law.lawful m h
 turn_lawful f w new shelf law d (CleanDrops m k h) = clean_dropped_lawful f w shelf law.lawful k m h
-turn_lawful f w new shelf law d (AsksCreate m op h) = create_lawful f w shelf law.lawful op m h (is_apart f w shelf law op m h) (one_id f w shelf law op m h)
+turn_lawful f w new shelf law d (AsksCreate m op h) = create_lawful f w shelf law.lawful op m h (is_apart f w shelf law op m h) (one_id f w shelf law op m h) law.ids
 turn_lawful f w new shelf law d (AsksDelete m uuids h) = delete_asked_lawful f w shelf law.lawful uuids m h
 turn_lawful f w new shelf law d (Merges m uuids n h) = merge_lawful f w shelf law.lawful uuids n m h
 turn_lawful f w new shelf law d (Removing m k names h) = remove_lawful f w shelf law.lawful k names m h
@@ -173,4 +174,4 @@ turn_lawful f w new shelf law d (Tests m t) = tests_lawful f w shelf law m t
 turn_lawful f w new shelf law d (Besides m up h r) = lawful_aside f up m (shelf_after shelf (commands_of f w up h)) (aside_of f up m r) (turn_lawful f w up shelf law d h)
 
 pub turn_law : (f : Formats) (w new : World) (shelf : List Shelved) → Law f w shelf → w.deposed ≡ false → (turn : Turn f w new) → Law f new (shelf_after shelf (commands_of f w new turn))
-turn_law f w new shelf law d turn = record { lawful = turn_lawful f w new shelf law d turn; ids = turn_ids f w new shelf law d turn; deletions = turn_deletions f w new shelf law turn; in_term = turn_in_term f w new law.in_term turn; written = turn_written f w new shelf law turn; texts = turn_texted f w new shelf law turn }
+turn_law f w new shelf law d turn = record { lawful = turn_lawful f w new shelf law d turn; ids = turn_ids f w new shelf law d turn; deletions = turn_deletions f w new shelf law turn; in_term = turn_in_term f w new law.in_term turn; written = turn_written f w new shelf law turn; texts = turn_texted f w new shelf law turn; pruned = turn_pruned f w new shelf law turn }

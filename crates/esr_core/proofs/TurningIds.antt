@@ -29,7 +29,7 @@ use Rattle.esr_core.proofs.Take.{Kinds, IsSnap, IsMeta, IsIndex, kinds}
 use Rattle.esr_core.proofs.Marked.{marked_is}
 use Rattle.esr_core.proofs.TakeShard.{given_is}
 use Rattle.esr_core.proofs.Evolving.{failed_is, out_done, up_done}
-use Rattle.esr_core.proofs.Drawing.{left_has}
+use Rattle.esr_core.proofs.Deleting.{left_has}
 use Rattle.esr_core.proofs.Settling.{no_shard}
 use Rattle.esr_core.proofs.Below.{ticket_up, ids_up, ids_put, ids_again, ids_new, ids_ops, ids_add, ids_blobs, ids_root, commits_below}
 use Rattle.esr_core.proofs.Ordered.{shard_ref}

@@ -82,7 +82,7 @@ no_swap f Drop root s e h = h
 
 module _ (f : Formats) (w : World) (shelf : List Shelved) (l : Law f w shelf) (h : Written f w.blobs w.tickets) where
   -- a base is there, and is one
-  base_stands : (k : ℕ) (t : Ticket) → fin.get w.tickets k ≡ Some t → t.out ≡ true → (i s g : ℕ) → t.work ≡ Shard i s → t.base ≡ Some g → IndexStands f (HeldIn f w) i s g
+  base_stands : (k : ℕ) (t : Ticket) → fin.get w.tickets k ≡ Some t → t.out ≡ true → (i s g : ℕ) → t.work ≡ Shard i s → t.base ≡ Some g → IndexStands f (HeldIn f w) w.root i s g
   base_stands k t there out i s g is at =
       let law = l.lawful.sound.carried.shards k t there out i s is in
       (subst (Base f (HeldIn f w) w.root w.ops i s) at law.base).1.stands

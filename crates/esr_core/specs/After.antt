@@ -5,12 +5,14 @@ use Rattle.esr_model.specs.Names.{BlobName, Latest}
 use Rattle.esr_model.specs.Values.{Bytes, IndexRef, RootIndex, ShardResult, Formats}
 use Rattle.esr_model.specs.Uploads.{same_bytes}
 use Rattle.esr_model.specs.Kept.{first_id}
+use Rattle.esr_model.specs.Delete.{kept_count}
 use Rattle.esr_model.specs.Image.{Blobs, Image}
-use Rattle.esr_core.specs.World.{World, Op, ShardWork, Pending, Done, ReadState, Restored, NotRestored, RestoreShard, Restoring, Reader, Caller, no_caller, Work, Shard, Finalize, Deleting, Drop, Ticket, Swap, swap, marked, record_of}
+use Rattle.esr_core.specs.World.{World, Op, Deletion, ShardWork, Pending, Done, ReadState, Restored, NotRestored, RestoreShard, Restoring, Reader, Caller, no_caller, Work, Shard, Finalize, Deleting, Drop, Ticket, Swap, swap, marked, record_of}
 use Rattle.esr_core.specs.Restores.{restore_shard, restore_opened, shard_handed, more_read, shard_ended}
 use Rattle.esr_core.specs.Steps.{with_ticket, noting, writing, reading, given, completing, settled, shard_ticket, final_ticket}
 use Rattle.esr_core.specs.Turns.{plain_ticket, fails}
-use Rattle.esr_core.specs.Entry.{AskedIndex, Asked, Snapshot, Restore, is_recorded, Given, GivenShard, GivenFinalize, GivenDrop, GivenRestore, Read, ReadBlob, RestoredShard, CheckedAll, DrawTest, CommitTest, RemoveTests, VerifiedAll, ReadFails, Step, AskStep, TakeStep, DrawStep, BeginStep, CommitStep, LatestStep, FetchStep, RaiseStep, SettleStep, DoneStep, FailedStep, FinishStep, DroppedStep, ElectStep, LookStep, ReadStep, StaleTerm, IdsSpent, DeposedAt, DepotFault, Reply, Gave, DrawnFrom, WasRemoved, WasDone, WasThere, WasFetched, WasAbsent, HasEnded, Refused, AcceptedRestore, Moment}
+use Rattle.esr_core.specs.Pruning.{planned, dooms}
+use Rattle.esr_core.specs.Entry.{AskedIndex, Asked, Snapshot, Restore, is_recorded, Given, GivenShard, GivenFinalize, GivenDrop, GivenRestore, GivenDelete, Read, ReadBlob, RestoredShard, CheckedAll, DrawTest, CommitTest, RemoveTests, VerifiedAll, ReadFails, Prune, FetchShard, PlanShards, SettlePruned, RemoveDoomed, EndDelete, DeleteFails, Step, AskStep, TakeStep, DrawStep, BeginStep, CommitStep, LatestStep, FetchStep, RaiseStep, SettleStep, DoneStep, FailedStep, FinishStep, DroppedStep, ElectStep, LookStep, ReadStep, PruneStep, StaleTerm, IdsSpent, DeposedAt, DepotFault, Reply, Gave, DrawnFrom, WasRemoved, WasDone, WasThere, WasFetched, WasAbsent, HasEnded, Refused, AcceptedRestore, Moment}
 
 abbrev pub or_else : {A : Type 0} → Option A → Option A → Option A
 or_else None b = b
@@ -111,6 +113,7 @@ taken_by f w o (GivenFinalize info results) (Some op) = record w { tickets = fin
 taken_by f w o (GivenFinalize info results) None = w
 taken_by f w o GivenDrop op = record w { tickets = fin.insert w.tickets w.next_ticket (plain_ticket w o Drop); next_ticket = suc w.next_ticket }
 taken_by f w o (GivenRestore index number uuid) op = taken_restore w o index number (fin.get w.restores o)
+taken_by f w o (GivenDelete uuids) op = record w { tickets = fin.insert w.tickets w.next_ticket (plain_ticket w o (Deleting uuids None)); next_ticket = suc w.next_ticket }
 taken_by f w o unit op = w
 
 -- ---- steps of a ticket
@@ -178,6 +181,36 @@ abbrev pub dropped_of : World → ℕ → Option Ticket → World
 dropped_of w k None = w
 dropped_of w k (Some t) = record w { ops = fin.remove w.ops t.op; deletes = fin.remove w.deletes t.op; tickets = fin.insert w.tickets k (record t { out = false }) }
 
+-- ---- steps of a delete's ticket
+
+-- the new root, and the names that it dooms
+abbrev pub delete_settled_by : Formats → World → ℕ → Ticket → Option Swap → Option ℕ → World
+delete_settled_by f w k t (Some s) (Some n) = record (settled w k t n s.root) { deletes = fin.remove w.deletes t.op; doomed = dooms f t ++ w.doomed }
+delete_settled_by f w k t (Some s) None = w
+delete_settled_by f w k t None n = w
+
+abbrev pub delete_settled : Formats → World → ℕ → Option Ticket → World
+delete_settled f w k None = w
+delete_settled f w k (Some t) = delete_settled_by f w k t (swap f t) t.raised
+
+abbrev pub delete_failed_by : World → ℕ → Ticket → Option Deletion → World
+delete_failed_by w k t None = w
+delete_failed_by w k t (Some x) = record w { deletes = fin.insert w.deletes t.op (record x { failed = true }); tickets = fin.insert w.tickets k (record t { out = false }) }
+
+-- what a stale ticket tells ends it alone
+abbrev pub delete_failed : World → ℕ → Option Ticket → World
+delete_failed w k None = w
+delete_failed w k (Some t) = if is_stale w t t.work then with_ticket w k (record t { out = false }) else delete_failed_by w k t (fin.get w.deletes t.op)
+
+abbrev pub prune_step : Formats → World → ℕ → Prune → Reply → Option Image → World
+prune_step f w k (FetchShard name) WasFetched image = change w k (fetching name (told_blob f image name))
+prune_step f w k (FetchShard name) reply image = w
+prune_step f w k (PlanShards shards) reply image = record (change w k (planned f shards w.next_id)) { next_id = w.next_id + kept_count shards }
+prune_step f w k SettlePruned reply image = delete_settled f w k (fin.get w.tickets k)
+prune_step f w k (RemoveDoomed names) reply image = record w { removed = names ++ w.removed }
+prune_step f w k EndDelete reply image = change w k (λ t. record t { out = false })
+prune_step f w k (DeleteFails why) reply image = delete_failed w k (fin.get w.tickets k)
+
 -- ---- steps that read: of a restore's ticket, where it is one
 
 abbrev pub read_told : World → ℕ → BlobName → Option Bytes → Option Reader → World
@@ -228,6 +261,7 @@ done_step f w k FinishStep reply image = change w k (λ t. record t { out = fals
 done_step f w k DroppedStep reply image = dropped_of w k (fin.get w.tickets k)
 done_step f w k ElectStep reply image = record w { term = suc w.term; next_id = first_id (suc w.term) }
 done_step f w k (ReadStep read) reply image = read_by f w k read reply image
+done_step f w k (PruneStep prune) reply image = prune_step f w k prune reply image
 done_step f w k step reply image = w
 
 -- a step that swaps the record
@@ -237,6 +271,7 @@ swaps_record RaiseStep = true
 swaps_record SettleStep = true
 swaps_record DroppedStep = true
 swaps_record ElectStep = true
+swaps_record (PruneStep SettlePruned) = true
 swaps_record step = false
 
 abbrev pub text_is : Option Bytes → Bytes → Bool
@@ -269,6 +304,8 @@ abbrev pub faulted : Formats → World → ℕ → Step → Option Image → Wor
 faulted f w k LatestStep image = tried w k
 faulted f w k (BeginStep name) image = if is_latest name then tried w k else w
 faulted f w k (ReadStep (CommitTest name)) image = test_left w name (fin.get w.blobs (f.names.text name)) (told_blob f image name)
+-- a removal that failed has named them, too: they aren't removed again
+faulted f w k (PruneStep (RemoveDoomed names)) image = record w { removed = names ++ w.removed }
 faulted f w k step image = if swaps_record step then fallen f w (done_step f w k step HasEnded image) image else w
 
 abbrev pub answered : Formats → World → ℕ → Step → Reply → Option Image → World

@@ -2,22 +2,24 @@
 use Rattle.std.specs.Prelude.{◌≡◌, ◌≢◌, ◌⊎◌, ℕ, zero, suc, ◌+◌, ◌-◌, ◌^◌, ◌<◌, ◌≤◌, true, false, List, [], ◌∷◌, length, sum_by, min, Option, Some, None}
 use Rattle.std.specs.FinMap as fin
 use Rattle.esr_model.specs.Names.{BlobName, Root, Latest, Snap, ShardSnap, ShardIndex, TestMaster}
-use Rattle.esr_model.specs.Values.{Bytes, Has, IndexRef, RootSnap, RootIndex, RootData, SnapInfo, ShardSnapshot, ShardFiles, ShardResult, ReadsBack, Formats}
-use Rattle.esr_model.specs.Shelf.{Shelved, names_uuid}
+use Rattle.esr_model.specs.Values.{Bytes, Has, IndexRef, RootSnap, RootIndex, RootData, SnapInfo, ShardSnapshot, ShardFiles, ShardResult, ReadsBack, IsOneEach, Formats}
+use Rattle.esr_model.specs.Shelf.{Shelved, Delete, names_uuid}
+use Rattle.esr_model.specs.Delete.{PrunedShard, kept_count, deleted_root}
 use Rattle.esr_model.specs.Kept.{first_id}
 use Rattle.esr_model.specs.Finalize.{finalized_root}
 use Rattle.esr_model.specs.Image.{Blobs, Image, AllPairs, IsStored, At, Present, Reads, FileStands, Generation}
 use Rattle.esr_model.specs.Agreement.{RootAgrees}
 use Rattle.esr_model.specs.Reach.{Reached}
 use Rattle.esr_model.specs.Uploads.{entries_from, id_after, shard_blobs, with_snap, no_files}
-use Rattle.esr_core.specs.World.{World, Op, Deletion, ShardWork, Out, Unread, RestoreShard, Restoring, Reader, Shard, Finalize, Drop, Ticket, Swap, swap, info_of, metadata, record_of}
+use Rattle.esr_core.specs.World.{World, Op, Deletion, ShardWork, Out, Unread, RestoreShard, Restoring, Reader, Shard, Finalize, Deleting, Drop, Ticket, Swap, swap, info_of, metadata, record_of}
 use Rattle.esr_core.specs.Generations.{OpTexts}
 use Rattle.esr_core.specs.Ready.{IsShard, IsMaster, ReadyShard, ReadyFinalize, ReadyDrop, ReadyDelete, ReadyCleanup, ReadyRestore, AnyReady}
+use Rattle.esr_core.specs.Pruning.{IsToRead, AreRead, pruned_shards, AreOfRoot, AreWritable, dooms}
 use Rattle.esr_core.specs.Restores.{IsTestOf, AreApart, IsReading, WasRead, IsPiece, ListsPiece, restore_shard}
 use Rattle.esr_core.specs.Steps.{IsOut, Drew, Largest, MayCommit, MaySettle, Removes}
 use Rattle.esr_core.specs.Texts.{IsMetaOf}
 use Rattle.std.specs.Int.{w64, to_be_bytes}
-use Rattle.esr_core.specs.Entry.{AskedIndex, Asked, Snapshot, Restore, is_recorded, Given, GivenShard, GivenFinalize, GivenDrop, GivenRestore, GivenClone, GivenDelete, GivenCleanup, Why, Read, ReadBlob, RestoredShard, CheckedAll, DrawTest, BeginTest, CommitTest, RemoveTests, VerifiedAll, ReadFails, Step, AskStep, TakeStep, DrawStep, BeginStep, CommitStep, LatestStep, FetchStep, ListStep, RaiseStep, SettleStep, DoneStep, FailedStep, FinishStep, DroppedStep, ElectStep, LookStep, ReadStep, CleanupRunning, NameInUse, TooMany, DeposedAt, StaleTerm, GenerationsSpent, TermsSpent, IdsSpent, NameTaken, DepotFault, NoSnapshot, BeingDeleted, Reply, Accepted, NothingReady, Gave, DrawnFrom, WasBegun, WasDone, WasThere, WasReplaced, WasFetched, WasAbsent, WasListed, RaisedTo, WasSettled, HasEnded, ElectedTerm, Looked, Refused, WasRemoved, AcceptedRestore, Moment}
+use Rattle.esr_core.specs.Entry.{AskedIndex, Asked, Snapshot, Restore, is_recorded, Given, GivenShard, GivenFinalize, GivenDrop, GivenRestore, GivenClone, GivenDelete, GivenCleanup, Why, Read, ReadBlob, RestoredShard, CheckedAll, DrawTest, BeginTest, CommitTest, RemoveTests, VerifiedAll, ReadFails, Prune, FetchShard, PlanShards, SettlePruned, RemoveDoomed, EndDelete, DeleteFails, Step, AskStep, TakeStep, DrawStep, BeginStep, CommitStep, LatestStep, FetchStep, ListStep, RaiseStep, SettleStep, DoneStep, FailedStep, FinishStep, DroppedStep, ElectStep, LookStep, ReadStep, PruneStep, CleanupRunning, NameInUse, TooMany, DeposedAt, StaleTerm, GenerationsSpent, TermsSpent, IdsSpent, NameTaken, DepotFault, NoSnapshot, BeingDeleted, Reply, Accepted, NothingReady, Gave, DrawnFrom, WasBegun, WasDone, WasThere, WasReplaced, WasFetched, WasAbsent, WasListed, RaisedTo, WasSettled, HasEnded, ElectedTerm, Looked, Refused, WasRemoved, AcceptedRestore, Moment}
 use Rattle.esr_core.specs.After.{asked_op, new_names, shard_of, after}
 
 -- what `index.latest` holds: the generation as 8 bytes, the highest first
@@ -93,20 +95,29 @@ pub record WasMade (f : Formats) (w : World) (uuid : ℕ) (indices : List IndexR
   pub indices_is : info.indices ≡ indices
   pub back : ReadsBack f.info info
 
--- these are exactly the indices of the root that have the snapshot, each shard with a generation
+-- these are exactly the indices of the root that have the snapshot
 pub record AreIndicesIn (root : RootData) (uuid : ℕ) (indices : List IndexRef) : Type 0 where
   pub listed : (r : IndexRef) → Has indices r → (x : RootIndex) × Has root.indices x × (x.name ≡ r.name) × (x.id ≡ r.id) × Has x.snapshots uuid
   pub exact : (x : RootIndex) → Has root.indices x → Has x.snapshots uuid → (r : IndexRef) × Has indices r × (r.name ≡ x.name) × (r.id ≡ x.id)
-  pub generations : (r : IndexRef) (k : ℕ) → Has indices r → k < r.shards → (g : ℕ) × Generation root r.id k g
   pub apart : AreApart indices
+
+-- no ticket of a delete was given
+abbrev pub NoDeleting : World → Type 0
+NoDeleting w = (k : ℕ) (t : Ticket) (uuids : List ℕ) (plan : Option Swap) → fin.get w.tickets k ≡ Some t → t.work ≡ Deleting uuids plan → ⊥
+
+-- each shard of these indices has a generation in the root
+abbrev pub HaveGenerations : RootData → List IndexRef → Type 0
+HaveGenerations root indices = (r : IndexRef) (k : ℕ) → Has indices r → k < r.shards → (g : ℕ) × Generation root r.id k g
 
 -- the info of the snapshot is there, and has these indices
 abbrev pub IsInInfo : Formats → World → ℕ → List IndexRef → Type 0
 IsInInfo f w uuid indices = (info : SnapInfo) × Reads (At f w.blobs) (Snap uuid) f.info info × (info.indices ≡ indices)
 
--- The indices of a listed snapshot: those of its finalization, or, where the container tells, those of the info that is there.
+-- The indices of a listed snapshot: those of its finalization, or, where the container tells, those of the info that is there. Each
+-- shard has a generation; once a delete was given this follows from the law alone.
 pub record AreIndicesOf (f : Formats) (w : World) (uuid : ℕ) (indices : List IndexRef) (image : Option Image) : Type 0 where
   pub within : AreIndicesIn w.root uuid indices
+  pub generations : NoDeleting w → HaveGenerations w.root indices
   pub told : WasMade f w uuid indices ⊎ Told image (λ blobs. IsInInfo f w uuid indices)
 
 -- a restore is accepted as this op
@@ -169,7 +180,7 @@ Gives f w o (GivenFinalize info results) = GivesFinalize f w o info results
 Gives f w o GivenDrop = ReadyDrop w o
 Gives f w o (GivenRestore index number uuid) = GivesRestore w o index number uuid
 Gives f w o (GivenClone index number source base) = ⊥
-Gives f w o (GivenDelete uuids) = ⊥
+Gives f w o (GivenDelete uuids) = (x : Deletion) × ReadyDelete w o x × (uuids ≡ x.uuids)
 Gives f w o GivenCleanup = ⊥
 
 -- ---- steps of a ticket
@@ -308,12 +319,13 @@ pub record Fails (w : World) (k : ℕ) : Type 0 where
   pub op : Op
   pub op_there : (IsShard t.work ⊎ (t.term ≡ w.term)) → fin.get w.ops t.op ≡ Some op
 
--- a settled finalization ends, or a master ticket of an older term
+-- a settled finalization ends, or a master ticket of an older term; a delete of the present one ends by a step of its own
 pub record Finishes (w : World) (k : ℕ) : Type 0 where
   pub t : Ticket
   pub out : IsOut w k t
   pub no_shard : IsShard t.work → ⊥
   pub done : (t.settled ≡ true) ⊎ (t.term ≢ w.term)
+  pub unpruned : (uuids : List ℕ) (plan : Option Swap) → t.work ≡ Deleting uuids plan → t.term ≢ w.term
 
 pub record MayDrop (w : World) (k : ℕ) : Type 0 where
   pub t : Ticket
@@ -456,6 +468,96 @@ pub data VerifyAllows (f : Formats) (w : World) : Read → Reply → Option Imag
   VerifyingAll : (image : Option Image) → Verifies w → SameBlobs w image → VerifyAllows f w VerifiedAll HasEnded image
   VerifyFailing : (why : Why) (image : Option Image) → IsVerifying w → SameBlobs w image → VerifyAllows f w (ReadFails why) HasEnded image
 
+-- ---- steps of a delete's ticket
+
+-- A delete's ticket is out, with these uuids. Its op is no cleanup.
+pub record IsDeleting (w : World) (k : ℕ) (t : Ticket) (uuids : List ℕ) (plan : Option Swap) : Type 0 where
+  pub out : IsOut w k t
+  pub work : t.work ≡ Deleting uuids plan
+  pub deletes : (x : Deletion) → fin.get w.deletes t.op ≡ Some x → x.clean ≡ false
+
+-- before its plan it fetches the indices of shards of the root that it copied
+pub record FetchesShard (f : Formats) (w : World) (k : ℕ) (name : BlobName) : Type 0 where
+  pub t : Ticket
+  pub uuids : List ℕ
+  pub deleting : IsDeleting w k t uuids None
+  pub unsettled : t.settled ≡ false
+  pub stored : IsStored f name
+  pub index : ℕ
+  pub number : ℕ
+  pub generation : ℕ
+  pub to_read : IsToRead t.root uuids index number generation
+  pub name_is : name ≡ ShardIndex index number generation
+
+-- It plans once: over a container that tells exactly the shards that follow from what it read, all that were to be read, and what is
+-- left of each of them can be written.
+pub record MayPlan (f : Formats) (w : World) (k : ℕ) (shards : List PrunedShard) (image : Option Image) : Type 0 where
+  pub t : Ticket
+  pub uuids : List ℕ
+  pub deleting : IsDeleting w k t uuids None
+  pub unsettled : t.settled ≡ false
+  pub unraised : t.raised ≡ None
+  pub unnoted : t.noted ≡ []
+  -- the root that it copied lists each index once
+  pub one_each : IsOneEach t.root.indices
+  pub of_root : AreOfRoot t.root shards
+  pub are_read : Told image (λ blobs. AreRead f t.root uuids t.read)
+  pub exact : Told image (λ blobs. shards ≡ pruned_shards f t.root uuids t.read)
+  pub writable : Told image (λ blobs. AreWritable f t.root uuids t.read shards)
+
+pub record SettlesDeletion (f : Formats) (w : World) (k : ℕ) : Type 0 where
+  pub t : Ticket
+  pub s : Swap
+  pub n : ℕ
+  pub uuids : List ℕ
+  pub may : MaySettle f w k n t s
+  pub deleting : IsDeleting w k t uuids (Some s)
+  pub commands : s.commands ≡ Delete uuids ∷ []
+
+-- at most 1,000 names at once, each doomed by its own settle
+pub record RemovesDoomed (f : Formats) (w : World) (k : ℕ) (names : List BlobName) (image : Option Image) : Type 0 where
+  pub t : Ticket
+  pub uuids : List ℕ
+  pub s : Swap
+  pub deleting : IsDeleting w k t uuids (Some s)
+  pub settled : t.settled ≡ true
+  pub few : length names ≤ 1000
+  pub doomed : Told image (λ blobs. (name : BlobName) → Has names name → Has (dooms f t) name)
+
+-- it ends once all that it doomed was named
+pub record EndsDelete (f : Formats) (w : World) (k : ℕ) (image : Option Image) : Type 0 where
+  pub t : Ticket
+  pub uuids : List ℕ
+  pub s : Swap
+  pub deleting : IsDeleting w k t uuids (Some s)
+  pub settled : t.settled ≡ true
+  pub removed : Told image (λ blobs. (name : BlobName) → Has (dooms f t) name → Has w.removed name)
+
+-- it fails before its settle; what a stale one tells ends it alone
+pub record FailsDeletion (w : World) (k : ℕ) : Type 0 where
+  pub t : Ticket
+  pub uuids : List ℕ
+  pub plan : Option Swap
+  pub deleting : IsDeleting w k t uuids plan
+  pub unsettled : t.settled ≡ false
+
+-- How a step of a delete's ticket may be answered.
+pub data PruneAllows (f : Formats) (w : World) : ℕ → Prune → Reply → Option Image → Type 0 where
+  FetchingShard : (k : ℕ) (name : BlobName) (image : Option Image) → FetchesShard f w k name → Told image (λ blobs. (bytes : Bytes) × (fin.get w.blobs (f.names.text name) ≡ Some bytes) × (blobs ≡ w.blobs)) → PruneAllows f w k (FetchShard name) WasFetched image
+  ShardMissing : (k : ℕ) (name : BlobName) (image : Option Image) → FetchesShard f w k name → Told image (λ blobs. (fin.get w.blobs (f.names.text name) ≡ None) × (blobs ≡ w.blobs)) → PruneAllows f w k (FetchShard name) WasAbsent image
+  FetchShardFails : (k : ℕ) (name : BlobName) (image : Option Image) → FetchesShard f w k name → SameBlobs w image → PruneAllows f w k (FetchShard name) (Refused DepotFault) image
+  Planning : (k : ℕ) (shards : List PrunedShard) (image : Option Image) (p : MayPlan f w k shards image) → w.next_id + kept_count shards < first_id (suc w.term) → ReadsBack f.root (deleted_root p.t.root p.uuids shards w.next_id) → SameBlobs w image
+      → PruneAllows f w k (PlanShards shards) (DrawnFrom w.next_id) image
+  PlanSpent : (k : ℕ) (shards : List PrunedShard) (image : Option Image) → MayPlan f w k shards image → first_id (suc w.term) ≤ w.next_id + kept_count shards → SameBlobs w image → PruneAllows f w k (PlanShards shards) (Refused (IdsSpent w.next_id)) image
+  SettlingDelete : (k : ℕ) (image : Option Image) (s : SettlesDeletion f w k) → s.t.term ≡ w.term → SameBlobs w image → PruneAllows f w k SettlePruned WasSettled image
+  SettleDeleteStale : (k : ℕ) (image : Option Image) (s : SettlesDeletion f w k) → s.t.term ≢ w.term → SameBlobs w image → PruneAllows f w k SettlePruned (Refused (StaleTerm s.t.term w.term)) image
+  SettleDeleteFails : (k : ℕ) (image : Option Image) (s : SettlesDeletion f w k) → s.t.term ≡ w.term → SameBlobs w image → PruneAllows f w k SettlePruned (Refused DepotFault) image
+  RemovingDoomed : (k : ℕ) (names : List BlobName) (image : Option Image) → RemovesDoomed f w k names image → Told image (λ blobs. Removes f w.blobs blobs names × ((name : BlobName) → Has names name → fin.get blobs (f.names.text name) ≡ None))
+      → PruneAllows f w k (RemoveDoomed names) WasRemoved image
+  RemoveDoomedFails : (k : ℕ) (names : List BlobName) (image : Option Image) → RemovesDoomed f w k names image → Told image (λ blobs. Removes f w.blobs blobs names) → PruneAllows f w k (RemoveDoomed names) (Refused DepotFault) image
+  EndingDelete : (k : ℕ) (image : Option Image) → EndsDelete f w k image → SameBlobs w image → PruneAllows f w k EndDelete HasEnded image
+  FailingDelete : (k : ℕ) (why : Why) (image : Option Image) → FailsDeletion w k → SameBlobs w image → PruneAllows f w k (DeleteFails why) HasEnded image
+
 -- ---- all steps
 
 -- Who may answer a step so, in a world that isn't deposed. A case each for an answer; a further step is a further case.
@@ -483,6 +585,7 @@ pub data Allows (f : Formats) (part_size : ℕ) (w : World) : ℕ → Step → R
   AskingRestore : (name place : Bytes) (reply : Reply) (image : Option Image) → RestoreAllows f w name reply image → SameBlobs w image → Allows f part_size w 0 (AskStep (Restore name place)) reply image
   Verifying : (read : Read) (reply : Reply) (image : Option Image) → VerifyAllows f w read reply image → Allows f part_size w 0 (ReadStep read) reply image
   Reading : (k : ℕ) (read : Read) (reply : Reply) (image : Option Image) → ReadAllows f w k read reply image → SameBlobs w image → Allows f part_size w k (ReadStep read) reply image
+  Pruning : (k : ℕ) (prune : Prune) (reply : Reply) (image : Option Image) → PruneAllows f w k prune reply image → Allows f part_size w k (PruneStep prune) reply image
   -- refusals by rule
   Cleaning : (command : Asked) (d : ℕ) (x : Deletion) (image : Option Image) → is_recorded command ≡ true → fin.get w.deletes d ≡ Some x → x.clean ≡ true → SameBlobs w image → Allows f part_size w 0 (AskStep command) (Refused (CleanupRunning d)) image
   Used : (name : Bytes) (indices : List AskedIndex) (moment uuid : ℕ) (image : Option Image) → NoCleanup w → IsNameOf w name uuid → SameBlobs w image → Allows f part_size w 0 (AskStep (Snapshot name indices moment)) (Refused (NameInUse uuid)) image

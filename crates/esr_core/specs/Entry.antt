@@ -1,7 +1,8 @@
 -- A step of the repository as the history tells it: who made it, what was asked, and what was answered.
-use Rattle.std.specs.Prelude.{ℕ, Bool, true, false, List, Option}
+use Rattle.std.specs.Prelude.{ℕ, ℤ, Bool, true, false, List, Option}
 use Rattle.esr_model.specs.Names.{BlobName}
 use Rattle.esr_model.specs.Values.{Bytes, IndexRef, RootSnap, SnapInfo, ShardResult}
+use Rattle.esr_model.specs.Delete.{PrunedShard}
 use Rattle.esr_model.specs.Image.{Image}
 
 -- an index that a snapshot is to hold, with the place of its files
@@ -34,10 +35,25 @@ pub data Given : Type 0 where
   GivenDrop : Given
   -- a shard of a restore
   GivenRestore : (index number uuid : ℕ) → Given
-  -- a shard of a clone of the snapshot `source`, a delete, a cleanup: no step gives these so far
+  -- a shard of a clone of the snapshot `source`, a cleanup: no step gives these so far
   GivenClone : (index number source : ℕ) (base : Option ℕ) → Given
+  -- an open delete of the snapshots with these uuids
   GivenDelete : (uuids : List ℕ) → Given
   GivenCleanup : Given
+
+-- why bytes don't read as their kind: the first rule that they break
+pub data Reason : Type 0 where
+  NoJson : Reason
+  -- the member under this key is absent, or of another kind, or a number that breaks this bound
+  NoMember : (key : Bytes) → Reason
+  OtherKind : (key : Bytes) → Reason
+  OutOfRange : (key : Bytes) (limit : ℤ) → Reason
+  -- a text breaks a rule of names, or isn't that of an id or of a digest
+  BadName : Reason
+  BadId : Reason
+  -- what stands there stood before, or isn't listed
+  Duplicate : Reason
+  Unlisted : Reason
 
 -- why a unit failed
 pub data Why : Type 0 where
@@ -46,8 +62,12 @@ pub data Why : Type 0 where
   OfSource : Why
   -- the two prints of one file
   OfChange : (first_len : ℕ) (first_digest : Bytes) (second_len : ℕ) (second_digest : Bytes) → Why
-  -- a blob that was absent, or didn't read
-  OfDamage : (name : BlobName) → Why
+  -- a blob was absent
+  OfAbsence : (name : BlobName) → Why
+  -- what was fetched of a blob doesn't read, for this reason
+  OfUnreadable : (name : BlobName) (reason : Reason) → Why
+  -- the index on which a shard builds reads, but has what it can't have yet
+  OfAhead : (name : BlobName) → Why
   -- a blob that it was to commit was there already
   OfTaken : (name : BlobName) → Why
   -- the ids of the term, or the generations, end here
@@ -74,6 +94,18 @@ pub data Read : Type 0 where
   VerifiedAll : Read
   ReadFails : (why : Why) → Read
 
+-- a step of a delete's ticket, its writing aside
+pub data Prune : Type 0 where
+  -- the index of a shard is fetched
+  FetchShard : (name : BlobName) → Prune
+  -- the shards whose generation goes; ids are drawn for those of which something is left
+  PlanShards : (shards : List PrunedShard) → Prune
+  SettlePruned : Prune
+  RemoveDoomed : (names : List BlobName) → Prune
+  -- all that it doomed was named in a removal
+  EndDelete : Prune
+  DeleteFails : (why : Why) → Prune
+
 pub data Step : Type 0 where
   AskStep : (command : Asked) → Step
   TakeStep : Step
@@ -92,6 +124,7 @@ pub data Step : Type 0 where
   ElectStep : Step
   LookStep : Step
   ReadStep : (read : Read) → Step
+  PruneStep : (prune : Prune) → Step
 
 pub data Refusal : Type 0 where
   CleanupRunning : (op : ℕ) → Refusal

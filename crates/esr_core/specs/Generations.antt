@@ -3,12 +3,12 @@ use Rattle.std.specs.Prelude.{◌≡◌, ◌≢◌, ℕ, ◌+◌, ◌^◌, ◌<�
 use Rattle.std.specs.Ordering.{nat_cmp}
 use Rattle.std.specs.FinMap.{FinMap}
 use Rattle.std.specs.FinMap as fin
-use Rattle.esr_model.specs.Names.{BlobName, Snap, ShardSnap}
-use Rattle.esr_model.specs.Values.{Bytes, IndexRef, RootSnap, RootIndex, RootData, SnapInfo, ShardSnapshot, ShardResult, ReadsBack, Formats}
+use Rattle.esr_model.specs.Names.{BlobName, Snap, ShardSnap, ShardIndex}
+use Rattle.esr_model.specs.Values.{Bytes, IndexRef, RootSnap, RootIndex, RootData, SnapInfo, ShardSnapshot, SnapList, ShardFiles, ShardResult, ReadsBack, Formats}
 use Rattle.esr_model.specs.Shelf.{Shelved}
 use Rattle.esr_model.specs.Places.{places, shelf_places}
 use Rattle.esr_model.specs.Image.{Has, AllPairs, RootIs, Reads, Generation, ListsAs, IndexStands, FileStands}
-use Rattle.esr_core.specs.World.{Op, ShardWork, Ticket, Shard, Finalize, Done, Out, AllDone, info_of, shelved_of}
+use Rattle.esr_core.specs.World.{Op, ShardWork, Ticket, Swap, Shard, Finalize, Deleting, Done, Out, AllDone, info_of, shelved_of}
 
 -- an open op has done the shard at this generation
 pub record DoneAt (ops : FinMap nat_cmp Op) (uuid index shard generation : ℕ) : Type 0 where
@@ -37,9 +37,22 @@ pub record IsOfShard (f : Formats) (has : BlobName → Bytes → Type 0) (uuid i
   pub index_is : place.0.id ≡ index
   pub shard_is : place.1 ≡ shard
 
+-- the op has the shard
+abbrev pub HasShard : Op → ℕ → ℕ → Type 0
+HasShard op index shard = (s : ShardWork) × Has op.shards s × (s.ref.id ≡ index) × (s.number ≡ shard)
+
+-- of the open ops an index of a shard lists such alone as have the shard
+abbrev pub ListsOwn : FinMap nat_cmp Op → ℕ → ℕ → ShardFiles → Type 0
+ListsOwn ops index shard held = (l : SnapList) → Has held.snapshots l → (o : ℕ) (op : Op) → fin.get ops o ≡ Some op → op.uuid ≡ l.uuid → HasShard op index shard
+
+-- so does the index of the shard under this generation
+abbrev pub IsOwn : Formats → (BlobName → Bytes → Type 0) → FinMap nat_cmp Op → ℕ → ℕ → ℕ → Type 0
+IsOwn f has ops index shard generation = (held : ShardFiles) → Reads has (ShardIndex index shard generation) f.shard_index held → ListsOwn ops index shard held
+
 -- the generation of the shard serves each open op that is done at none above it and, where it isn't below the root's, each listed snapshot (the order law)
 pub record Carries (f : Formats) (has : BlobName → Bytes → Type 0) (root : RootData) (ops : FinMap nat_cmp Op) (index shard generation : ℕ) : Type 0 where
-  pub stands : IndexStands f has index shard generation
+  pub stands : IndexStands f has root index shard generation
+  pub own : IsOwn f has ops index shard generation
   pub done : (uuid g : ℕ) → DoneAt ops uuid index shard g → g ≤ generation → ListsAs f has index shard generation uuid
   pub listed : ((g : ℕ) → Generation root index shard g → g ≤ generation) → (snap : RootSnap) → Has root.snapshots snap → IsOfShard f has snap.uuid index shard
       → ListsAs f has index shard generation snap.uuid
@@ -112,6 +125,18 @@ pub record FinalLaw (f : Formats) (root : RootData) (ops : FinMap nat_cmp Op) (t
   pub made_is : made ≡ shelved_of f op
   pub root_is : t.root ≡ root
 
+-- one of the indices of shards that a delete or cleanup writes
+pub record IsNewIndex (f : Formats) (ops : FinMap nat_cmp Op) (own : List (BlobName × Bytes)) (index shard generation : ℕ) : Type 0 where
+  pub index_of : ShardFiles
+  pub there : Has own (ShardIndex index shard generation, f.shard_index.text index_of)
+  pub back : ReadsBack f.shard_index index_of
+  pub below : (l : SnapList) → Has index_of.snapshots l → l.uuid < generation
+  pub lists : ListsOwn ops index shard index_of
+
+-- each index of a shard that its root has is one of the safe root, or one that it writes
+abbrev pub PlanLaw : Formats → RootData → FinMap nat_cmp Op → Swap → Type 0
+PlanLaw f root ops s = (index shard g : ℕ) → Generation s.root index shard g → Generation root index shard g ⊎ IsNewIndex f ops s.own index shard g
+
 -- the ticket holds the shard of the op
 pub record IsHeldBy (tickets : FinMap nat_cmp Ticket) (o : ℕ) (s : ShardWork) (k : ℕ) : Type 0 where
   pub t : Ticket
@@ -133,3 +158,5 @@ pub record Carried (f : Formats) (has : BlobName → Bytes → Type 0) (safe ter
   pub finals : (k : ℕ) (t : Ticket) → fin.get tickets k ≡ Some t → t.out ≡ true → t.settled ≡ false → t.term ≡ term
       → (info : SnapInfo) (results : List ShardResult) (made : Shelved) → t.work ≡ Finalize info results made → FinalLaw f root open_ops t info results made
   pub held : (o : ℕ) (op : Op) (s : ShardWork) (k : ℕ) → fin.get open_ops o ≡ Some op → Has op.shards s → s.state ≡ Out k → IsHeldBy tickets o s k
+  -- of a delete or cleanup of the present term that has drawn
+  pub plans : (k : ℕ) (t : Ticket) → fin.get tickets k ≡ Some t → t.out ≡ true → t.settled ≡ false → t.term ≡ term → (uuids : List ℕ) (s : Swap) → t.work ≡ Deleting uuids (Some s) → PlanLaw f root open_ops s

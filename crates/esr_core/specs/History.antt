@@ -5,7 +5,7 @@ use Rattle.esr_model.specs.Values.{Bytes, Has, FileEntry, Formats}
 use Rattle.esr_model.specs.Shelf.{Command}
 use Rattle.esr_model.specs.Image.{Image, Blobs, At, FileStands}
 use Rattle.esr_core.specs.World.{World, Ticket, Swap, swap}
-use Rattle.esr_core.specs.Entry.{Step, SettleStep, DepotFault, Reply, WasSettled, Refused, Moment}
+use Rattle.esr_core.specs.Entry.{Step, SettleStep, SettlePruned, PruneStep, DepotFault, Reply, WasSettled, Refused, Moment}
 use Rattle.esr_core.specs.After.{after}
 use Rattle.esr_core.specs.Allowed.{Allowed}
 
@@ -39,6 +39,7 @@ command_of f safe (Some t) = command_by safe (swap f t) t.raised
 
 abbrev pub is_settle : Step → Bool
 is_settle SettleStep = true
+is_settle (PruneStep SettlePruned) = true
 is_settle step = false
 
 abbrev pub commands_at : Formats → ℕ → World → ℕ → Step → Reply → List Command

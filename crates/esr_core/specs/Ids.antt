@@ -14,6 +14,7 @@ use Rattle.esr_core.specs.Steps.{Drew}
 use Rattle.esr_core.specs.Written.{Written}
 use Rattle.esr_core.specs.Texts.{Texted}
 use Rattle.esr_core.specs.Queue.{Lawful}
+use Rattle.esr_core.specs.Pruning.{PruneLaws}
 
 -- the name has this uuid of a snapshot
 abbrev pub OfUuid : BlobName → ℕ → Type 0
@@ -89,3 +90,4 @@ pub record Law (f : Formats) (w : World) (shelf : List Shelved) : Type 0 where
   pub in_term : InTerm w
   pub written : Written f w.blobs w.tickets
   pub texts : Texted f w.blobs w.ops w.tickets
+  pub pruned : PruneLaws f w.blobs w.doomed w.safe w.term w.tickets

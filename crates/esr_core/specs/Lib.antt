@@ -7,6 +7,7 @@ pub mod Swaps
 pub mod Sound
 pub mod Doomed
 pub mod Texts
+pub mod Pruning
 pub mod Queue
 pub mod Written
 pub mod Ids

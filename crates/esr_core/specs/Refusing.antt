@@ -2,8 +2,9 @@
 use Rattle.std.specs.Prelude.{◌≡◌, ◌⊎◌, ℕ, true, List}
 use Rattle.esr_model.specs.Names.{BlobName}
 use Rattle.esr_model.specs.Values.{Bytes, Has}
+use Rattle.esr_model.specs.Delete.{PrunedShard}
 use Rattle.esr_core.specs.World.{World}
-use Rattle.esr_core.specs.Entry.{AskedIndex, Asked, Snapshot, Restore, is_recorded, ReadBlob, DrawTest, BeginTest, CommitTest, RemoveTests, Step, AskStep, DrawStep, BeginStep, CommitStep, LatestStep, FetchStep, ListStep, RaiseStep, SettleStep, DroppedStep, ElectStep, ReadStep, Refusal, CleanupRunning, NameInUse, TooMany, DeposedAt, StaleTerm, GenerationsSpent, TermsSpent, IdsSpent, NameTaken, DepotFault, NoSnapshot, BeingDeleted, Refused, Moment}
+use Rattle.esr_core.specs.Entry.{AskedIndex, Asked, Snapshot, Restore, is_recorded, ReadBlob, DrawTest, BeginTest, CommitTest, RemoveTests, FetchShard, PlanShards, SettlePruned, RemoveDoomed, Step, AskStep, DrawStep, BeginStep, CommitStep, LatestStep, FetchStep, ListStep, RaiseStep, SettleStep, DroppedStep, ElectStep, ReadStep, PruneStep, Refusal, CleanupRunning, NameInUse, TooMany, DeposedAt, StaleTerm, GenerationsSpent, TermsSpent, IdsSpent, NameTaken, DepotFault, NoSnapshot, BeingDeleted, Refused, Moment}
 use Rattle.esr_core.specs.After.{swaps_record}
 
 -- A step may be refused so: a command by a rule of its kind, with the place or the limit that this has, or since its ids are spent; a
@@ -40,6 +41,11 @@ pub data MayRefuse : Step → Refusal → Type 0 where
   CommitTestFault : (name : BlobName) → MayRefuse (ReadStep (CommitTest name)) DepotFault
   TestTaken : (name : BlobName) → MayRefuse (ReadStep (CommitTest name)) (NameTaken name)
   RemoveFault : (names : List BlobName) → MayRefuse (ReadStep (RemoveTests names)) DepotFault
+  FetchShardFault : (name : BlobName) → MayRefuse (PruneStep (FetchShard name)) DepotFault
+  NoPlanIds : (shards : List PrunedShard) (next : ℕ) → MayRefuse (PruneStep (PlanShards shards)) (IdsSpent next)
+  SettleDeleteFault : MayRefuse (PruneStep SettlePruned) DepotFault
+  SettleDeleteStale : (own now : ℕ) → MayRefuse (PruneStep SettlePruned) (StaleTerm own now)
+  RemoveDoomedFault : (names : List BlobName) → MayRefuse (PruneStep (RemoveDoomed names)) DepotFault
 
 -- the world is deposed, and the refusal says so
 pub record SaysDeposed (w : World) (refusal : Refusal) : Type 0 where

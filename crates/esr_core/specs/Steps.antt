@@ -9,7 +9,7 @@ use Rattle.esr_model.specs.Kept.{first_id}
 use Rattle.esr_model.specs.Finalize.{finalized_root}
 use Rattle.esr_core.specs.Generations.{IsLive}
 use Rattle.esr_core.specs.Ready.{IsShard}
-use Rattle.esr_core.specs.World.{World, Ticket, Op, ShardWork, ShardState, Pending, Shard, Finalize, Out, Done, GivenUp, AllDone, Swap, swap, marked, info_of, shelved_of, metadata, HeldIn}
+use Rattle.esr_core.specs.World.{World, Ticket, Op, ShardWork, ShardState, Pending, Shard, Finalize, Deleting, Out, Done, GivenUp, AllDone, Swap, swap, marked, info_of, shelved_of, metadata, HeldIn}
 
 -- the ticket is out under this number
 pub record IsOut (w : World) (k : ℕ) (t : Ticket) : Type 0 where
@@ -225,6 +225,8 @@ reading t name bytes = record t { read = (name, bytes) ∷ t.read }
 pub record FetchFound (f : Formats) (w : World) (k : ℕ) (name : BlobName) (new : World) : Type 0 where
   pub t : Ticket
   pub out : IsOut w k t
+  -- a delete fetches before its plan, and nothing that may be removed
+  pub aside : (uuids : List ℕ) (plan : Option Swap) → t.work ≡ Deleting uuids plan → (plan ≡ None) × (t.settled ≡ false → t.term ≡ w.term → Has w.doomed name → ⊥)
   pub bytes : Bytes
   pub there : At f w.blobs name bytes
   pub new_is : new ≡ with_ticket w k (reading t name bytes)

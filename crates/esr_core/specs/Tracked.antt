@@ -1,6 +1,6 @@
 -- What holds of the open ops and their tickets over any container, also one that tells nothing: each unit that is out has
 -- its op, and names and ids are apart.
-use Rattle.std.specs.Prelude.{◌≡◌, ◌≢◌, ℕ, ◌+◌, ◌<◌, ◌≤◌, true, false, List, Some, map}
+use Rattle.std.specs.Prelude.{◌≡◌, ◌≢◌, ℕ, ◌+◌, ◌<◌, ◌≤◌, true, false, List, Option, Some, map}
 use Rattle.std.specs.Ordering.{nat_cmp}
 use Rattle.std.specs.FinMap.{FinMap}
 use Rattle.std.specs.FinMap as fin
@@ -8,9 +8,10 @@ use Rattle.esr_model.specs.Values.{Bytes, Has, IndexRef, RootSnap, RootIndex, Ro
 use Rattle.esr_model.specs.Shelf.{Shelved}
 use Rattle.esr_model.specs.Kept.{RootIds}
 use Rattle.esr_model.specs.Places.{places}
-use Rattle.esr_core.specs.World.{World, Op, Deletion, ShardWork, Out, Done, Shard, Finalize, Drop, Ticket, AllDone, info_of}
+use Rattle.esr_core.specs.World.{World, Op, Deletion, ShardWork, Out, Done, Shard, Finalize, Deleting, Drop, Ticket, Swap, AllDone, info_of}
 use Rattle.esr_core.specs.Generations.{IsHeldBy}
 use Rattle.esr_core.specs.Ready.{Goes, Stopped, IsShard, SwapIsOut}
+use Rattle.esr_core.specs.Queue.{Shrinks}
 use Rattle.esr_core.specs.Ids.{OpIds, InTerm}
 
 -- a shard's ticket that is out has its op, and in it the shard that it works on, with the place of its files
@@ -37,9 +38,24 @@ pub record FinalTracked (root : RootData) (ops : FinMap nat_cmp Op) (t : Ticket)
   pub root_is : t.root ≡ root
 
 -- a drop of the present term that is out: its op is stopped, and no ticket of its shards is out
-pub record DropTracked (ops : FinMap nat_cmp Op) (tickets : FinMap nat_cmp Ticket) (t : Ticket) : Type 0 where
+pub record DropTracked (ops : FinMap nat_cmp Op) (deletes : FinMap nat_cmp Deletion) (tickets : FinMap nat_cmp Ticket) (t : Ticket) : Type 0 where
   pub stopped : (op : Op) → fin.get ops t.op ≡ Some op → Stopped op
   pub idle : (k : ℕ) (u : Ticket) → fin.get tickets k ≡ Some u → u.out ≡ true → IsShard u.work → u.op ≢ t.op
+  -- where it is of a delete, that has failed
+  pub failed : (x : Deletion) → fin.get deletes t.op ≡ Some x → x.failed ≡ true
+
+-- the new root has nothing that the old one hasn't, its generations aside, and all its ids lie below the next one
+pub record IsWithin (root new : RootData) (next : ℕ) : Type 0 where
+  pub shrinks : Shrinks root new
+  pub below : RootIds new next
+
+-- the ticket of a delete or cleanup of the present term that is out and hasn't settled has its op, a copy of the safe root, and a root within it once it has its plan
+pub record DeleteTracked (root : RootData) (deletes : FinMap nat_cmp Deletion) (next : ℕ) (t : Ticket) (plan : Option Swap) : Type 0 where
+  pub x : Deletion
+  pub there : fin.get deletes t.op ≡ Some x
+  pub unfailed : x.failed ≡ false
+  pub root_is : t.root ≡ root
+  pub planned : (s : Swap) → plan ≡ Some s → IsWithin root s.root next
 
 -- two references to indices have one id exactly where they have one name
 pub record IsOneIndex (a : Bytes) (i : ℕ) (b : Bytes) (j : ℕ) : Type 0 where
@@ -81,7 +97,8 @@ pub record Tracked (w : World) : Type 0 where
   pub held : (o : ℕ) (op : Op) (s : ShardWork) (k : ℕ) → fin.get w.ops o ≡ Some op → Has op.shards s → s.state ≡ Out k → IsHeldBy w.tickets o s k
   pub finals : (k : ℕ) (t : Ticket) (info : SnapInfo) (results : List ShardResult) (made : Shelved) → fin.get w.tickets k ≡ Some t → t.out ≡ true → t.settled ≡ false → t.term ≡ w.term
       → t.work ≡ Finalize info results made → FinalTracked w.root w.ops t info results
-  pub drops : (k : ℕ) (t : Ticket) → fin.get w.tickets k ≡ Some t → t.out ≡ true → t.term ≡ w.term → t.work ≡ Drop → DropTracked w.ops w.tickets t
+  pub drops : (k : ℕ) (t : Ticket) → fin.get w.tickets k ≡ Some t → t.out ≡ true → t.term ≡ w.term → t.work ≡ Drop → DropTracked w.ops w.deletes w.tickets t
+  pub deleting : (k : ℕ) (t : Ticket) (uuids : List ℕ) (plan : Option Swap) → fin.get w.tickets k ≡ Some t → t.out ≡ true → t.settled ≡ false → t.term ≡ w.term → t.work ≡ Deleting uuids plan → DeleteTracked w.root w.deletes w.next_id t plan
   pub one_swap : (j k : ℕ) → SwapIsOut w.tickets w.term j → SwapIsOut w.tickets w.term k → j ≡ k
   pub named : Named w.root w.ops w.next_id
   pub in_term : InTerm w

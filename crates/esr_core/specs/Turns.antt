@@ -19,6 +19,7 @@ use Rattle.esr_core.specs.World.{World, Ticket, Op, Deletion, ShardWork, ShardSt
 use Rattle.esr_core.specs.Ready.{IsShard, IsMaster, ReadyShard, ReadyFinalize, ReadyDrop, ReadyDelete, ReadyCleanup, ReadyRestore}
 use Rattle.esr_core.specs.Restores.{IsTestOf, AreApart, IsReading, ListsPiece, waits, restore_opened, shard_handed, more_read, shard_ended}
 use Rattle.esr_core.specs.Queue.{Lists}
+use Rattle.esr_core.specs.Pruning.{IsPlanned, dooms}
 use Rattle.esr_core.specs.Steps.{IsOut, Largest, given, shard_ticket, final_ticket, completing, settled, MaySettle, CommitDone, CommitFault, CommitExists, Raise, Elect, TryLatest, FetchFound, Drew, ExtendsBase, Ends, Removes, Remove}
 
 -- take: the four kinds of unit
@@ -89,11 +90,12 @@ pub record DrawPlan (f : Formats) (w : World) (k n : ℕ) (new : World) : Type 0
   pub out : IsOut w k t
   pub named : List ℕ
   pub work : t.work ≡ Deleting named None
-  -- a delete prunes what it names; a cleanup what isn't listed, and has no command
+  -- a delete prunes what it names, and what isn't listed; a cleanup what isn't listed, and has no command
   pub uuids : List ℕ
   pub commands : List Command
-  pub prunes : ((uuids ≡ named) × (commands ≡ Delete uuids ∷ [])) ⊎ ((commands ≡ []) × ((s : RootSnap) → Has t.root.snapshots s → names_uuid uuids s.uuid ≡ false))
+  pub prunes : (((s : RootSnap) → Has t.root.snapshots s → names_uuid uuids s.uuid ≡ names_uuid named s.uuid) × (commands ≡ Delete named ∷ [])) ⊎ ((commands ≡ []) × ((s : RootSnap) → Has t.root.snapshots s → names_uuid uuids s.uuid ≡ false))
   pub fits : w.next_id + n < first_id (suc w.term)
+  pub unsettled : t.settled ≡ false
   pub unraised : t.raised ≡ None
   pub unnoted : t.noted ≡ []
   pub root : RootData
@@ -101,6 +103,8 @@ pub record DrawPlan (f : Formats) (w : World) (k n : ℕ) (new : World) : Type 0
   pub fresh : ℕ → ℕ → Option (Option ℕ)
   pub deletes : t.term ≡ w.term → Deletes f (HeldIn f w) t.root uuids fresh own root
   pub shape : SwapShape f (record { root = root; own = own; commands = commands })
+  -- a delete's follows from what it read
+  pub planned : commands ≡ Delete named ∷ [] → IsPlanned f t.root t.read w.next_id named (record { root = root; own = own; commands = commands })
   -- the new root is the old one without the snapshots, and its new generations are ids of the draw, also where the term is an older one
   pub without : Without t.root uuids fresh root
   pub fresh_drawn : (i s g : ℕ) → fresh i s ≡ Some (Some g) → (w.next_id ≤ g) × (g < w.next_id + n)
@@ -156,6 +160,8 @@ pub record SettleDelete (f : Formats) (w : World) (k n : ℕ) (t : Ticket) (swap
   pub root_aside : Has names (Root n) → ⊥
   pub reach : (name : BlobName) → Has names name → Reached f (HeldIn f w) w.root name ⊎ (((m : ℕ) × (name ≡ Root m) × (w.safe ≡ suc m)) ⊎ ((cleans ≡ true) × Present f w.blobs name))
   pub reach_aside : (name : BlobName) → Has names name → Reached f (HeldIn f w) swapped.root name → ⊥
+  -- among them all that follows from what it read
+  pub gives : (name : BlobName) → Has (dooms f t) name → Has names name
   -- a cleanup's op stays
   pub new_is : new ≡ record (settled w k t n swapped.root) { deletes = if cleans then w.deletes else fin.remove w.deletes t.op; doomed = names ++ w.doomed }
 
@@ -341,6 +347,8 @@ pub data ReadTurn (f : Formats) (w : World) : World → Type 0 where
   ReadsMore : (new : World) → (k : ℕ) (name : BlobName) (bytes : Bytes) → ReadMore f w k name bytes new → ReadTurn f w new
   EndsShard : (new : World) → (k : ℕ) (state : ReadState) → EndShard w k state new → ReadTurn f w new
   Calls : (new : World) → (caller : Caller) → new ≡ record w { caller = caller } → ReadTurn f w new
+  -- what removals have named
+  NamesRemoved : (new : World) → (removed : List BlobName) → new ≡ record w { removed = removed } → ReadTurn f w new
 
 -- ---- a verification of the container
 

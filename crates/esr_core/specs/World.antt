@@ -157,6 +157,8 @@ pub record World : Type 0 where
   pub next_id : ℕ
   -- names that some settled ticket may remove, or who 0 its test blobs
   pub doomed : List BlobName
+  -- names that the removals of deletes have named
+  pub removed : List BlobName
   pub deposed : Bool
   -- open restores, under the numbering of ops, and their tickets, under that of tickets; the cluster record has neither
   pub restores : FinMap nat_cmp Restoring
@@ -272,6 +274,7 @@ opened blobs cluster root =
       next_ticket = 1;
       next_id = first_id (suc cluster.ledger.term);
       doomed = [];
+      removed = [];
       deposed = false;
       restores = fin.empty;
       readers = fin.empty;

@@ -5,13 +5,15 @@ ghost use Rattle.std.specs.Prelude.{◌≡◌, Bool, true, false, Option, Some, 
 ghost use Rattle.esr_model.specs.Values.{Bytes, IndexRef, RootIndex, RootData, ClusterRecord, ReadsBack, Formats};
 ghost use Rattle.esr_model.specs.Names.{BlobName, Root};
 ghost use Rattle.esr_model.specs.Image.{Has, Blobs, Image, KeptBy, Present};
+ghost use Rattle.esr_model.specs.Reach.{Reached};
 ghost use Rattle.esr_model.specs.Kept.{Kept, RootIds, first_id};
 ghost use Rattle.esr_model.specs.Shelf.{Shelved, Command, shelf_after};
-ghost use Rattle.esr_core.specs.World.{World, Op, ShardWork, Restoring, Reader, Shard, Ticket, HeldIn, ledger_of, image_of, record_of, opened, Opened};
+ghost use Rattle.esr_core.specs.World.{World, Op, ShardWork, Restoring, Reader, Shard, Deleting, Ticket, Swap, HeldIn, ledger_of, image_of, record_of, opened, Opened};
 ghost use Rattle.esr_core.specs.Swaps.{TicketLaw};
 ghost use Rattle.esr_core.specs.Generations.{Carried};
 ghost use Rattle.esr_core.specs.Written.{Written};
 ghost use Rattle.esr_core.specs.Texts.{Texted};
+ghost use Rattle.esr_core.specs.Pruning.{dooms};
 ghost use Rattle.esr_core.specs.Steps.{Raise, Remove};
 ghost use Rattle.esr_core.specs.Sound.{Sound};
 ghost use Rattle.esr_core.specs.Queue.{Lists, Sole, QueueIn};
@@ -32,7 +34,7 @@ ghost use Rattle.esr_core.specs.Doomed.{Dooms};
 ghost use Rattle.esr_core.specs.Entry.{Moment, Restore, AskStep, SettleStep, WasSettled, Refusal, Refused, StaleTerm, AcceptedRestore};
 ghost use Rattle.esr_core.specs.After.{swaps_record, after};
 ghost use Rattle.esr_core.specs.Example.{CanWrite, HasSnapshot};
-ghost use Rattle.esr_core.specs.Allowed.{SameBlobs, Allowed, RestoredBy};
+ghost use Rattle.esr_core.specs.Allowed.{SameBlobs, SettlesDeletion, Allowed, RestoredBy};
 ghost use Rattle.esr_core.specs.History.{world_from, IsLegal, AllKnown, AreTold, AreHonest, committed, Lasts};
 ghost use Rattle.esr_core.specs.Left.{cut_off, Leaves, safe_in};
 ghost use Rattle.esr_core.specs.Refusing.{RefusedSo, SwapFailed};
@@ -182,6 +184,17 @@ pub fn metadata_stays()
 /// No doomed name has the uuid of an open op, or an id that a shard's ticket out has drawn.
 pub fn doomed_stay_apart()
     ensures { (f : Formats) (w new : World) (shelf : List Shelved) → Law f w shelf → w.deposed ≡ false → (turn : Turn f w new) → (name : BlobName) → Has new.doomed name → DoomedIds new.next_id new.ops new.tickets name }
+{}
+
+/// What a delete dooms with its settle the safe root reached, or it is that root's name; and the new root doesn't reach it.
+pub fn a_delete_dooms_what_it_leaves()
+    ensures was { (f : Formats) (w : World) (shelf : List Shelved) (k : ℕ) (s : SettlesDeletion f w k) → Law f w shelf → s.t.term ≡ w.term → (name : BlobName) → Has (dooms f s.t) name → Reached f (HeldIn f w) w.root name ⊎ ((m : ℕ) × (name ≡ Root m) × (w.safe ≡ suc m)) }
+    ensures left { (f : Formats) (w : World) (shelf : List Shelved) (k : ℕ) (s : SettlesDeletion f w k) → Law f w shelf → s.t.term ≡ w.term → (name : BlobName) → Has (dooms f s.t) name → Reached f (HeldIn f w) s.s.root name → ⊥ }
+{}
+
+/// What a delete's settled ticket doomed stays doomed.
+pub fn what_a_delete_dooms_stays_doomed()
+    ensures { (f : Formats) (w : World) (shelf : List Shelved) (k : ℕ) (t : Ticket) (uuids : List ℕ) (s : Swap) → Law f w shelf → fin.get w.tickets k ≡ Some t → t.settled ≡ true → t.work ≡ Deleting uuids (Some s) → (name : BlobName) → Has (dooms f t) name → Has w.doomed name }
 {}
 
 /// At most one ticket of the present term has a swap that it has not settled.

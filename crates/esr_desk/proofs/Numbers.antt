@@ -8,15 +8,16 @@ use Rattle.std.specs.FinMap as fin
 use Rattle.esr_model.specs.Names.{BlobName}
 use Rattle.esr_model.specs.Values.{Bytes, Has, ShardResult, Formats}
 use Rattle.esr_model.specs.Image.{Image}
-use Rattle.esr_core.specs.World.{World, Op, ShardWork, Drop, Swap, Ticket, ReadState, Restored, NotRestored, RestoreShard, Restoring, Reader, swap, record_of}
+use Rattle.esr_core.specs.World.{World, Op, ShardWork, Drop, Swap, Ticket, ReadState, Restored, NotRestored, RestoreShard, Restoring, Reader, swap, record_of, Deleting}
 use Rattle.esr_core.specs.Restores.{restore_shard, reader_of, read_more}
 use Rattle.esr_core.specs.Steps.{noting, shard_ticket, final_ticket}
 use Rattle.esr_core.specs.Turns.{plain_ticket}
-use Rattle.esr_core.specs.Entry.{Asked, Snapshot, Clone, DeleteSnapshots, Restore, Cleanup, Given, GivenShard, GivenFinalize, GivenDrop, GivenRestore, Read, ReadBlob, RestoredShard, CheckedAll, DrawTest, CommitTest, ReadFails, Step, AskStep, TakeStep, DrawStep, BeginStep, CommitStep, LatestStep, FetchStep, RaiseStep, SettleStep, DoneStep, FailedStep, FinishStep, DroppedStep, ElectStep, ReadStep, DepotFault, DeposedAt, Reply, Gave, DrawnFrom, WasDone, WasThere, WasFetched, HasEnded, Refused, AcceptedRestore, Moment}
+use Rattle.esr_core.specs.Entry.{Asked, Snapshot, Clone, DeleteSnapshots, Restore, Cleanup, Given, GivenShard, GivenFinalize, GivenDrop, GivenRestore, Read, ReadBlob, RestoredShard, CheckedAll, DrawTest, CommitTest, ReadFails, Step, AskStep, TakeStep, DrawStep, BeginStep, CommitStep, LatestStep, FetchStep, RaiseStep, SettleStep, DoneStep, FailedStep, FinishStep, DroppedStep, ElectStep, ReadStep, DepotFault, DeposedAt, Reply, Gave, DrawnFrom, WasDone, WasThere, WasFetched, HasEnded, Refused, AcceptedRestore, Moment, GivenDelete, Prune, PruneStep}
 use Rattle.esr_core.specs.After.{asked, taken_shard, taken_restore_shard, taken_restore, taken_by, read_told, shard_over, read_over, read_step, read_by, test_left, shard_of, with_given, committing, told_blob, fetching, settled_by, settled_of, done_by, done_of, is_stale, failed_by, failed_of, dropped_of, done_step, has_text, fallen, is_latest, faulted, answered, after}
 use Rattle.esr_core.specs.Allowed as allowed
-use Rattle.esr_core.specs.Allowed.{Fetcher, ByReader, ByCheck, ByVerify, RestoreAllows, OpeningRestore, ReadAllows, ReadFound, ReadMissing, ReadFault, RestoringShard, ReaderFailing, CheckingAll, CheckFailing, VerifyAllows, DrawingTest, Allows, Allowed}
+use Rattle.esr_core.specs.Allowed.{Fetcher, ByReader, ByCheck, ByVerify, RestoreAllows, OpeningRestore, ReadAllows, ReadFound, ReadMissing, ReadFault, RestoringShard, ReaderFailing, CheckingAll, CheckFailing, VerifyAllows, DrawingTest, PruneAllows, Allows, Allowed}
 use Rattle.esr_core.specs.History.{world_from, IsLegal}
+use Rattle.esr_core.proofs.PruneFrames.{PruneStays, prune_stays, prune_fault_stays}
 use Rattle.esr_desk.specs.Start.{Start, formats_of, world_of, Legal}
 use Rattle.esr_desk.specs.Once.{WasMade, HasMadeNone}
 use Rattle.esr_desk.specs.Numbered.{Numbered}
@@ -96,6 +97,7 @@ module _ (least : ℕ) where
   numbered_taken f w o (GivenFinalize info results) None n = n
   numbered_taken f w o GivenDrop op n = record { next = later w n; tickets = more_numbered w (plain_ticket w o Drop) n; readers = more_readers w n }
   numbered_taken f w o (GivenRestore index number uuid) op n = numbered_restore w o index number (fin.get w.restores o) n
+  numbered_taken f w o (GivenDelete uuids) op n = record { next = later w n; tickets = more_numbered w (plain_ticket w o (Deleting uuids None)) n; readers = more_readers w n }
   numbered_taken f w o unit op n = n
 
   numbered_settled_by : (f : Formats) (w : World) (k : ℕ) (t : Ticket) (s : Option Swap) (g : Option ℕ) → fin.get w.tickets k ≡ Some t → Numbered least w → Numbered least (settled_by f w k t s g)
@@ -161,6 +163,19 @@ module _ (least : ℕ) where
   numbered_read_by f w zero read reply image n = n
   numbered_read_by f w (suc k) read reply image n = numbered_read f w (suc k) read reply image n
 
+  -- ---- steps of a delete's ticket
+
+  numbered_prune : (w new : World) (k : ℕ) → PruneStays w new k → Numbered least w → Numbered least new
+  numbered_prune w new k h n =
+      record {
+        next = subst (λ (x : ℕ). least ≤ x) (sym h.next_ticket) n.next;
+        tickets = λ q t e. subst (λ (x : ℕ). q < x) (sym h.next_ticket) (elim h.tickets [
+          | inl same ↦ n.tickets q t (ap (λ (m : FinMap nat_cmp Ticket). fin.get m q) (sym same) ∙ e)
+          | inr a ↦ put_numbered w k a.t a.v n a.there q t (ap (λ (m : FinMap nat_cmp Ticket). fin.get m q) (sym a.is) ∙ e)
+        ]);
+        readers = λ q x e. subst (λ (y : ℕ). q < y) (sym h.next_ticket) (n.readers q x (ap (λ (m : FinMap nat_cmp Reader). fin.get m q) (sym h.readers) ∙ e));
+      }
+
   -- ---- all steps
 
   numbered_step : (f : Formats) (w : World) (k : ℕ) (step : Step) (reply : Reply) (image : Option Image) → Numbered least w → Numbered least (done_step f w k step reply image)
@@ -184,6 +199,7 @@ module _ (least : ℕ) where
   numbered_step f w k DroppedStep reply image n = numbered_dropped w k (fin.get w.tickets k) refl n
   numbered_step f w k ElectStep reply image n = record { next = n.next; tickets = n.tickets; readers = n.readers }
   numbered_step f w k (ReadStep read) reply image n = numbered_read_by f w k read reply image n
+  numbered_step f w k (PruneStep prune) reply image n = numbered_prune w _ k (prune_stays f w k prune reply image) n
   numbered_step f w k step reply image n = n
 
   -- ---- a step that failed
@@ -205,6 +221,7 @@ module _ (least : ℕ) where
   numbered_fault f w k LatestStep image n = numbered_tried w k n
   numbered_fault f w k (BeginStep name) image n = numbered_either _ w (is_latest name) (numbered_tried w k n) n
   numbered_fault f w k (ReadStep (CommitTest name)) image n = numbered_left w name (fin.get w.blobs (f.names.text name)) (told_blob f image name) n
+  numbered_fault f w k (PruneStep prune) image n = numbered_prune w _ k (prune_fault_stays f w k prune image) n
   numbered_fault f w k (AskStep (Snapshot name indices moment)) image n = numbered_fallen f w _ image n (numbered_step f w k (AskStep (Snapshot name indices moment)) HasEnded image n)
   numbered_fault f w k (AskStep (Clone source name indices moment)) image n = numbered_fallen f w w image n n
   numbered_fault f w k (AskStep (DeleteSnapshots names)) image n = numbered_fallen f w w image n n
@@ -246,6 +263,20 @@ reader_below f w who read reply image n (ReaderFailing k why im q by) = n.reader
 reader_below f w who read reply image n (CheckingAll snapshots blobs im may) = n.next
 reader_below f w who read reply image n (CheckFailing why im looked) = n.next
 
+prune_below : (f : Formats) (w : World) (who : ℕ) (prune : Prune) (reply : Reply) (image : Option Image) → Numbered 1 w → PruneAllows f w who prune reply image → who < w.next_ticket
+prune_below f w who prune reply image n (allowed.FetchingShard k name im g found) = n.tickets k g.t g.deleting.out.there
+prune_below f w who prune reply image n (allowed.ShardMissing k name im g found) = n.tickets k g.t g.deleting.out.there
+prune_below f w who prune reply image n (allowed.FetchShardFails k name im g same) = n.tickets k g.t g.deleting.out.there
+prune_below f w who prune reply image n (allowed.Planning k shards im p fits back same) = n.tickets k p.t p.deleting.out.there
+prune_below f w who prune reply image n (allowed.PlanSpent k shards im p spent same) = n.tickets k p.t p.deleting.out.there
+prune_below f w who prune reply image n (allowed.SettlingDelete k im s present same) = n.tickets k s.t s.may.out.there
+prune_below f w who prune reply image n (allowed.SettleDeleteStale k im s apart same) = n.tickets k s.t s.may.out.there
+prune_below f w who prune reply image n (allowed.SettleDeleteFails k im s present same) = n.tickets k s.t s.may.out.there
+prune_below f w who prune reply image n (allowed.RemovingDoomed k names im r removed) = n.tickets k r.t r.deleting.out.there
+prune_below f w who prune reply image n (allowed.RemoveDoomedFails k names im r removes) = n.tickets k r.t r.deleting.out.there
+prune_below f w who prune reply image n (allowed.EndingDelete k im e same) = n.tickets k e.t e.deleting.out.there
+prune_below f w who prune reply image n (allowed.FailingDelete k why im c same) = n.tickets k c.t c.deleting.out.there
+
 below : (f : Formats) (size : ℕ) (w : World) (who : ℕ) (step : Step) (reply : Reply) (image : Option Image) → Numbered 1 w → Allows f size w who step reply image → who < w.next_ticket
 below f size w who step reply image n (allowed.Accepting name indices time o im acc same) = n.next
 below f size w who step reply image n (allowed.GivingNothing im none same) = n.next
@@ -270,6 +301,7 @@ below f size w who step reply image n (allowed.Looking im same) = n.next
 below f size w who step reply image n (allowed.AskingRestore name place rep im h same) = n.next
 below f size w who step reply image n (allowed.Reading k read rep im h same) = reader_below f w k read rep im n h
 below f size w who step reply image n (allowed.Verifying read rep im h) = n.next
+below f size w who step reply image n (allowed.Pruning k prune rep im h) = prune_below f w k prune rep im n h
 below f size w who step reply image n (allowed.Cleaning c d x im recorded there clean same) = n.next
 below f size w who step reply image n (allowed.Used name indices time uuid im clear is same) = n.next
 below f size w who step reply image n (allowed.Full name indices time im clear unused full same) = n.next
@@ -326,11 +358,16 @@ gift_verify : (f : Formats) (w : World) (read : Read) (reply : Reply) (image : O
 gift_verify f w read reply image (DrawingTest im idle fits same) = tt
 gift_verify f w read reply image a = tt
 
+gift_prune : (f : Formats) (w : World) (who : ℕ) (prune : Prune) (reply : Reply) (image : Option Image) → PruneAllows f w who prune reply image → IsGift w who reply
+gift_prune f w who prune reply image (allowed.FetchingShard k name im g found) = tt
+gift_prune f w who prune reply image a = tt
+
 gift : (f : Formats) (size : ℕ) (w : World) (who : ℕ) (step : Step) (reply : Reply) (image : Option Image) → Allows f size w who step reply image → IsGift w who reply
 gift f size w who step reply image (allowed.Giving k o unit im is lowest g same) = (refl, is)
 gift f size w who step reply image (allowed.AskingRestore name place rep im a same) = gift_restore f w name rep im a
 gift f size w who step reply image (allowed.Reading k read rep im a same) = gift_read f w k read rep im a
 gift f size w who step reply image (allowed.Verifying read rep im a) = gift_verify f w read rep im a
+gift f size w who step reply image (allowed.Pruning k prune rep im a) = gift_prune f w k prune rep im a
 gift f size w who step reply image a = tt
 
 refused_gave : (place ticket op : ℕ) (unit : Given) → Refused (DeposedAt place) ≡ Gave ticket op unit → ⊥

@@ -1,8 +1,8 @@
 -- What a step of a ticket needs, by what the ticket has done.
-use Rattle.std.specs.Prelude.{◌≡◌, ◌≢◌, ◌⊎◌, ℕ, suc, ◌+◌, ◌^◌, ◌≤◌, true, false, length, Option, Some, None}
+use Rattle.std.specs.Prelude.{◌≡◌, ◌≢◌, ◌⊎◌, ℕ, suc, ◌+◌, ◌^◌, ◌≤◌, true, false, List, length, Option, Some, None}
 use Rattle.esr_model.specs.Names.{BlobName, Root, Latest, ShardSnap, ShardIndex}
 use Rattle.esr_model.specs.Values.{Bytes, Has, RootData, ShardResult}
-use Rattle.esr_core.specs.World.{Ticket, Shard, Drop, Swap, swap}
+use Rattle.esr_core.specs.World.{Ticket, Shard, Deleting, Drop, Swap, swap}
 use Rattle.esr_core.specs.Ready.{IsShard, IsMaster}
 use Rattle.esr_core.specs.Steps.{Drew, MayCommit}
 use Rattle.esr_core.specs.Allowed.{DoneBy, IsMetadata, latest_text}
@@ -60,6 +60,10 @@ pub record CanRaise (s : Start) (t : Ticket) : Type 0 where
   pub unsettled : t.settled ≡ false
   pub once : t.raised ≡ None
 
+-- the ticket is of no delete, which settles, fails and ends by steps of its own
+abbrev pub IsUnpruned : Ticket → Type 0
+IsUnpruned t = (uuids : List ℕ) (plan : Option Swap) → t.work ≡ Deleting uuids plan → ⊥
+
 -- it settles on the root of its unit when that is committed, with all that the unit writes before it, and `index.latest` was tried
 pub record CanSettle (s : Start) (t : Ticket) (root : RootData) : Type 0 where
   pub change : Swap
@@ -85,12 +89,14 @@ pub record CanFail (t : Ticket) : Type 0 where
   pub out : t.out ≡ true
   pub unsettled : t.settled ≡ false
   pub unit : IsShard t.work ⊎ IsMaster t.work
+  pub unpruned : IsUnpruned t
 
 -- a swap that has settled ends
 pub record CanFinish (t : Ticket) : Type 0 where
   pub out : t.out ≡ true
   pub no_shard : IsShard t.work → ⊥
   pub settled : t.settled ≡ true
+  pub unpruned : IsUnpruned t
 
 -- an op is dropped by the ticket that is for it
 pub record CanDrop (t : Ticket) : Type 0 where

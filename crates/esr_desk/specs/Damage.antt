@@ -1,9 +1,10 @@
 -- When the base of a shard is at fault.
-use Rattle.std.specs.Prelude.{◌≡◌, ◌⊎◌, ℕ, ◌≤◌, true, List, ◌∷◌, ◌++◌, Some, None}
+use Rattle.std.specs.Prelude.{◌≡◌, ◌⊎◌, ℕ, ◌≤◌, true, List, ◌∷◌, ◌++◌, Some}
 use Rattle.esr_model.specs.Names.{BlobName, ShardIndex}
 use Rattle.esr_model.specs.Values.{Bytes, Has, FileEntry, SnapList, ShardFiles}
 use Rattle.esr_core.specs.World.{Ticket, Shard}
-use Rattle.esr_core.specs.Entry.{FetchStep, WasAbsent, Moment}
+use Rattle.esr_core.specs.Entry.{Reason, FetchStep, Reply, WasFetched, Moment}
+use Rattle.esr_formats.specs.Reasons.{unreadable}
 use Rattle.esr_formats.specs.Shards.{shard_index_kind}
 use Rattle.esr_desk.specs.Start.{Start, ticket_of}
 
@@ -20,22 +21,21 @@ pub record IsBase (t : Ticket) (name : BlobName) : Type 0 where
 abbrev pub IsAhead : Ticket → ShardFiles → Type 0
 IsAhead t v = ((l : SnapList) × Has v.snapshots l × (l.uuid ≡ t.uuid)) ⊎ ((e : FileEntry) × Has v.files e × (1 ≤ t.drawn) × (t.first ≤ e.name))
 
--- these bytes are no index, or one that is ahead
-abbrev pub IsBad : Ticket → Bytes → Type 0
-IsBad t bytes = (shard_index_kind.read bytes ≡ None) ⊎ ((v : ShardFiles) × (shard_index_kind.read bytes ≡ Some v) × IsAhead t v)
-
--- a fetch of the ticket found no blob of this name
-pub record WasMissing (log : List Moment) (who : ℕ) (name : BlobName) : Type 0 where
+-- a fetch of this blob by the ticket was answered so
+pub record HadFetch (log : List Moment) (who : ℕ) (name : BlobName) (answer : Reply) : Type 0 where
   pub front : List Moment
   pub moment : Moment
   pub back : List Moment
   pub is : log ≡ front ++ moment ∷ back
   pub of : moment.entry.who ≡ who
   pub step : moment.entry.step ≡ FetchStep name
-  pub reply : moment.entry.reply ≡ WasAbsent
+  pub reply : moment.entry.reply ≡ answer
 
--- the base was absent, or its bytes, which the ticket has read where the container tells, are bad
-abbrev pub BaseFault : Start → List Moment → ℕ → BlobName → Type 0
-BaseFault s log who name =
-    WasMissing log who name
-    ⊎ ((bytes : Bytes) × (s.tells ≡ true → Has (ticket_of s log who).read (name, bytes)) × IsBad (ticket_of s log who) bytes)
+-- it was there, and its bytes, which the ticket has read where the container tells, don't read: this is the first reason
+abbrev pub WasUnreadable : Start → List Moment → ℕ → BlobName → Reason → Type 0
+WasUnreadable s log who name reason =
+    HadFetch log who name WasFetched × (bytes : Bytes) × (s.tells ≡ true → Has (ticket_of s log who).read (name, bytes)) × (unreadable name bytes ≡ Some reason)
+
+-- its bytes, which the ticket has read where the container tells, are an index that is ahead
+abbrev pub WasAhead : Start → Ticket → BlobName → Type 0
+WasAhead s t name = (bytes : Bytes) × (s.tells ≡ true → Has t.read (name, bytes)) × (v : ShardFiles) × (shard_index_kind.read bytes ≡ Some v) × IsAhead t v

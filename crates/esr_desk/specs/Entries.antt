@@ -1,21 +1,25 @@
 -- The entries of the history, as the definitions see them.
 use Rattle.std.specs.Prelude.{ℕ, map, option_map}
 use Rattle.esr_core.specs.Entry as entry
-use Rattle.esr_core.specs.Entry.{AskStep, TakeStep, DrawStep, BeginStep, CommitStep, LatestStep, FetchStep, ListStep, RaiseStep, SettleStep, DoneStep, FailedStep, FinishStep, DroppedStep, ElectStep, LookStep, ReadStep, ReadBlob, RestoredShard, CheckedAll, DrawTest, BeginTest, CommitTest, RemoveTests, VerifiedAll, ReadFails}
-use Rattle.esr_core.specs.Entry.{OfDepot, OfSource, OfChange, OfDamage, OfTaken, OfIdsSpent, OfGenerationsSpent, OfTarget, OfPrint, OfDisagreement, GivenShard, GivenFinalize, GivenDrop, GivenRestore, GivenClone, GivenDelete, GivenCleanup}
+use Rattle.esr_core.specs.Entry.{AskStep, TakeStep, DrawStep, BeginStep, CommitStep, LatestStep, FetchStep, ListStep, RaiseStep, SettleStep, DoneStep, FailedStep, FinishStep, DroppedStep, ElectStep, LookStep, ReadStep, PruneStep, ReadBlob, RestoredShard, CheckedAll, DrawTest, BeginTest, CommitTest, RemoveTests, VerifiedAll, ReadFails, FetchShard, PlanShards, SettlePruned, RemoveDoomed, EndDelete, DeleteFails}
+use Rattle.esr_core.specs.Entry.{OfDepot, OfSource, OfChange, OfAbsence, OfUnreadable, OfAhead, OfTaken, OfIdsSpent, OfGenerationsSpent, OfTarget, OfPrint, OfDisagreement, GivenShard, GivenFinalize, GivenDrop, GivenRestore, GivenClone, GivenDelete, GivenCleanup}
 use Rattle.esr_core.specs.Entry.{Accepted, NothingReady, Gave, DrawnFrom, WasBegun, WasDone, WasThere, WasReplaced, WasFetched, WasAbsent, WasListed, RaisedTo, WasSettled, HasEnded, ElectedTerm, Looked, Refused, WasRemoved, AcceptedRestore}
 use Rattle.esr_formats.specs.Ids.{number_of}
 use Rattle.esr_formats.specs.Names.{name_of}
+use Rattle.esr_formats.specs.Reasons.{reason_of}
 use Rattle.esr_formats.specs.Refs.{ref_of_code}
 use Rattle.esr_formats.specs.Roots.{root_snap_of}
 use Rattle.esr_formats.specs.Infos.{info_of_code}
 use Rattle.esr_formats.specs.Clusters.{count_of}
+use Rattle.esr_results.specs.Pruned.{pruned_of}
 use Rattle.esr_results.specs.Results.{result_of}
 use Rattle.esr_progress.specs.Asked.{asked_of}
 use Rattle.esr_desk.specs.declared.entry.Why.{Why}
 use Rattle.esr_desk.specs.declared.entry.Why.TheVariants as whys
 use Rattle.esr_desk.specs.declared.entry.Read.{Read}
 use Rattle.esr_desk.specs.declared.entry.Read.TheVariants as reads
+use Rattle.esr_desk.specs.declared.entry.Prune.{Prune}
+use Rattle.esr_desk.specs.declared.entry.Prune.TheVariants as prunes
 use Rattle.esr_desk.specs.declared.entry.Step.{Step}
 use Rattle.esr_desk.specs.declared.entry.Step.TheVariants as steps
 use Rattle.esr_desk.specs.declared.entry.Given.{Given}
@@ -28,7 +32,9 @@ abbrev pub why_of : Why → entry.Why
 why_of whys.Depot = OfDepot
 why_of whys.Source = OfSource
 why_of (whys.Changed first second) = OfChange first.len first.sha256 second.len second.sha256
-why_of (whys.Damaged name) = OfDamage (name_of name)
+why_of (whys.Absent name) = OfAbsence (name_of name)
+why_of (whys.Unreadable name reason) = OfUnreadable (name_of name) (reason_of reason)
+why_of (whys.Ahead name) = OfAhead (name_of name)
 why_of (whys.NameTaken name) = OfTaken (name_of name)
 why_of (whys.IdsSpent next) = OfIdsSpent next.number
 why_of (whys.GenerationsSpent number) = OfGenerationsSpent (count_of number)
@@ -46,6 +52,14 @@ read_of (reads.CommitTest name) = CommitTest (name_of name)
 read_of (reads.RemoveTests names) = RemoveTests (map name_of names)
 read_of reads.Verified = VerifiedAll
 read_of (reads.Failed why) = ReadFails (why_of why)
+
+abbrev pub prune_of : Prune → entry.Prune
+prune_of (prunes.Shard name) = FetchShard (name_of name)
+prune_of (prunes.Plan shards) = PlanShards (map pruned_of shards)
+prune_of prunes.Settle = SettlePruned
+prune_of (prunes.Remove names) = RemoveDoomed (map name_of names)
+prune_of prunes.End = EndDelete
+prune_of (prunes.Failed why) = DeleteFails (why_of why)
 
 abbrev pub step_of : Step → entry.Step
 step_of (steps.Ask command) = AskStep (asked_of command)
@@ -65,6 +79,7 @@ step_of steps.Dropped = DroppedStep
 step_of steps.Elect = ElectStep
 step_of steps.Look = LookStep
 step_of (steps.Read read) = ReadStep (read_of read)
+step_of (steps.Prune prune) = PruneStep (prune_of prune)
 
 abbrev pub unit_of : Given → entry.Given
 unit_of (units.Shard shard base) = GivenShard shard.index.number shard.number (option_map number_of base)

@@ -1,8 +1,8 @@
 -- No step is made twice on one name, and no blob is committed twice.
-use Rattle.std.specs.Prelude.{◌≡◌, ℕ, ◌≤◌, List, ◌∷◌, ◌++◌}
+use Rattle.std.specs.Prelude.{◌≡◌, ℕ, ◌≤◌, List, [], ◌∷◌, ◌++◌}
 use Rattle.esr_model.specs.Names.{BlobName}
 use Rattle.esr_model.specs.Values.{Has}
-use Rattle.esr_core.specs.Entry.{Read, ReadBlob, Step, DrawStep, BeginStep, CommitStep, LatestStep, FetchStep, ListStep, RaiseStep, SettleStep, ReadStep, DeposedAt, Reply, Refused, Moment}
+use Rattle.esr_core.specs.Entry.{Read, ReadBlob, Prune, FetchShard, PlanShards, SettlePruned, RemoveDoomed, Step, DrawStep, BeginStep, CommitStep, LatestStep, FetchStep, ListStep, RaiseStep, SettleStep, ReadStep, PruneStep, DeposedAt, Reply, Refused, Moment}
 use Rattle.esr_core.specs.Allowed.{IsMetadata}
 use Rattle.esr_desk.specs.Start.{Start, ticket_of}
 
@@ -17,6 +17,14 @@ abbrev pub IsBlobRead : Read → Type 0
 IsBlobRead (ReadBlob name) = Unit {0}
 IsBlobRead read = ⊥
 
+-- a delete's ticket plans, settles and removes no name at all at most once
+abbrev pub IsOnePrune : Prune → Type 0
+IsOnePrune (FetchShard name) = Unit {0}
+IsOnePrune (PlanShards shards) = Unit {0}
+IsOnePrune SettlePruned = Unit {0}
+IsOnePrune (RemoveDoomed []) = Unit {0}
+IsOnePrune prune = ⊥
+
 -- a ticket makes the step once, on each name where it has one
 abbrev pub IsSingle : Step → Type 0
 IsSingle (DrawStep count) = Unit {0}
@@ -28,11 +36,18 @@ IsSingle ListStep = Unit {0}
 IsSingle RaiseStep = Unit {0}
 IsSingle SettleStep = Unit {0}
 IsSingle (ReadStep read) = IsBlobRead read
+IsSingle (PruneStep prune) = IsOnePrune prune
 IsSingle step = ⊥
+
+-- the step without its shards: two plans are one step, whatever they plan
+abbrev pub unplanned : Prune → Prune
+unplanned (PlanShards shards) = PlanShards []
+unplanned prune = prune
 
 -- the step without a count: two draws are one step, however many ids they draw
 abbrev pub uncounted : Step → Step
 uncounted (DrawStep count) = DrawStep 0
+uncounted (PruneStep prune) = PruneStep (unplanned prune)
 uncounted step = step
 
 -- the step was made: it was not refused as deposed

@@ -3,7 +3,7 @@ use Rattle.std.specs.Prelude.{◌≡◌, ◌<◌, ℕ, Bool, true, false, List, 
 use Rattle.esr_model.specs.Names.{BlobName}
 use Rattle.esr_model.specs.Values.{Bytes, Has}
 use Rattle.esr_core.specs.World.{Ticket, Work, Shard, Finalize, Deleting, Drop}
-use Rattle.esr_core.specs.Entry.{Why, OfDepot, OfSource, OfChange, OfDamage, OfTaken, OfIdsSpent, OfGenerationsSpent, OfTarget, OfPrint, OfDisagreement, Step, BeginStep, LatestStep, FailedStep, HasEnded, Refused, Refusal, DepotFault, NameTaken, IdsSpent, GenerationsSpent, Moment}
+use Rattle.esr_core.specs.Entry.{Why, OfDepot, OfSource, OfChange, OfAbsence, OfUnreadable, OfAhead, OfTaken, OfIdsSpent, OfGenerationsSpent, OfTarget, OfPrint, OfDisagreement, Step, BeginStep, LatestStep, FailedStep, WasAbsent, HasEnded, Refused, Refusal, DepotFault, NameTaken, IdsSpent, GenerationsSpent, Moment}
 use Rattle.esr_core.specs.After.{is_latest}
 use Rattle.esr_source.specs.declared.address.Address.{Address}
 use Rattle.esr_desk.specs.declared.fault.FailedObject.TheVariants as objects
@@ -11,7 +11,7 @@ use Rattle.esr_desk.specs.declared.fault.Fault.{Fault}
 use Rattle.esr_desk.specs.declared.fault.By.{By}
 use Rattle.esr_desk.specs.declared.fault.By.TheVariants as by
 use Rattle.esr_desk.specs.Start.{Start, ticket_of}
-use Rattle.esr_desk.specs.Damage.{IsBase, BaseFault}
+use Rattle.esr_desk.specs.Damage.{IsBase, HadFetch, WasUnreadable, WasAhead}
 
 -- how often an object of each kind has failed, and for which address a shard was made
 pub record Counts (S F H T : Type 0) : Type 0 where
@@ -108,14 +108,16 @@ StepShown (by.Object object) shown = ⊥
 StepShown by.Entry shown = shown
 StepShown by.Nothing shown = ⊥
 
--- By its cause: an object that failed, or a step; or two prints of a file, which the sources don't tell, differ; or the base is
--- at fault; or a step was refused, since a name was taken or numbers were spent.
+-- By its cause: an object that failed, or a step; or two prints of a file, which the sources don't tell, differ; or the base was
+-- absent, doesn't read for this reason, or is ahead; or a step was refused, since a name was taken or numbers were spent.
 abbrev pub IsShown : {S F H T : Type 0} → Counts S F H T → Start → List Moment → ℕ → Why → By S F H T → Type 0
 IsShown c s log who OfDepot b = DepotShown c s log who b
 IsShown c s log who OfSource b = SourceShown c s (ticket_of s log who) b
 IsShown c s log who (OfChange first_len first_digest second_len second_digest) b =
     ReadShown b (((first_len ≡ second_len) → (first_digest ≡ second_digest) → ⊥) × IsUntold s (ticket_of s log who))
-IsShown c s log who (OfDamage name) b = ReadShown b (IsBase (ticket_of s log who) name × BaseFault s log who name)
+IsShown c s log who (OfAbsence name) b = ReadShown b (IsBase (ticket_of s log who) name × HadFetch log who name WasAbsent)
+IsShown c s log who (OfUnreadable name reason) b = ReadShown b (IsBase (ticket_of s log who) name × WasUnreadable s log who name reason)
+IsShown c s log who (OfAhead name) b = ReadShown b (IsBase (ticket_of s log who) name × WasAhead s (ticket_of s log who) name)
 IsShown c s log who (OfTaken name) b = StepShown b (HadRefusal log who (NameTaken name))
 IsShown c s log who (OfIdsSpent next) b = StepShown b (HadRefusal log who (IdsSpent next))
 IsShown c s log who (OfGenerationsSpent pending) b = StepShown b (HadRefusal log who (GenerationsSpent pending))

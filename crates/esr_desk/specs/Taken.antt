@@ -4,7 +4,7 @@ use Rattle.esr_model.specs.Names.{BlobName}
 use Rattle.esr_model.specs.Values.{Bytes, RootData}
 use Rattle.esr_model.specs.Shelf.{Shelved}
 use Rattle.esr_model.specs.Finalize.{finalized_root}
-use Rattle.esr_core.specs.World.{Ticket, Work, Shard, Finalize, Drop}
+use Rattle.esr_core.specs.World.{Ticket, Work, Shard, Finalize, Deleting, Drop}
 use Rattle.esr_core.specs.Entry.{Moment}
 use Rattle.esr_core.specs.After.{committing, fetching, is_latest}
 use Rattle.esr_core.specs.Steps.{noting}
@@ -61,6 +61,7 @@ TookWork (works.Finalize info shards) new op copy t =
     (term : ℕ) × (made : Shelved) × (t ≡ fresh (Finalize (info_of_code info) (map result_of shards) made) op info.uuid.number [] [] term copy)
     × NewRoot new (finalized_root (root_of copy.root) (info_of_code info) (map result_of shards))
 TookWork works.Drop new op copy t = (term : ℕ) × (t ≡ fresh Drop op 0 [] [] term copy)
+TookWork (works.Delete uuids) new op copy t = (term : ℕ) × (t ≡ fresh (Deleting (map number_of uuids) None) op 0 [] [] term copy)
 -- a restore's ticket is none of these, and the others are not given so far
 TookWork work new op copy t = ⊥
 

@@ -1,10 +1,10 @@
--- A ticket that tells which steps it has made, its fetches aside.
+-- A ticket that tells which steps it has made, its fetches and the plan of a delete aside.
 use Rattle.std.specs.Prelude.{◌≡◌, ◌≢◌, ◌⊎◌, ℕ, false, true, List, [], ◌∷◌, ◌++◌, Option, Some, None}
 use Rattle.std.proofs.Common.{refl, sym, ap, ◌∙◌, subst, inl, inr, ⊎_elim, true≢false}
 use Rattle.esr_model.specs.Names.{BlobName, Latest}
 use Rattle.esr_model.specs.Values.{Bytes, Has}
 use Rattle.esr_core.specs.World.{Ticket}
-use Rattle.esr_core.specs.Entry.{Step, DrawStep, BeginStep, CommitStep, LatestStep, FetchStep, RaiseStep, SettleStep, Reply, WasBegun, Moment}
+use Rattle.esr_core.specs.Entry.{Step, DrawStep, BeginStep, CommitStep, LatestStep, FetchStep, RaiseStep, SettleStep, PruneStep, FetchShard, PlanShards, SettlePruned, RemoveDoomed, EndDelete, DeleteFails, Reply, WasBegun, Moment}
 use Rattle.esr_core.specs.After.{fetching}
 use Rattle.esr_depot.specs.declared.depot.Commit.{Commit}
 use Rattle.esr_depot.specs.declared.depot.Commit.TheVariants as commits
@@ -21,6 +21,8 @@ TellsStep t (CommitStep name) = Has t.noted name
 TellsStep t LatestStep = t.tried_latest ≡ true
 TellsStep t RaiseStep = t.raised ≢ None
 TellsStep t SettleStep = t.settled ≡ true
+TellsStep t (PruneStep SettlePruned) = t.settled ≡ true
+TellsStep t (PruneStep (RemoveDoomed names)) = t.settled ≡ true
 TellsStep t step = Unit {0}
 
 -- and so it tells each step that it made
@@ -59,10 +61,22 @@ stepped_made s old new who step reply m h has by made =
 -- a step is new to a ticket that doesn't tell it
 tells_one : (t : Ticket) (step : Step) → TellsStep t step → TellsStep t (uncounted step)
 tells_one t (DrawStep count) h = h
+tells_one t (PruneStep (FetchShard name)) h = h
+tells_one t (PruneStep (PlanShards shards)) h = h
+tells_one t (PruneStep SettlePruned) h = h
+tells_one t (PruneStep (RemoveDoomed names)) h = h
+tells_one t (PruneStep EndDelete) h = h
+tells_one t (PruneStep (DeleteFails why)) h = h
 tells_one t step h = h
 
 one_tells : (t : Ticket) (step : Step) → TellsStep t (uncounted step) → TellsStep t step
 one_tells t (DrawStep count) h = h
+one_tells t (PruneStep (FetchShard name)) h = h
+one_tells t (PruneStep (PlanShards shards)) h = h
+one_tells t (PruneStep SettlePruned) h = h
+one_tells t (PruneStep (RemoveDoomed names)) h = h
+one_tells t (PruneStep EndDelete) h = h
+one_tells t (PruneStep (DeleteFails why)) h = h
 one_tells t step h = h
 
 pub untold_new : (s : Start) (log : List Moment) (who : ℕ) (step : Step) → TellsAll s log who → (TellsStep (ticket_of s log who) step → ⊥) → IsNew log who step
@@ -125,6 +139,8 @@ gone_tells old new on (CommitStep name) h = on.noted name h
 gone_tells old new on LatestStep h = on.tried h
 gone_tells old new on RaiseStep h = on.raised h
 gone_tells old new on SettleStep h = on.settled h
+gone_tells old new on (PruneStep SettlePruned) h = on.settled h
+gone_tells old new on (PruneStep (RemoveDoomed names)) h = on.settled h
 gone_tells old new on step h = tt
 
 pub gone_not : (t : Ticket) → HasGoneOn t t
@@ -230,3 +246,12 @@ pub fetch_tells : {F : Type 0} (s : Start) (old new : List Moment) (who : ℕ) (
 fetch_tells s old new who name left o tells h is =
     let t = ticket_of s old who in
     stepped_tells s old new who (FetchStep name) (fetch_reply o) tells h (subst (TellsAsMuch t) (sym is) (gone_tells t (fetched_by left name o t) (fetched_on left name o t))) tt
+
+-- a delete's settle and its removals
+pub prune_new : (s : Start) (log : List Moment) (who : ℕ) → TellsAll s log who → (ticket_of s log who).settled ≡ false → IsNew log who (PruneStep SettlePruned)
+prune_new s log who tells unsettled = untold_new s log who (PruneStep SettlePruned) tells (λ told. true≢false (sym told ∙ unsettled))
+
+-- a ticket that hasn't settled has removed nothing
+pub none_removed : (s : Start) (log : List Moment) (who : ℕ) (m : Moment) (names : List BlobName) → TellsAll s log who → (ticket_of s log who).settled ≡ false → Has log m → m.entry.who ≡ who → WasMade m.entry.reply
+    → m.entry.step ≡ PruneStep (RemoveDoomed names) → ⊥
+none_removed s log who m names tells unsettled has by made is = true≢false (sym (subst (TellsStep (ticket_of s log who)) is (tells m has by made)) ∙ unsettled)

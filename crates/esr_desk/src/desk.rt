@@ -16,7 +16,7 @@ ghost use Rattle.esr_desk.specs.Start.{Start, ticket_of, told_bytes};
 ghost use Rattle.esr_desk.specs.Once.{IsNew, HasMadeNone};
 ghost use Rattle.esr_desk.specs.Shown.{IsShown, NeverFailed};
 ghost use Rattle.esr_desk.specs.Outcome.{Outcome, commit_reply, fetch_reply, take_reply};
-ghost use Rattle.esr_desk.specs.Conditions.{CanDraw, CanCommit, CanPut, CanBegin, Holds, CanFetch, CanRaise, CanSettle, CanEnd, CanFail, CanFinish, CanDrop};
+ghost use Rattle.esr_desk.specs.Conditions.{CanDraw, CanCommit, CanPut, CanBegin, Holds, CanFetch, CanRaise, IsUnpruned, CanSettle, CanEnd, CanFail, CanFinish, CanDrop};
 ghost use Rattle.esr_desk.specs.Readers.{TookUnit, IsBare};
 ghost use Rattle.esr_desk.specs.Taken.{committed_by, begun_by, tried_by, fetched_by, LeftBy, HasRaised, IsSettled, HasEndedAs};
 ghost use Rattle.esr_desk.specs.declared.refusal.StepRefusal.{StepRefusal};
@@ -180,6 +180,7 @@ pub trait Desk {
     fn settle(&mut self, alloc: Global, ticket: u64, root: &RootData) -> Result<(), StepRefusal>
         requires mine { holds self.old ticket }
         requires may { CanSettle start (ticket_of start (seen self.old) ticket) (root_of root.now) }
+        requires unpruned { IsUnpruned (ticket_of start (seen self.old) ticket) }
         requires new { IsNew (seen self.old) ticket SettleStep }
         ensures step { Outcome start (seen self.old) (seen self.new) ticket SettleStep (λ _. WasSettled) result }
         ensures own { OnOk result (ticket_of start (seen self.new) ticket

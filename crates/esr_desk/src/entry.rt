@@ -1,10 +1,11 @@
 //! The history of a repository's steps.
 use crate::EntryRefusal;
 use esr_hash::Print;
+use esr_json::Reason;
 use esr_meta::SnapInfo;
 use esr_names::{BlobName, Id, Ids, IndexRefs, ShardId};
 use esr_progress::Command;
-use esr_results::{ShardResult, ShardResults};
+use esr_results::{PrunedShards, ShardResult, ShardResults};
 use esr_root::RootSnaps;
 use esr_seq::Seq;
 use std::marker::Model;
@@ -21,8 +22,17 @@ pub enum Why {
         first: Print,
         second: Print,
     },
-    /// A blob of this name was absent, or doesn't read.
-    Damaged {
+    /// A blob of this name was absent.
+    Absent {
+        name: BlobName,
+    },
+    /// What was fetched of this blob doesn't read, for this reason.
+    Unreadable {
+        name: BlobName,
+        reason: Reason,
+    },
+    /// The index on which a shard builds reads, but has what it can't have yet.
+    Ahead {
         name: BlobName,
     },
     /// A blob of this name, which the unit was to commit, was there already.
@@ -72,6 +82,19 @@ pub enum Read {
     Failed { why: Why },
 }
 
+/// A step of a delete's ticket, its writing aside.
+#[derive(Debug, Drop)]
+pub enum Prune {
+    /// The index of a shard is fetched.
+    Shard { name: BlobName },
+    /// These are the shards whose generation goes.
+    Plan { shards: PrunedShards },
+    Settle,
+    Remove { names: BlobNames },
+    End,
+    Failed { why: Why },
+}
+
 /// What was asked.
 #[derive(Debug, Drop)]
 pub enum Step {
@@ -92,6 +115,7 @@ pub enum Step {
     Elect,
     Look,
     Read { read: Read },
+    Prune { prune: Prune },
 }
 
 /// The unit that a ticket was given.
@@ -118,7 +142,6 @@ pub enum Given {
         source: Id,
         base: Option<Id>,
     },
-    /// Not given so far.
     Delete {
         uuids: Ids,
     },

@@ -10,7 +10,7 @@ mod refusal;
 mod unit;
 
 pub use desk::Desk;
-pub use entry::{Answer, BlobNames, Entry, Given, History, Read, Step, Why};
+pub use entry::{Answer, BlobNames, Entry, Given, History, Prune, Read, Step, Why};
 pub use fault::{By, FailedObject, Fault, Faults};
 pub use law::each_ticket_is_new;
 pub use named::Named;

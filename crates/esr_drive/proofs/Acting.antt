@@ -7,10 +7,10 @@ use Rattle.esr_model.specs.Image.{Image}
 use Rattle.esr_core.specs.World.{World, ReadState, Restored, NotRestored, Restoring, Reader, Ticket}
 use Rattle.esr_core.specs.Restores.{IsReading, read_more}
 use Rattle.esr_core.specs.Steps.{IsOut}
-use Rattle.esr_core.specs.Entry.{Given, Restore, Read, ReadBlob, RestoredShard, CheckedAll, DrawTest, CommitTest, ReadFails, Step, AskStep, TakeStep, ReadStep, DeposedAt, Reply, Gave, DrawnFrom, WasDone, WasFetched, HasEnded, Refused, Moment}
+use Rattle.esr_core.specs.Entry.{Given, Restore, Read, ReadBlob, RestoredShard, CheckedAll, DrawTest, CommitTest, ReadFails, Step, AskStep, TakeStep, ReadStep, DeposedAt, Reply, Gave, DrawnFrom, WasDone, WasFetched, HasEnded, Refused, Moment, Prune, PruneStep}
 use Rattle.esr_core.specs.After.{read_told, shard_over, read_over, read_step, read_by, told_blob, done_step, answered, after}
 use Rattle.esr_core.specs.Allowed as allowed
-use Rattle.esr_core.specs.Allowed.{RestoreAllows, OpeningRestore, ReadAllows, ReadFound, RestoringShard, ReaderFailing, CheckingAll, CheckFailing, VerifyAllows, DrawingTest, VerifyingAll, VerifyFailing, Allows, Allowed}
+use Rattle.esr_core.specs.Allowed.{PruneAllows, RestoreAllows, OpeningRestore, ReadAllows, ReadFound, RestoringShard, ReaderFailing, CheckingAll, CheckFailing, VerifyAllows, DrawingTest, VerifyingAll, VerifyFailing, Allows, Allowed}
 use Rattle.esr_core.specs.ReadTracked.{ReadTracked}
 use Rattle.esr_core.proofs.Queues.{same_in}
 use Rattle.esr_drive.proofs.Readers.{Readers, held, GivesNone, same_step, same_refused}
@@ -41,6 +41,11 @@ says_verify f w read reply image (VerifyingAll im verifies same) = inl refl
 says_verify f w read reply image (VerifyFailing why im begun same) = inl refl
 says_verify f w read reply image a = tt
 
+says_prune : (f : Formats) (w : World) (who : ℕ) (prune : Prune) (reply : Reply) (image : Option Image) → PruneAllows f w who prune reply image → Says w who reply (PruneStep prune)
+says_prune f w who prune reply image (allowed.EndingDelete k im e same) = (e.t, e.deleting.out)
+says_prune f w who prune reply image (allowed.FailingDelete k why im c same) = (c.t, c.deleting.out)
+says_prune f w who prune reply image a = tt
+
 says : (f : Formats) (size : ℕ) (w : World) (who : ℕ) (step : Step) (reply : Reply) (image : Option Image) → Allows f size w who step reply image → Says w who reply step
 says f size w who step reply image (allowed.Giving k o unit im is lowest g same) = (refl, is)
 says f size w who step reply image (allowed.Doing k result im d same) = (d.t, d.out)
@@ -50,6 +55,7 @@ says f size w who step reply image (allowed.Dropping k im d same) = (d.may.t, d.
 says f size w who step reply image (allowed.AskingRestore name place rep im a same) = says_restore f w name place rep im a
 says f size w who step reply image (allowed.Reading k read rep im a same) = says_read f w k read rep im a
 says f size w who step reply image (allowed.Verifying read rep im a) = says_verify f w read rep im a
+says f size w who step reply image (allowed.Pruning k prune rep im a) = says_prune f w k prune rep im a
 says f size w who step reply image a = tt
 
 refused_not : (place : ℕ) → Refused (DeposedAt place) ≡ HasEnded → ⊥

@@ -3,7 +3,7 @@ use Rattle.std.proofs.Common.{◌≡◌, ◌≢◌, inl, inr, IfErr, ℕ, List, 
 use Rattle.std.specs.Result.{IsErrAnd}
 use Rattle.esr_model.specs.Values.{Bytes}
 use Rattle.esr_core.specs.World.{World}
-use Rattle.esr_core.specs.Entry.{Step, TakeStep, RaiseStep, SettleStep, DroppedStep, Refusal, Refused, Reply, Moment}
+use Rattle.esr_core.specs.Entry.{SettlePruned, Step, TakeStep, RaiseStep, SettleStep, DroppedStep, PruneStep, Refusal, Refused, Reply, Moment}
 use Rattle.esr_core.specs.Refusing.{MayRefuse, InCleanup, DropFault, DropStale, RefusedSo}
 use Rattle.esr_core.proofs.Histories.{legal_parts}
 use Rattle.esr_core.proofs.Refusing.{refused_so}
@@ -21,7 +21,8 @@ use Rattle.esr_reading.specs.Shown as reading
 use Rattle.esr_upload.specs.Refused as uploads
 use Rattle.esr_finish.specs.Refused as finishes
 use Rattle.esr_restore.specs.Refused as restores
-use Rattle.esr_drive.specs.Stopped.{StopsWork, SaidDeposed, SettleFell, DropFell, RaiseLate, SettleLate, DropLate, IsHalted, IsUnitStopped, IsStopped}
+use Rattle.esr_delete.specs.Refused as deletes
+use Rattle.esr_drive.specs.Stopped.{StopsWork, SaidDeposed, SettleFell, DropFell, DeleteFell, RaiseLate, SettleLate, DropLate, DeleteLate, IsHalted, IsUnitStopped, IsStopped}
 
 -- ---- a step that was refused
 
@@ -97,6 +98,12 @@ finish_halted s log who (steps.Refused (refusals.StaleTerm own now)) (inl h) = (
 finish_halted s log who (steps.Refused (refusals.StaleTerm own now)) (inr h) = (SettleStep, h, SettleLate own now)
 finish_halted s log who e h = halted s log who e h
 
+delete_halted : (s : Start) (log : List Moment) (who : ℕ) (e : StepRefusal) → deletes.Stops s log who e → IsHalted s log who e
+delete_halted s log who (steps.Refused refusals.DepotFault) h = (PruneStep SettlePruned, h, DeleteFell)
+delete_halted s log who (steps.Refused (refusals.StaleTerm own now)) (inl h) = (RaiseStep, h, RaiseLate own now)
+delete_halted s log who (steps.Refused (refusals.StaleTerm own now)) (inr h) = (PruneStep SettlePruned, h, DeleteLate own now)
+delete_halted s log who e h = halted s log who e h
+
 -- ... of a shard
 pub upload_stopped : {S F H T : Type 0} (c : desk.Counts S F H T) (files : Option (List (Bytes × Bytes))) (s : Start) (old new : List Moment) (who : ℕ) (result : Result (Unit {0}) UnitRefusal) → IfErr result (uploads.IsUnitRefused c files s old new who) → IfErr result (IsUnitStopped s new who)
 upload_stopped c files s old new who (Ok x) h = tt
@@ -108,6 +115,12 @@ pub finish_stopped : {S : Type 0} (s : Start) (faults : S → ℕ) (old new : Li
 finish_stopped s faults old new who (Ok x) h = tt
 finish_stopped s faults old new who (Err (units.Failed why)) h = tt
 finish_stopped s faults old new who (Err (units.Stopped refusal)) h = finish_halted s new who refusal h.2
+
+-- ... of a delete
+pub delete_stopped : {S F : Type 0} (s : Start) (stages : S → ℕ) (fetches : F → ℕ) (old new : List Moment) (who : ℕ) (result : Result (Unit {0}) UnitRefusal) → IfErr result (λ e. deletes.IsUnitRefused s stages fetches old new who e) → IfErr result (IsUnitStopped s new who)
+delete_stopped s stages fetches old new who (Ok x) h = tt
+delete_stopped s stages fetches old new who (Err (units.Failed why)) h = tt
+delete_stopped s stages fetches old new who (Err (units.Stopped refusal)) h = delete_halted s new who refusal h.2
 
 -- ... of a restore
 pub restore_halted : {F T : Type 0} (c : reading.Counts F T) (s : Start) (old new : List Moment) (who : ℕ) (e : UnitRefusal) (refusal : StepRefusal) → e ≡ units.Stopped refusal → restores.IsUnitRefused c s old new who e → IsHalted s new who refusal

@@ -10,8 +10,9 @@ use Rattle.esr_model.specs.Image.{Image}
 use Rattle.esr_core.specs.World.{World, Op, ShardWork, Swap, Ticket, ReadState, Restored, NotRestored, RestoreShard, Restoring, Reader, swap, record_of}
 use Rattle.esr_core.specs.Restores.{restore_shard}
 use Rattle.esr_core.specs.Steps.{noting}
-use Rattle.esr_core.specs.Entry.{Asked, Snapshot, Clone, DeleteSnapshots, Restore, Cleanup, Given, GivenShard, GivenFinalize, GivenDrop, GivenRestore, Read, ReadBlob, RestoredShard, CheckedAll, DrawTest, CommitTest, ReadFails, Step, AskStep, TakeStep, DrawStep, BeginStep, CommitStep, LatestStep, FetchStep, RaiseStep, SettleStep, DoneStep, FailedStep, FinishStep, DroppedStep, ElectStep, ReadStep, DepotFault, Reply, Gave, DrawnFrom, WasDone, WasThere, WasFetched, HasEnded, Refusal, Refused, AcceptedRestore, Moment}
+use Rattle.esr_core.specs.Entry.{Asked, Snapshot, Clone, DeleteSnapshots, Restore, Cleanup, Given, GivenShard, GivenFinalize, GivenDrop, GivenRestore, Read, ReadBlob, RestoredShard, CheckedAll, DrawTest, CommitTest, ReadFails, Step, AskStep, TakeStep, DrawStep, BeginStep, CommitStep, LatestStep, FetchStep, RaiseStep, SettleStep, DoneStep, FailedStep, FinishStep, DroppedStep, ElectStep, ReadStep, DepotFault, Reply, Gave, DrawnFrom, WasDone, WasThere, WasFetched, HasEnded, Refusal, Refused, AcceptedRestore, Moment, PruneStep}
 use Rattle.esr_core.specs.After.{asked, taken_shard, taken_restore_shard, taken_restore, taken_by, read_told, shard_over, read_over, read_step, read_by, test_left, shard_of, with_given, committing, told_blob, fetching, settled_by, settled_of, done_by, done_of, is_stale, failed_by, failed_of, dropped_of, done_step, has_text, fallen, is_latest, faulted, answered, after}
+use Rattle.esr_core.proofs.PruneFrames.{prune_stays, prune_fault_stays}
 use Rattle.esr_core.proofs.Queues.{other_in}
 
 abbrev pub Readers : Type 0
@@ -86,6 +87,7 @@ same_step f w k FinishStep reply image other = same_change w k (λ t. record t {
 same_step f w k DroppedStep reply image other = same_dropped w k (fin.get w.tickets k)
 same_step f w k ElectStep reply image other = refl
 same_step f w k (ReadStep read) reply image other = absurd other
+same_step f w k (PruneStep prune) reply image other = (prune_stays f w k prune reply image).readers
 same_step f w k step reply image other = refl
 
 -- ---- a step that failed
@@ -113,6 +115,7 @@ same_fault f w k (AskStep Cleanup) image = same_fallen f w w image refl
 same_fault f w k RaiseStep image = same_fallen f w _ image (same_step f w k RaiseStep HasEnded image tt)
 same_fault f w k SettleStep image = same_fallen f w _ image (same_step f w k SettleStep HasEnded image tt)
 same_fault f w k DroppedStep image = same_fallen f w _ image (same_step f w k DroppedStep HasEnded image tt)
+same_fault f w k (PruneStep prune) image = (prune_fault_stays f w k prune image).readers
 same_fault f w k ElectStep image = same_fallen f w _ image (same_step f w k ElectStep HasEnded image tt)
 same_fault f w k step image = refl
 

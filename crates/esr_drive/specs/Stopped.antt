@@ -1,7 +1,7 @@
 -- Why the work stopped before all units were done.
 use Rattle.std.specs.Prelude.{◌≡◌, ◌≢◌, ◌⊎◌, ℕ, false, List, Result, Ok, Err}
 use Rattle.esr_core.specs.World.{Ticket}
-use Rattle.esr_core.specs.Entry.{Step, TakeStep, RaiseStep, SettleStep, DroppedStep, Refusal, DeposedAt, StaleTerm, DepotFault, Refused, Moment}
+use Rattle.esr_core.specs.Entry.{SettlePruned, Step, TakeStep, RaiseStep, SettleStep, DroppedStep, PruneStep, Refusal, DeposedAt, StaleTerm, DepotFault, Refused, Moment}
 use Rattle.esr_progress.specs.declared.unit.Work.{Work}
 use Rattle.esr_progress.specs.declared.unit.Work.TheVariants as works
 use Rattle.esr_desk.specs.declared.refusal.StepRefusal.{StepRefusal}
@@ -21,13 +21,15 @@ IsDrop work = ⊥
 pub data StopsWork : Step → Refusal → Type 0 where
   -- a record swap had failed
   SaidDeposed : (step : Step) (place : ℕ) → StopsWork step (DeposedAt place)
-  -- the record swap failed: of a settle, or of the drop of an op
+  -- the record swap failed: of a settle, of the drop of an op, or of a delete's settle
   SettleFell : StopsWork SettleStep DepotFault
   DropFell : StopsWork DroppedStep DepotFault
+  DeleteFell : StopsWork (PruneStep SettlePruned) DepotFault
   -- the term of the ticket is over
   RaiseLate : (own now : ℕ) → StopsWork RaiseStep (StaleTerm own now)
   SettleLate : (own now : ℕ) → StopsWork SettleStep (StaleTerm own now)
   DropLate : (own now : ℕ) → StopsWork DroppedStep (StaleTerm own now)
+  DeleteLate : (own now : ℕ) → StopsWork (PruneStep SettlePruned) (StaleTerm own now)
 
 -- memory was wanting, or turns were spent; or the last step, which is of this ticket, was refused so that the work stops
 abbrev pub IsHalted : Start → List Moment → ℕ → StepRefusal → Type 0

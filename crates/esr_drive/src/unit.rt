@@ -15,6 +15,7 @@ ghost use Rattle.esr_drive.specs.Filled.{IsRestore, IsFilled, filled_by};
 
 use crate::law::laws;
 use crate::restored::RestoredTarget;
+use esr_deleting::DeleteDesk;
 use esr_desk::{Desk, StepRefusal, Unit, UnitRefusal};
 use esr_progress::{ReadyUnit, Work};
 use esr_reading::RestoreDesk;
@@ -35,7 +36,7 @@ fn drop_op<Q: Desk>(alloc: Global, desk: &mut Q, unit: &Unit) -> Result<(), Unit
 }
 
 /// Does what the unit of an op that is no restore is to do.
-fn do_op_unit<Q: Desk<Shard = S::Shard>, S: Sources, G: Gate>(
+fn do_op_unit<Q: DeleteDesk<Shard = S::Shard>, S: Sources, G: Gate>(
     alloc: Global,
     desk: &mut Q,
     unit: &Unit,
@@ -49,6 +50,7 @@ fn do_op_unit<Q: Desk<Shard = S::Shard>, S: Sources, G: Gate>(
     requires sources { AreSources Q.start (S.files sources.now) (S.is_there sources.now) (S.is_quiet sources.now) }
     requires size { part_size ≡ Q.start.part_size }
     requires sized { (1 ≤ part_size) × (part_size ≤ 2 ^ 30) }
+    requires alone { Q.start.alone ≡ true }
     ensures stopped { IfErr result (IsUnitStopped Q.start (Q.seen desk.new) unit.now.ready.ticket) }
     ensures ended { HasEnded result (ticket_of Q.start (Q.seen desk.new) unit.now.ready.ticket) }
     ensures grew { GrewBy Q.start unit.now.ready.ticket (Q.seen desk.old) (Q.seen desk.new) }
@@ -57,12 +59,13 @@ fn do_op_unit<Q: Desk<Shard = S::Shard>, S: Sources, G: Gate>(
         Work::Shard { .. } => esr_upload::run_unit(alloc, desk, unit, sources, gate, part_size),
         Work::Finalize { .. } => esr_finish::run_unit(alloc, desk, unit),
         Work::Drop => drop_op(alloc, desk, unit),
+        Work::Delete { .. } => esr_delete::run_unit(alloc, desk, unit),
         _ => unreachable!("no other unit is given"),
     }
 }
 
 /// The same. One that fails is no reason to stop.
-fn do_op<Q: Desk<Shard = S::Shard>, S: Sources, G: Gate>(
+fn do_op<Q: DeleteDesk<Shard = S::Shard>, S: Sources, G: Gate>(
     alloc: Global,
     desk: &mut Q,
     unit: &Unit,
@@ -80,6 +83,7 @@ fn do_op<Q: Desk<Shard = S::Shard>, S: Sources, G: Gate>(
     requires sized { (1 ≤ part_size) × (part_size ≤ 2 ^ 30) }
     requires tracked { ReadTracked Q.start.world }
     requires ops { Tracked Q.start.world }
+    requires alone { Q.start.alone ≡ true }
     ensures stopped { IfErr result (IsHalted Q.start (Q.seen desk.new) unit.now.ready.ticket) }
     ensures over { OnOk result (Q.start.alone ≡ true → NothingOut Q.start (Q.seen desk.new) unit.now.ready.ticket) }
     ensures none { Q.start.alone ≡ true → RestoresNone (Q.seen desk.old) (Q.seen desk.new) }
@@ -143,7 +147,7 @@ fn do_restore<Q: RestoreDesk, T: Targets<Target = Q::Target>>(
 
 /// Does what a unit is to do, and answers the target that it filled, if it is of a restore. One that fails is no reason to stop.
 pub fn do_next<
-    Q: RestoreDesk<Shard = S::Shard, Target = T::Target>,
+    Q: RestoreDesk<Shard = S::Shard, Target = T::Target> + DeleteDesk,
     S: Sources,
     T: Targets,
     G: Gate,
@@ -167,6 +171,7 @@ pub fn do_next<
     requires sized { (1 ≤ part_size) × (part_size ≤ 2 ^ 30) }
     requires tracked { ReadTracked Q.start.world }
     requires ops { Tracked Q.start.world }
+    requires alone { Q.start.alone ≡ true }
     ensures stopped { IfErr result (IsHalted Q.start (Q.seen desk.new) unit.ready.ticket) }
     ensures over { OnOk result (Q.start.alone ≡ true → NothingOut Q.start (Q.seen desk.new) unit.ready.ticket) }
     ensures restored { Q.start.alone ≡ true → AreTargetsOf (record { made_for = T.Target.made_for; files = T.Target.files; is_sure = T.Target.is_sure; begun = T.Target.begun; faults = T.Target.faults; are_told = T.is_told targets.now; are_quiet = T.is_quiet targets.now })

@@ -18,6 +18,7 @@ ghost use Rattle.esr_drive.specs.Filled.{filled_of};
 use crate::law::laws;
 use crate::restored::{RestoredTarget, Worked};
 use crate::unit::do_next;
+use esr_deleting::DeleteDesk;
 use esr_desk::{Desk, StepRefusal};
 use esr_reading::RestoreDesk;
 use esr_seq::Seq;
@@ -36,7 +37,12 @@ fn keep<T: Drop>(restored: &mut Vec<RestoredTarget<T>>, target: Option<RestoredT
 
 /// Takes a unit, does it, and goes on until none is ready; the targets that are filled are put to those that are given. There is
 /// room for each before its unit is taken.
-fn work_all<Q: RestoreDesk<Shard = S::Shard, Target = T::Target>, S: Sources, T: Targets, G: Gate>(
+fn work_all<
+    Q: RestoreDesk<Shard = S::Shard, Target = T::Target> + DeleteDesk,
+    S: Sources,
+    T: Targets,
+    G: Gate,
+>(
     alloc: Global,
     desk: &mut Q,
     sources: &S,
@@ -53,6 +59,7 @@ fn work_all<Q: RestoreDesk<Shard = S::Shard, Target = T::Target>, S: Sources, T:
     requires numbered { HasNoTickets Q.start }
     requires tracked { ReadTracked Q.start.world }
     requires ops { Tracked Q.start.world }
+    requires alone { Q.start.alone ≡ true }
     ensures idle { OnOk result (IsLast (Q.seen desk.new) 0 TakeStep NothingReady) }
     ensures stopped { IfErr result (IsStopped Q.start (Q.seen desk.new)) }
     ensures rest { OnOk result (Q.start.alone ≡ true → NoneOut Q.start (Q.seen desk.old) → NoneOut Q.start (Q.seen desk.new)) }
@@ -84,7 +91,12 @@ fn work_all<Q: RestoreDesk<Shard = S::Shard, Target = T::Target>, S: Sources, T:
 /// Takes a unit, does it, and goes on until none is ready. A unit that fails is no reason to stop; a step that is refused is.
 /// The targets that restores filled are handed over in each case. Where nobody else makes a step, all tickets have ended where
 /// no unit is ready, if they had before.
-pub fn work<Q: RestoreDesk<Shard = S::Shard, Target = T::Target>, S: Sources, T: Targets, G: Gate>(
+pub fn work<
+    Q: RestoreDesk<Shard = S::Shard, Target = T::Target> + DeleteDesk,
+    S: Sources,
+    T: Targets,
+    G: Gate,
+>(
     alloc: Global,
     desk: &mut Q,
     sources: &S,
@@ -99,6 +111,7 @@ pub fn work<Q: RestoreDesk<Shard = S::Shard, Target = T::Target>, S: Sources, T:
     requires numbered { HasNoTickets Q.start }
     requires tracked { ReadTracked Q.start.world }
     requires ops { Tracked Q.start.world }
+    requires alone { Q.start.alone ≡ true }
     ensures idle { result.stop ≡ None → IsLast (Q.seen desk.new) 0 TakeStep NothingReady }
     ensures stopped { IfSome result.stop (IsStopped Q.start (Q.seen desk.new)) }
     ensures rest { result.stop ≡ None → Q.start.alone ≡ true → NoneOut Q.start (Q.seen desk.old) → NoneOut Q.start (Q.seen desk.new) }

@@ -1,10 +1,11 @@
 -- From one part of the unit to the next.
-use Rattle.std.proofs.Common.{◌≡◌, inl, inr, ℕ, List, [], ◌∷◌, map, Option, Some, refl, sym, ap, ◌∙◌, subst}
+use Rattle.std.proofs.Common.{◌≡◌, inl, inr, ℕ, true, List, [], ◌∷◌, map, Option, Some, refl, sym, ap, ◌∙◌, subst}
 use Rattle.esr_model.specs.Names.{BlobName, Root, Snap, Meta, IndexMeta}
 use Rattle.esr_model.specs.Values.{Bytes, Has, IndexRef, RootData, SnapInfo, Formats}
 use Rattle.esr_model.specs.Finalize.{finalized_root}
 use Rattle.esr_model.specs.Shelf.{Create}
-use Rattle.esr_core.specs.World.{Ticket, Swap, Finalize, swap, metadata}
+use Rattle.esr_core.specs.World.{Ticket, Swap, Finalize, Deleting, swap, metadata}
+use Rattle.esr_core.specs.Ready.{IsShard, IsMaster}
 use Rattle.esr_root.specs.Root as code
 use Rattle.esr_meta.specs.Info.{Info}
 use Rattle.esr_results.specs.declared.result.ShardResult.{ShardResult}
@@ -15,7 +16,7 @@ use Rattle.esr_progress.specs.declared.unit.Copied.{Copied}
 use Rattle.esr_formats.specs.Infos.{info_of_code}
 use Rattle.esr_formats.specs.Roots.{root_of}
 use Rattle.esr_desk.specs.Start.{Start, formats_of}
-use Rattle.esr_desk.specs.Conditions.{CanSettle}
+use Rattle.esr_desk.specs.Conditions.{CanSettle, CanFail, CanFinish, IsUnpruned}
 use Rattle.esr_desk.specs.Taken.{fresh, TookWork}
 use Rattle.esr_finish.specs.Blobs.{index_blob}
 use Rattle.esr_finish.specs.Ticket.{HasSwap, MayWrite, MayPutRoot, noted_with, Wrote, IsWritten}
@@ -115,3 +116,39 @@ pub took_writes : (s : Start) (t : Ticket) (work : Work) (new : Option code.Root
 took_writes s t work new op copy info shards root work_is new_is took =
     took_may s t info shards root op copy
     (subst (λ (w : Work). TookWork w (Some root) op copy t) work_is (subst (λ (n : Option code.Root). TookWork work n op copy t) new_is took))
+
+-- a finalization's ticket is of no delete
+pub took_unpruned : (t : Ticket) (work : Work) (new : Option code.Root) (op : ℕ) (copy : Copied) (info : Info) (shards : List ShardResult) → work ≡ works.Finalize info shards → TookWork work new op copy t → IsUnpruned t
+took_unpruned t work new op copy info shards work_is took uuids plan is =
+    let (term, made, t_is, root_is) = subst (λ (w : Work). TookWork w new op copy t) work_is took in
+    let same : Finalize (info_of_code info) (map result_of shards) made ≡ Deleting uuids plan = sym (ap (λ (u : Ticket). u.work) t_is) ∙ is in
+    cc
+
+-- also once it has worked
+pub worked_unpruned : (a b : Ticket) → Worked a b → IsUnpruned a → IsUnpruned b
+worked_unpruned a b worked none uuids plan is = none uuids plan (sym (ap (λ (t : Ticket). t.work) worked.is) ∙ is)
+
+-- it may fail before it settles
+pub final_fails : (a b : Ticket) (work : Work) (new : Option code.Root) (op : ℕ) (copy : Copied) (info : Info) (shards : List ShardResult) → work ≡ works.Finalize info shards → TookWork work new op copy a → Worked a b → CanFail b
+final_fails a b work new op copy info shards work_is took worked =
+    let (term, made, t_is, root_is) = subst (λ (w : Work). TookWork w new op copy a) work_is took in
+    record {
+      out = ap (λ (t : Ticket). t.out) worked.is ∙ ap (λ (t : Ticket). t.out) t_is;
+      unsettled = ap (λ (t : Ticket). t.settled) worked.is ∙ ap (λ (t : Ticket). t.settled) t_is;
+      unit = inr (subst IsMaster (sym (ap (λ (t : Ticket). t.work) worked.is ∙ ap (λ (t : Ticket). t.work) t_is)) tt);
+      unpruned = worked_unpruned a b worked (took_unpruned a work new op copy info shards work_is took);
+    }
+
+-- it ends when it has settled
+pub final_ends : (a b c : Ticket) (work : Work) (new : Option code.Root) (op : ℕ) (copy : Copied) (info : Info) (shards : List ShardResult) → work ≡ works.Finalize info shards → TookWork work new op copy a → Worked a b
+    → c ≡ record b { settled = true } → CanFinish c
+final_ends a b c work new op copy info shards work_is took worked settled =
+    let fails = final_fails a b work new op copy info shards work_is took worked in
+    let (term, made, t_is, root_is) = subst (λ (w : Work). TookWork w new op copy a) work_is took in
+    let is = ap (λ (t : Ticket). t.work) settled in
+    record {
+      out = ap (λ (t : Ticket). t.out) settled ∙ fails.out;
+      no_shard = λ shard. subst IsShard (is ∙ ap (λ (t : Ticket). t.work) worked.is ∙ ap (λ (t : Ticket). t.work) t_is) shard;
+      settled = ap (λ (t : Ticket). t.settled) settled;
+      unpruned = λ uuids plan deletes. fails.unpruned uuids plan (sym is ∙ deletes);
+    }

@@ -1,10 +1,13 @@
 -- A ticket whose swap's blobs are put one after another.
-use Rattle.std.proofs.Common.{◌≡◌, ◌≢◌, inl, inr, ⊎_elim, ℕ, List, [], ◌∷◌, ◌++◌, refl, sym, ap, ◌∙◌, subst}
+use Rattle.std.proofs.Common.{◌≡◌, ◌≢◌, inl, inr, ⊎_elim, ℕ, Bool, true, false, List, [], ◌∷◌, ◌++◌, Some, None, Result, Ok, Err, OnOk, refl, sym, ap, ◌∙◌, subst}
+use Rattle.std.specs.Prelude.{if◌then◌else◌}
+use Rattle.std.specs.Result.{is_err}
+use Rattle.std.specs.Io.KnownBytes.{append_known}
 use Rattle.esr_model.specs.Names.{BlobName, Root, Latest}
 use Rattle.esr_model.specs.Values.{Bytes, Has, RootData}
 use Rattle.esr_core.specs.World.{Ticket, Swap}
 use Rattle.esr_core.specs.Allowed.{IsMetadata}
-use Rattle.esr_desk.specs.Start.{Start, formats_of}
+use Rattle.esr_desk.specs.Start.{Start, formats_of, told_bytes}
 use Rattle.esr_desk.specs.Conditions.{CanCommit}
 use Rattle.esr_finish.specs.Blobs.{root_blob}
 use Rattle.esr_finish.specs.Ticket.{HasSwap, MayPut, MayPutRoot, noted_with, Wrote, raised_to}
@@ -13,6 +16,20 @@ use Rattle.esr_finish.specs.Went.{Worked}
 -- a ticket that has worked has its swap still
 pub swap_stays : (s : Start) (a b : Ticket) (change : Swap) → Worked a b → HasSwap s a change → HasSwap s b change
 swap_stays s a b change worked has = subst (λ (t : Ticket). HasSwap s t change) (sym worked.is) (record { out = has.out; is = has.is; unsettled = has.unsettled })
+
+-- ---- one blob
+
+-- the bytes of a stage that began empty
+pub told_append : (s : Start) (bytes : Bytes) → append_known (told_bytes s []) bytes ≡ told_bytes s bytes
+told_append s bytes = by_tells s.tells bytes
+  where
+    by_tells : (tells : Bool) (bytes : Bytes) → append_known (if tells then Some [] else None) bytes ≡ (if tells then Some bytes else None)
+    by_tells true bytes = refl
+    by_tells false bytes = refl
+
+pub on_ok : {T E : Type 0} (result : Result T E) (P : Type 0) → is_err result ≡ false → OnOk result P → P
+on_ok (Ok x) P ok h = h
+on_ok (Err e) P ok h = absurd cc
 
 pub may_commit : (s : Start) (t : Ticket) (b : BlobName × Bytes) → MayPut s t (b ∷ []) → b.0 ≢ Latest → IsMetadata b.0 → CanCommit s t b.0 b.1
 may_commit s t b may stored metadata = record {

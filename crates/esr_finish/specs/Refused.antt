@@ -83,7 +83,9 @@ abbrev pub HadCause : {S : Type 0} → Start → (S → ℕ) → List Moment →
 HadCause s faults log who whys.Depot = HasFault s faults log who
 HadCause s faults log who whys.Source = ⊥
 HadCause s faults log who (whys.Changed first second) = ⊥
-HadCause s faults log who (whys.Damaged name) = ⊥
+HadCause s faults log who (whys.Absent name) = ⊥
+HadCause s faults log who (whys.Unreadable name reason) = ⊥
+HadCause s faults log who (whys.Ahead name) = ⊥
 HadCause s faults log who (whys.NameTaken name) = HadRefusal log who (NameTaken (name_of name))
 HadCause s faults log who (whys.IdsSpent next) = ⊥
 HadCause s faults log who (whys.GenerationsSpent number) = HadRefusal log who (GenerationsSpent (count_of number))

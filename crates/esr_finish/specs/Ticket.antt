@@ -4,7 +4,8 @@ use Rattle.esr_model.specs.Names.{BlobName, Root}
 use Rattle.esr_model.specs.Values.{Bytes, Has, RootData, SnapInfo, Formats}
 use Rattle.esr_core.specs.World.{Ticket, Swap, swap, metadata}
 use Rattle.esr_core.specs.Entry.{Moment}
-use Rattle.esr_desk.specs.Start.{Start, formats_of, ticket_of}
+use Rattle.esr_desk.specs.Start.{Start, formats_of, ticket_of, told_bytes}
+use Rattle.esr_desk.specs.Conditions.{CanCommit}
 use Rattle.esr_finish.specs.Blobs.{root_blob}
 
 -- ---- what it may do
@@ -18,6 +19,10 @@ pub record HasSwap (s : Start) (t : Ticket) (change : Swap) : Type 0 where
 -- the blobs are among those that its swap writes before the root
 abbrev pub MayPut : Start → Ticket → List (BlobName × Bytes) → Type 0
 MayPut s t blobs = (change : Swap) × HasSwap s t change × ((b : BlobName × Bytes) → Has blobs b → Has change.own b)
+
+-- the blob may be committed, as far as the container tells its bytes
+abbrev pub MayStore : Start → Ticket → BlobName → Bytes → Type 0
+MayStore s t name bytes = (told : Bytes) × (told_bytes s bytes ≡ told_bytes s told) × CanCommit s t name told
 
 -- the name isn't noted
 abbrev pub IsUnnoted : Ticket → BlobName → Type 0

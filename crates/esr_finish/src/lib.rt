@@ -2,9 +2,12 @@
 #![tactic(auto)]
 
 mod metadata;
-mod put;
+mod one_blob;
 mod refusal;
 mod root;
 mod unit;
 
+pub use one_blob::put;
+pub use refusal::PutRefusal;
+pub use root::{put_latest, put_root};
 pub use unit::run_unit;

@@ -14,7 +14,7 @@ ghost use Rattle.esr_finish.specs.Ticket.{MayPut, IsUnnoted, Puts};
 ghost use Rattle.esr_finish.specs.Went.{Went};
 ghost use Rattle.esr_finish.specs.Refused.{IsPutRefused};
 
-use crate::put::put;
+use crate::one_blob::put;
 use crate::refusal::PutRefusal;
 use esr_desk::Desk;
 use esr_formats::{write_global, write_index_meta, write_info};

@@ -11,7 +11,7 @@ ghost use Rattle.esr_finish.specs.Went.{Went};
 ghost use Rattle.esr_finish.specs.Refused.{IsPutRefused};
 
 use crate::metadata::put_metadata;
-use crate::put::put;
+use crate::one_blob::put;
 use crate::refusal::PutRefusal;
 use esr_depot::Stage;
 use esr_desk::{Desk, EntryRefusal, Named, StepRefusal};
@@ -22,7 +22,7 @@ use esr_root::RootData;
 use std::alloc::Global;
 
 /// Begins a generation and writes its root, `index-N`; answers N.
-fn put_root<Q: Desk>(
+pub fn put_root<Q: Desk>(
     alloc: Global,
     desk: &mut Q,
     ticket: u64,
@@ -50,7 +50,7 @@ fn put_root<Q: Desk>(
 }
 
 /// Puts the generation into `index.latest`. Nothing reads that blob, so where the container fails in a step it is left.
-fn put_latest<Q: Desk>(
+pub fn put_latest<Q: Desk>(
     alloc: Global,
     desk: &mut Q,
     ticket: u64,

@@ -10,3 +10,4 @@ pub mod IndexMetas
 pub mod Shards
 pub mod Clusters
 pub mod Formats
+pub mod Reasons

@@ -2,6 +2,8 @@
 #![tactic(auto)]
 
 #[cfg(test)]
+mod deletes;
+#[cfg(test)]
 mod held;
 #[cfg(test)]
 mod opening;

@@ -50,6 +50,10 @@ const CREATES: &str =
 const DELETES: &str =
     r#"{"ops":[{"kind":"delete","op":5,"uuids":["AAAAAAAAAAEAAAAAAAAAAA"]}],"pending":-1,"safe":-1,"term":1}"#;
 
+/// The first delete of that record.
+const KEPT: &str =
+    r#"{"ops":[{"kind":"delete","op":1,"uuids":["AAAAAAAAAAEAAAAAAAAAAA"]}],"pending":-1,"safe":-1,"term":2}"#;
+
 /// What is shown; what fails; the record, root and info that were left; the record after the opening, or the name of what is
 /// damaged, or another refusal; and what is wrong with it.
 type Case = (
@@ -62,7 +66,7 @@ type Case = (
     Option<Why>,
 );
 
-const OPENED: [Case; 3] = [
+const OPENED: [Case; 4] = [
     ("nothing", Faulty::Nothing, "", "", "", FIRST, None),
     ("an open op", Faulty::Nothing, CREATES, "", "", SECOND, None),
     (
@@ -74,9 +78,18 @@ const OPENED: [Case; 3] = [
         THIRD,
         None,
     ),
+    (
+        "an open delete",
+        Faulty::Nothing,
+        DELETES,
+        "",
+        "",
+        KEPT,
+        None,
+    ),
 ];
 
-const RECORDS: [Case; 5] = [
+const RECORDS: [Case; 4] = [
     (
         "no record",
         Faulty::Nothing,
@@ -107,15 +120,6 @@ const RECORDS: [Case; 5] = [
         Some(Why::ForeignId {
             id: Id { number: 1 << 64 },
         }),
-    ),
-    (
-        "an open delete",
-        Faulty::Nothing,
-        DELETES,
-        "",
-        "",
-        "record",
-        Some(Why::OpenDelete { op: 5 }),
     ),
     (
         "the last term",

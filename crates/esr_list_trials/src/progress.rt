@@ -11,7 +11,7 @@ use std::alloc::Global;
 use std::test::Fail;
 
 /// A snapshot of an index `logs` of two shards.
-fn logs_command(alloc: Global, name: &str) -> Result<Command, Fail>
+pub(crate) fn logs_command(alloc: Global, name: &str) -> Result<Command, Fail>
     ensures { IfOk result (λ x. IsAskable (asked_of x)) }
 {
     let mut indices = Seq::new(alloc);

@@ -1,6 +1,7 @@
 //! What lines are answered by short histories.
 use esr_desk::{Answer, BlobNames, Entry, EntryRefusal, Given, History, Read, Step, Why};
 use esr_hash::Print;
+use esr_json::Reason;
 use esr_names::{BlobName, Id, IndexName, IndexRef, IndexRefs, ShardId, SnapName};
 use esr_progress::{AskedIndices, Command};
 use esr_report::{end_of_run, replies, report};
@@ -338,7 +339,7 @@ const RESTORES: [Case; 9] = [
                 (0, Does::Take, Gets::Shard(3, 2, 0)),
                 (
                     3,
-                    Does::EndRead(Why::Damaged {
+                    Does::EndRead(Why::Absent {
                         name: BlobName::Root(7),
                     }),
                     Gets::Ended,
@@ -366,7 +367,7 @@ const PRINT: Print = Print {
 };
 
 /// What the first shard of a restore failed by, and the exit status.
-const CAUSES: [(&str, Why, u8); 10] = [
+const CAUSES: [(&str, Why, u8); 12] = [
     ("depot", Why::Depot, 1),
     ("source", Why::Source, 1),
     (
@@ -378,8 +379,23 @@ const CAUSES: [(&str, Why, u8); 10] = [
         1,
     ),
     (
-        "damaged",
-        Why::Damaged {
+        "absent",
+        Why::Absent {
+            name: BlobName::Root(7),
+        },
+        4,
+    ),
+    (
+        "unreadable",
+        Why::Unreadable {
+            name: BlobName::Root(7),
+            reason: Reason::Json,
+        },
+        4,
+    ),
+    (
+        "ahead",
+        Why::Ahead {
             name: BlobName::Root(7),
         },
         4,
@@ -537,8 +553,9 @@ const CHECKS: [Case; 9] = [
             &LOOKED,
             &[(
                 0,
-                Does::EndRead(Why::Damaged {
+                Does::EndRead(Why::Unreadable {
                     name: BlobName::Root(7),
+                    reason: Reason::Unlisted,
                 }),
                 Gets::Ended,
             )],

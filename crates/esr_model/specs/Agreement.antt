@@ -1,5 +1,6 @@
 -- A root that is whole: it is there with all that it reaches, and no two of these blobs disagree. What keeps a repository asks more
--- of a root (that it stands for a shelf, and that uuids in an index of a shard are below its generation); a check finds just this.
+-- of a root (that it stands for a shelf, and that uuids in an index of a shard are below its generation), so a root that stands agrees;
+-- a check finds just this.
 use Rattle.std.specs.Prelude.{◌≡◌, ℕ, ◌<◌}
 use Rattle.esr_model.specs.Names.{BlobName, Root, Snap, Meta, IndexMeta, ShardSnap, ShardIndex}
 use Rattle.esr_model.specs.Values.{Bytes, Has, IndexRef, RootSnap, RootIndex, RootData, SnapInfo, FileEntry, ShardSnapshot, SnapList, ShardFiles, Formats}

@@ -126,17 +126,18 @@ pub record SnapStands (f : Formats) (has : BlobName → Bytes → Type 0) (root 
   pub exact : (x : RootIndex) → Has root.indices x → Has x.snapshots snap.uuid → (r : IndexRef) × Has info.indices r × (r.name ≡ x.name) × (r.id ≡ x.id)
   pub shards : AllPairs (ShardStands f has root snap.uuid) (shelf_places info.indices) shelved.shards
 
--- a shard index of the root reads, and each file that it lists stands
-pub record IndexStands (f : Formats) (has : BlobName → Bytes → Type 0) (index shard generation : ℕ) : Type 0 where
+-- a shard index of the root reads, each file that it lists stands, and what a listed snapshot that it lists has of the shard reads
+pub record IndexStands (f : Formats) (has : BlobName → Bytes → Type 0) (root : RootData) (index shard generation : ℕ) : Type 0 where
   pub held : ShardFiles
   pub held_reads : Reads has (ShardIndex index shard generation) f.shard_index held
   pub files : (e : FileEntry) → Has held.files e → (bytes : Bytes) × FileStands f has index shard e bytes
+  pub snaps : (l : SnapList) (s : RootSnap) → Has held.snapshots l → Has root.snapshots s → l.uuid ≡ s.uuid → (v : ShardSnapshot) × Reads has (ShardSnap index shard s.uuid) f.shard_snap v
   pub below : (l : SnapList) → Has held.snapshots l → l.uuid < generation
 
 -- all that a root reaches is there, and its snapshots are the shelf
 pub record RootStands (f : Formats) (has : BlobName → Bytes → Type 0) (root : RootData) (shelf : List Shelved) : Type 0 where
   pub snapshots : AllPairs (SnapStands f has root) root.snapshots shelf
-  pub indices : (index shard generation : ℕ) → Generation root index shard generation → IndexStands f has index shard generation
+  pub indices : (index shard generation : ℕ) → Generation root index shard generation → IndexStands f has root index shard generation
 
 -- the root N is there, and all that it reaches
 pub record Stands (f : Formats) (has : BlobName → Bytes → Type 0) (n : ℕ) (shelf : List Shelved) : Type 0 where

@@ -1,5 +1,5 @@
 -- A record and a root that can be opened: their ids, names and numbers.
-use Rattle.std.proofs.Common.{◌≡◌, ◌⊎◌, inl, inr, ℕ, suc, ◌+◌, ◌<◌, ◌≤◌, Bool, true, false, ◌==◌, ℤ, pos, negsuc, ◌≤ℤ◌, List, [], ◌∷◌, ◌++◌, length, map, codes, Option, Some, None, Result, Ok, Err, refl, sym, ap, ◌∙◌, subst, ⊎_elim, arith, eq-eqb, nat_cmp, Ordering}
+use Rattle.std.proofs.Common.{◌≡◌, ◌⊎◌, inl, inr, ℕ, suc, ◌+◌, ◌<◌, ◌≤◌, true, false, cond, eqb, ℤ, pos, negsuc, ◌≤ℤ◌, List, [], ◌∷◌, ◌++◌, length, map, Option, Some, None, Result, Ok, Err, refl, sym, ap, ◌∙◌, subst, arith, eq-eqb, nat_cmp, Ordering}
 use Rattle.std.specs.Prelude.{if◌then◌else◌}
 use Rattle.std.specs.Ordering.{is_eq}
 use Rattle.std.specs.FinMap.{FinMap}
@@ -9,14 +9,15 @@ use Rattle.std.specs.declared.cmp.Ordering.TheVariants.{Less}
 use Rattle.std.proofs.lemmas.Bool.{eqb-true, true≢false}
 use Rattle.std.proofs.lemmas.Int.{ints}
 use Rattle.esr_names.specs.declared.ids.Id.{Id}
-use Rattle.esr_model.specs.Values.{Bytes, Has, RootSnap, RootIndex, RootData, RecordWork, ClusterRecord, ReadsBack}
+use Rattle.esr_model.specs.Values.{Has, RootSnap, RootIndex, RootData, RecordWork, DeletingOf, ClusterRecord, ReadsBack}
 use Rattle.esr_model.specs.Image.{Generation}
 use Rattle.esr_model.specs.Kept.{first_id, RootIds}
-use Rattle.esr_core.specs.World.{World, Op, Deletion, opened, record_of, record_ops, work_of, deletion_work, kept_deletes, numbered_deletes}
+use Rattle.esr_core.specs.World.{Op, Deletion, opened, record_of, record_ops, work_of, kept_deletes, numbered_deletes}
 use Rattle.esr_core.specs.Tracked.{Tracked, IsOneIndex}
 use Rattle.esr_core.specs.Ranked.{Ranked}
+use Rattle.esr_core.proofs.Lists.{numbered_from}
 use Rattle.esr_depot.specs.Image.{Image as Held, Blobs}
-use Rattle.esr_record.specs.Record.{Record, AreNumbers}
+use Rattle.esr_record.specs.Record.{Record}
 use Rattle.esr_record.specs.declared.op.RecordOp.{RecordOp}
 use Rattle.esr_record.specs.declared.op.OpWork.{OpWork}
 use Rattle.esr_record.specs.declared.op.OpWork.TheVariants as works
@@ -30,11 +31,14 @@ use Rattle.esr_formats.specs.Ids.{number_of}
 use Rattle.esr_formats.specs.Roots.{root_of, root_snap_of, root_index_of}
 use Rattle.esr_formats.specs.Clusters.{count_of, work_of_code, op_of, cluster_of, cluster_kind}
 use Rattle.esr_results.proofs.Choices.{named_so, below}
+use Rattle.esr_progress.specs.Deletes.{deletion_entry, kept_delete, kept_from}
+use Rattle.esr_progress.specs.Inside.{numbers_of, Rise}
+use Rattle.esr_progress.proofs.Entries.{find-cons, get_from, get_put, same_maps}
+use Rattle.esr_progress.proofs.Numbers.{entries_from}
 use Rattle.esr_opening.specs.Foreign.{snapshot_ids, index_ids, root_ids, first_from}
-use Rattle.esr_opening.specs.Found.{Obstacle, Damage, ◌>>=◌, known_by, known_ids, is_delete, no_delete, has_term, safe_number}
-use Rattle.esr_opening.specs.declared.refusal.Why.TheVariants.{OpenDelete}
+use Rattle.esr_opening.specs.Found.{Obstacle, ◌>>=◌, known_by, known_ids, safe_number}
 use Rattle.esr_opening.specs.Opening.{known_blobs, world_in, IsInOrder}
-use Rattle.esr_opening.specs.Terms.{own_checks, IsFit, next_term}
+use Rattle.esr_opening.specs.Terms.{IsFit, is_delete, kept_ops, kept_of, AreFew, next_term}
 use Rattle.esr_opening.proofs.Members.{mapped, has_map, in_left, in_right, all_has, pass_has, any_has, apart_has, rising_has}
 use Rattle.esr_opening.proofs.Below.{all_below, uuid_in, index_in, generation_in_indices}
 
@@ -55,11 +59,6 @@ fit_first : (cluster : Record) (root : Root) → IsFit cluster root → first_fr
 fit_first cluster root fit =
     let first = bind_ok (known_ids root (safe_number cluster.safe) cluster.term) _ tt fit.checked in
     known_none (safe_number cluster.safe) _ first.0 first.1
-
-fit_deletes : (cluster : Record) (root : Root) → IsFit cluster root → (x : Unit {0}) × (no_delete cluster.ops ≡ Ok x) × (has_term cluster.term ≡ Ok tt)
-fit_deletes cluster root fit =
-    let first = bind_ok (known_ids root (safe_number cluster.safe) cluster.term) _ tt fit.checked in
-    bind_ok (no_delete cluster.ops) _ tt first.2
 
 -- ---- ids
 
@@ -119,21 +118,50 @@ fit_ids cluster root fit = record {
   one_name = λ x y has_x has_y same. (one_index root fit.rules x y has_x has_y).one_name same;
 }
 
--- ---- no delete
+-- ---- the deletes that stay open
 
-kept_by : (n : ℕ) (w : OpWork) (ops : List RecordOp) (x : Unit {0}) → (if is_delete w then Err (Damage (codes "record") (OpenDelete n)) else no_delete ops) ≡ Ok x → (no_delete ops ≡ Ok x → kept_deletes (map op_of ops) ≡ [])
-    → kept_deletes ((n, work_of_code w) ∷ map op_of ops) ≡ []
-kept_by n (works.Create info) ops x h rest = rest h
-kept_by n (works.Clone info source) ops x h rest = rest h
-kept_by n (works.Delete uuids) ops x h rest = absurd cc
-kept_by n works.Cleanup ops x h rest = rest h
+-- the record tells them, from a number on
+abbrev pub told_from : ℕ → List (List ℕ) → List (ℕ × RecordWork)
+told_from n [] = []
+told_from n (us ∷ rest) = (n, DeletingOf us) ∷ told_from (suc n) rest
 
-kept_none : (ops : List RecordOp) (x : Unit {0}) → no_delete ops ≡ Ok x → kept_deletes (map op_of ops) ≡ []
-kept_none [] x h = refl
-kept_none (o ∷ ops) x h = kept_by o.op o.work ops x h (kept_none ops x)
+kept_by : (n m : ℕ) (w : OpWork) (ops : List RecordOp) → map op_of (kept_ops n ops) ≡ told_from n (kept_deletes (map op_of ops)) → map op_of (kept_ops (suc n) ops) ≡ told_from (suc n) (kept_deletes (map op_of ops))
+    → map op_of (if is_delete w then record { op = n; work = w } ∷ kept_ops (suc n) ops else kept_ops n ops) ≡ told_from n (kept_deletes ((m, work_of_code w) ∷ map op_of ops))
+kept_by n m (works.Create info) ops stays goes = stays
+kept_by n m (works.Clone info source) ops stays goes = stays
+kept_by n m (works.Delete uuids) ops stays goes = ap (λ (xs : List (ℕ × RecordWork)). (n, DeletingOf (map number_of uuids)) ∷ xs) goes
+kept_by n m works.Cleanup ops stays goes = stays
 
-pub fit_kept : (cluster : Record) (root : Root) → IsFit cluster root → kept_deletes (cluster_of cluster).ops ≡ []
-fit_kept cluster root fit = let none = fit_deletes cluster root fit in kept_none cluster.ops none.0 none.1
+kept_told : (n : ℕ) (ops : List RecordOp) → map op_of (kept_ops n ops) ≡ told_from n (kept_deletes (map op_of ops))
+kept_told n [] = refl
+kept_told n (o ∷ ops) = kept_by n o.op o.work ops (kept_told n ops) (kept_told (suc n) ops)
+
+-- their numbers rise
+told_above : (n : ℕ) (us : List (List ℕ)) (m : ℕ) → Has (numbers_of (told_from n us)) m → n ≤ m
+told_above n [] m none = absurd none
+told_above n (us ∷ rest) m (inl here) = omega (arith, here)
+told_above n (us ∷ rest) m (inr later) = let above = told_above (suc n) rest m later in omega (arith, above)
+
+rise_told : (n : ℕ) (us : List (List ℕ)) → Rise (numbers_of (told_from n us))
+rise_told n [] = tt
+rise_told n (us ∷ rest) = ((λ m h. told_above (suc n) rest m h), rise_told (suc n) rest)
+
+same_numbers : (n : ℕ) (us : List (List ℕ)) → numbers_of (told_from n us) ≡ numbers_of (kept_from n us)
+same_numbers n [] = refl
+same_numbers n (us ∷ rest) = ap (λ (ns : List ℕ). n ∷ ns) (same_numbers (suc n) rest)
+
+rise_listed : (n : ℕ) (us : List (List ℕ)) → Rise (numbers_of (kept_from n us))
+rise_listed n us = subst Rise (same_numbers n us) (rise_told n us)
+
+-- as the opened world has them
+numbered_are : (n : ℕ) (us : List (List ℕ)) → numbered_deletes n us ≡ fin.from_entries {R = nat_cmp} (kept_from n us)
+numbered_are n [] = same_maps fin.empty (fin.from_entries {R = nat_cmp} []) (λ q. fin.get-empty nat_cmp q ∙ sym (get_from [] q))
+numbered_are n (us ∷ rest) =
+    let d : Deletion = kept_delete us in
+    ap (λ (m : FinMap nat_cmp Deletion). fin.insert m n d) (numbered_are (suc n) rest)
+    ∙ same_maps (fin.insert (fin.from_entries {R = nat_cmp} (kept_from (suc n) rest)) n d) (fin.from_entries {R = nat_cmp} ((n, d) ∷ kept_from (suc n) rest))
+    (λ q. get_put (fin.from_entries {R = nat_cmp} (kept_from (suc n) rest)) n d q ∙ ap (λ (o : Option Deletion). cond (eqb q n) (Some d) o) (get_from (kept_from (suc n) rest) q)
+    ∙ sym (find-cons q (n, d) (kept_from (suc n) rest)) ∙ sym (get_from ((n, d) ∷ kept_from (suc n) rest) q))
 
 -- ---- numbers
 
@@ -147,33 +175,28 @@ entries_none R = no_length (fin.entries fin.empty) (sym (fin.len-entries fin.emp
 abbrev op_entry : ℕ × Op → ℕ × RecordWork
 op_entry e = (e.0, work_of e.1)
 
-abbrev deletion_entry : ℕ × Deletion → ℕ × RecordWork
-deletion_entry e = (e.0, deletion_work e.1)
+listed_told : (n : ℕ) (us : List (List ℕ)) → map deletion_entry (kept_from n us) ≡ told_from n us
+listed_told n [] = refl
+listed_told n (us ∷ rest) = ap (λ (xs : List (ℕ × RecordWork)). (n, DeletingOf us) ∷ xs) (listed_told (suc n) rest)
 
-both_none : (xs : List (ℕ × Op)) (ys : List (ℕ × Deletion)) → xs ≡ [] → ys ≡ [] → fin.entries (fin.from_entries {R = nat_cmp} (map op_entry xs ++ map deletion_entry ys)) ≡ []
-both_none [] [] a b = entries_none nat_cmp
-both_none (x ∷ xs) ys a b = absurd (never x xs a)
-  where
-    never : (y : ℕ × Op) (ys : List (ℕ × Op)) → y ∷ ys ≡ [] → ⊥
-    never y ys q = cc
-both_none [] (y ∷ ys) a b = absurd (never y ys b)
-  where
-    never : (y : ℕ × Deletion) (ys : List (ℕ × Deletion)) → y ∷ ys ≡ [] → ⊥
-    never y ys q = cc
-
-no_ops : record_ops fin.empty fin.empty ≡ []
-no_ops = both_none (fin.entries (fin.empty {X = Op} {R = nat_cmp})) (fin.entries (fin.empty {X = Deletion} {R = nat_cmp})) (entries_none nat_cmp) (entries_none nat_cmp)
+-- the record of a list that has these alone
+numbered_told : (n : ℕ) (us : List (List ℕ)) → record_ops fin.empty (numbered_deletes n us) ≡ told_from n us
+numbered_told n us =
+    let none : fin.entries (fin.empty {X = Op} {R = nat_cmp}) ≡ [] = entries_none nat_cmp in
+    let listed : fin.entries (numbered_deletes n us) ≡ kept_from n us = ap fin.entries (numbered_are n us) ∙ entries_from (kept_from n us) (rise_listed n us) in
+    (λ j. fin.entries (fin.from_entries {R = nat_cmp} (map op_entry (none j) ++ map deletion_entry (listed j))))
+    ∙ ap (λ (es : List (ℕ × RecordWork)). fin.entries (fin.from_entries {R = nat_cmp} es)) (listed_told n us)
+    ∙ entries_from (told_from n us) (rise_told n us)
 
 pub plus_one : (n : ℕ) → suc n ≡ n + 1
 plus_one n = omega arith
 
 -- the record of the opened world
-pub record_is : (held : Option Held) (cluster : Record) (root : Root) → IsFit cluster root → record_of (world_in held cluster root) ≡ cluster_of (next_term cluster)
-record_is held cluster root fit =
+pub record_is : (held : Option Held) (cluster : Record) (root : Root) → record_of (world_in held cluster root) ≡ cluster_of (next_term cluster)
+record_is held cluster root =
     let at_term : ℕ → List (ℕ × RecordWork) → ClusterRecord = λ (t : ℕ) (ops : List (ℕ × RecordWork)). record { ledger = record { safe = count_of cluster.safe; pending = count_of cluster.pending; term = t }; ops = ops } in
-    ap (λ (kept : List (List ℕ)). at_term (suc cluster.term) (record_ops fin.empty (numbered_deletes 1 kept))) (fit_kept cluster root fit)
-    ∙ ap (at_term (suc cluster.term)) no_ops
-    ∙ ap (λ (t : ℕ). at_term t []) (plus_one cluster.term)
+    ap (at_term (suc cluster.term)) (numbered_told 1 (kept_of cluster) ∙ sym (kept_told 1 cluster.ops))
+    ∙ ap (λ (t : ℕ). at_term t (map op_of (kept_ops 1 cluster.ops))) (plus_one cluster.term)
 
 ordered : (safe pending : ℤ) → safe ≤ℤ pending → count_of safe ≤ count_of pending
 ordered (negsuc m) pending le = omega arith
@@ -182,13 +205,14 @@ ordered (pos n) (negsuc m) le = absurd (omega (arith, ints))
 
 -- ---- the opened world
 
-pub in_order : (held : Option Held) (cluster : Record) (root : Root) → IsFit cluster root → ReadsBack cluster_kind (cluster_of (next_term cluster))
+pub in_order : (held : Option Held) (cluster : Record) (root : Root) → IsFit cluster root → ReadsBack cluster_kind (cluster_of (next_term cluster)) → AreFew cluster
     → ((blobs : Blobs) (cluster : ClusterRecord) (root : RootData) → RootIds root (first_id (suc cluster.ledger.term))
     → ((x y : RootIndex) → Has root.indices x → Has root.indices y → IsOneIndex x.name x.id y.name y.id) → Tracked (opened blobs cluster root))
     → ((blobs : Blobs) (cluster : ClusterRecord) (root : RootData) → cluster.ledger.safe ≤ cluster.ledger.pending → Ranked (opened blobs cluster root)) → IsInOrder (world_in held cluster root)
-in_order held cluster root fit back tracked ranked = record {
-  record_back = subst (λ (c : ClusterRecord). ReadsBack cluster_kind c) (sym (record_is held cluster root fit)) back;
+in_order held cluster root fit back few tracked ranked = record {
+  record_back = subst (λ (c : ClusterRecord). ReadsBack cluster_kind c) (sym (record_is held cluster root)) back;
   tracked = tracked (known_blobs held) (cluster_of cluster) (root_of root) (fit_ids cluster root fit) (one_index root fit.rules);
   ranked = ranked (known_blobs held) (cluster_of cluster) (root_of root) (ordered cluster.safe cluster.pending fit.numbers.order);
-  no_deletes = ap (numbered_deletes 1) (fit_kept cluster root fit);
+  no_cleanups = λ d x there. (numbered_from 1 (kept_of cluster) d x there).1;
+  few = few;
 }

@@ -15,7 +15,6 @@ use Rattle.esr_model.specs.Kept.{RootIds, first_id, IsEmpty, Recorded}
 use Rattle.esr_depot.specs.Image.{Image as Held, Blobs, sizes_of}
 use Rattle.esr_record.specs.Record.{Record}
 use Rattle.esr_record.specs.Reading.{record_from}
-use Rattle.esr_record.specs.declared.op.RecordOp.{RecordOp}
 use Rattle.esr_root.specs.Root.{Root, empty_root}
 use Rattle.esr_root.specs.Reading.{root_from}
 use Rattle.esr_root.specs.declared.snaps.RootSnap.{RootSnap as CodeSnap}
@@ -27,12 +26,12 @@ use Rattle.esr_formats.specs.Infos.{info_of_code, info_kind}
 use Rattle.esr_formats.specs.Clusters.{count_of, cluster_of, cluster_kind}
 use Rattle.esr_agreement.specs.Agreement.{agrees, Agrees}
 use Rattle.esr_opening.specs.Foreign.{root_ids, first_from}
-use Rattle.esr_opening.specs.Found.{Obstacle, Damage, LastTerm, ◌>>=◌, readable, read_as, empty_record, without_record, record_in, root_name, safe_number, info_name, agreed, info_in, infos_in, known_by, known_ids, is_delete, no_delete, has_term, found}
+use Rattle.esr_opening.specs.Found.{Obstacle, Damage, LastTerm, ◌>>=◌, readable, read_as, empty_record, without_record, record_in, root_name, safe_number, info_name, agreed, info_in, infos_in, known_by, known_ids, has_term, found}
 use Rattle.esr_opening.specs.Hindrances.{IsNoDamage}
 use Rattle.esr_opening.specs.KeptImages.{KeptImagesOpen}
 use Rattle.esr_opening.specs.Opening.{image_of}
 use Rattle.esr_opening.specs.Terms.{whole_root_in, own_checks}
-use Rattle.esr_opening.specs.declared.refusal.Why.TheVariants.{OpenDelete, Disagrees}
+use Rattle.esr_opening.specs.declared.refusal.Why.TheVariants.{Disagrees}
 use Rattle.esr_names.specs.declared.blob.BlobName.TheVariants as code
 use Rattle.esr_opening.proofs.Below.{none_foreign}
 use Rattle.esr_opening.proofs.Fitting.{entries_none}
@@ -107,15 +106,7 @@ safe_found known told blobs (pos n) bound shelf picked ids =
       below = none_foreign (root_of r.0) bound one (ids (root_of r.0) (record { bytes = reads.bytes; there = reads.there; reads = back }));
     }
 
--- ---- open deletes and the term
-
-delete_stops : (o : RecordOp) (rest : Result (Unit {0}) Obstacle) → IfErr rest IsNoDamage → (b : Bool) → IfErr (if b then Err (Damage (codes "record") (OpenDelete o.op)) else rest) IsNoDamage
-delete_stops o rest h true = (refl, (o.op, refl))
-delete_stops o rest h false = h
-
-deletes_stop : (ops : List RecordOp) → IfErr (no_delete ops) IsNoDamage
-deletes_stop [] = tt
-deletes_stop (o ∷ ops) = delete_stops o (no_delete ops) (deletes_stop ops) (is_delete o.work)
+-- ---- the term
 
 term_by : (term : ℕ) (end : Result (Unit {0}) Obstacle) → IfErr end IsNoDamage → (b : Bool) → (b ≡ true → term ≡ 2 ^ 63 - 1) → IfErr (if b then Err (LastTerm term) else end) IsNoDamage
 term_by term end h true last = last refl
@@ -124,20 +115,19 @@ term_by term end h false last = h
 term_stops : (term : ℕ) → IfErr (has_term term) IsNoDamage
 term_stops term = term_by term (Ok tt) tt (term == 2 ^ 63 - 1) (eqb-true term (2 ^ 63 - 1))
 
--- one after another, and then an answer
-then_stops : (a b : Result (Unit {0}) Obstacle) (cluster : Record) (root : Root) → IfErr a IsNoDamage → IfErr b IsNoDamage → IfErr ((a >>= λ x. b) >>= both_of cluster root) IsNoDamage
-then_stops (Err e) b cluster root h last = h
-then_stops (Ok x) (Err e) cluster root h last = last
-then_stops (Ok x) (Ok y) cluster root h last = tt
+-- and then an answer
+then_stops : (a : Result (Unit {0}) Obstacle) (cluster : Record) (root : Root) → IfErr a IsNoDamage → IfErr (a >>= both_of cluster root) IsNoDamage
+then_stops (Err e) cluster root h = h
+then_stops (Ok x) cluster root h = tt
 
 -- ---- all of it
 
 all_but_stops : (i : Held) (cluster : Record) (root : Root) → record_in i.blobs i.text ≡ Ok cluster → whole_root_in i.blobs cluster.safe ≡ Ok root → first_from (first_id (suc cluster.term)) (root_ids (root_of root)) ≡ None → IfErr (found i) IsNoDamage
 all_but_stops i cluster root there whole below =
     let ids : known_ids root (safe_number cluster.safe) cluster.term ≡ Ok tt = ap (known_by (safe_number cluster.safe)) below in
-    let own : own_checks cluster root ≡ (no_delete cluster.ops >>= λ y. has_term cluster.term) = then_ok (known_ids root (safe_number cluster.safe) cluster.term) (λ x. no_delete cluster.ops >>= λ y. has_term cluster.term) tt ids in
-    let is : found i ≡ ((no_delete cluster.ops >>= λ y. has_term cluster.term) >>= both_of cluster root) = found_root i cluster root there whole ∙ ap (λ (r : Result (Unit {0}) Obstacle). r >>= both_of cluster root) own in
-    subst (λ (r : Result (Record × Root) Obstacle). IfErr r IsNoDamage) (sym is) (then_stops (no_delete cluster.ops) (has_term cluster.term) cluster root (deletes_stop cluster.ops) (term_stops cluster.term))
+    let own : own_checks cluster root ≡ has_term cluster.term = then_ok (known_ids root (safe_number cluster.safe) cluster.term) (λ x. has_term cluster.term) tt ids in
+    let is : found i ≡ (has_term cluster.term >>= both_of cluster root) = found_root i cluster root there whole ∙ ap (λ (r : Result (Unit {0}) Obstacle). r >>= both_of cluster root) own in
+    subst (λ (r : Result (Record × Root) Obstacle). IfErr r IsNoDamage) (sym is) (then_stops (has_term cluster.term) cluster root (term_stops cluster.term))
 
 -- nothing is listed where no blob is there
 none_there : (o : Option Bytes) → ((bytes : Bytes) → o ≡ Some bytes → ⊥) → o ≡ None

@@ -3,6 +3,7 @@ pub mod Answering
 pub mod Reading
 pub mod Members
 pub mod Below
+pub mod Keeping
 pub mod Fitting
 pub mod Steps
 pub mod Opens

@@ -125,7 +125,6 @@ within : (root : Root) (s : CodeSnap) (info : Info) → Agrees (root_of root) (r
 within root s info agree apart = record {
   listed = λ r has. let x = agree.listed r has in (x.0, x.1, x.2, x.3, subst (Has x.0.snapshots) (sym agree.uuid_is) x.4);
   exact = λ x has has_uuid. agree.exact x has (subst (Has x.snapshots) agree.uuid_is has_uuid);
-  generations = agree.generations;
   apart = apart;
 }
 
@@ -149,5 +148,5 @@ infos_of held cluster root infos known told pairs = record {
       (i.0, i.1, i.2.agrees.uuid_is ∙ ap (λ (x : RootSnap). x.uuid) s.2);
   each = λ info has.
       let s = first_of (IsInfoOf held root) root.snapshots infos pairs info has in
-      record { within = within root s.0 info s.2.agrees s.2.apart; told = inr (λ tells. in_info held cluster root s.0 info known told s.2 tells) };
+      record { within = within root s.0 info s.2.agrees s.2.apart; generations = λ tells. s.2.agrees.generations; told = inr (λ tells. in_info held cluster root s.0 info known told s.2 tells) };
 }

@@ -20,7 +20,7 @@ use Rattle.esr_formats.specs.Names.{name_kind}
 use Rattle.esr_formats.specs.Roots.{root_of, root_kind}
 use Rattle.esr_formats.specs.Clusters.{count_of, cluster_of, cluster_kind}
 use Rattle.esr_formats.proofs.NameTexts.{name_reads_back}
-use Rattle.esr_opening.specs.Found.{Obstacle, Damage, ◌>>=◌, readable, read_as, empty_record, without_record, record_in, root_name, root_in, infos_in, safe_number, known_ids, no_delete, has_term, checked, found}
+use Rattle.esr_opening.specs.Found.{Obstacle, Damage, ◌>>=◌, readable, read_as, empty_record, without_record, record_in, root_name, root_in, infos_in, safe_number, known_ids, has_term, checked, found}
 use Rattle.esr_opening.specs.Opening.{image_of, known_blobs, world_in}
 use Rattle.esr_opening.specs.Terms.{own_checks, whole_root_in, IsFit}
 use Rattle.esr_opening.proofs.Fitting.{bind_ok}
@@ -94,8 +94,7 @@ parts i cluster root is =
     let r = bind_ok (root_in i.blobs c.0.safe) (checked i.blobs c.0) (cluster, root) c.2 in
     let infos = bind_ok (infos_in i.blobs r.0 (safe_number c.0.safe) r.0.snapshots) _ (cluster, root) r.2 in
     let ids = bind_ok (known_ids r.0 (safe_number c.0.safe) c.0.term) _ (cluster, root) infos.2 in
-    let ops = bind_ok (no_delete c.0.ops) _ (cluster, root) ids.2 in
-    let term = bind_ok (has_term c.0.term) _ (cluster, root) ops.2 in
+    let term = bind_ok (has_term c.0.term) _ (cluster, root) ids.2 in
     let one : c.0 ≡ cluster = first_same c.0 cluster r.0 root term.2 in
     let two : r.0 ≡ root = second_same c.0 cluster r.0 root term.2 in
     (c.1 ∙ ap (λ (x : Record). Ok x) one, sym (ap (λ (x : Record). root_in i.blobs x.safe) one) ∙ r.1 ∙ ap (λ (x : Root). Ok x) two)

@@ -11,7 +11,7 @@ use Rattle.esr_root.specs.Root.{Root, empty_root}
 use Rattle.esr_root.specs.Reading.{root_from}
 use Rattle.esr_root.specs.declared.snaps.RootSnap.{RootSnap}
 use Rattle.esr_meta.specs.Info.{Info, info_from}
-use Rattle.esr_opening.specs.Found.{Obstacle, ◌>>=◌, readable, read_as, without_record, record_in, root_name, root_in, safe_number, info_name, agreed, info_in, infos_in, known_ids, no_delete, has_term, checked, found}
+use Rattle.esr_opening.specs.Found.{Obstacle, ◌>>=◌, readable, read_as, without_record, record_in, root_name, root_in, safe_number, info_name, agreed, info_in, infos_in, known_ids, has_term, checked, found}
 use Rattle.esr_opening.specs.Terms.{safe_place, whole_root_in, own_checks}
 
 pub ok_same : {A E : Type 0} (a b : A) → ◌≡◌ {A = Result A E} (Ok a) (Ok b) → a ≡ b
@@ -91,17 +91,15 @@ no_whole_root blobs safe o fails = then_err (root_in blobs safe) (λ (r : Root).
 abbrev pub both_of : Record → Root → Unit {0} → Result (Record × Root) Obstacle
 both_of c r x = Ok (c, r)
 
-by_term : (cluster : Record) (root : Root) (ids ops : Result (Unit {0}) Obstacle)
-    → (ids >>= λ y. ops >>= λ z. has_term cluster.term >>= both_of cluster root) ≡ ((ids >>= λ y. ops >>= λ z. has_term cluster.term) >>= both_of cluster root)
-by_term cluster root (Err e) ops = refl
-by_term cluster root (Ok x) (Err e) = refl
-by_term cluster root (Ok x) (Ok y) = refl
+by_term : (cluster : Record) (root : Root) (ids : Result (Unit {0}) Obstacle) → (ids >>= λ y. has_term cluster.term >>= both_of cluster root) ≡ ((ids >>= λ y. has_term cluster.term) >>= both_of cluster root)
+by_term cluster root (Err e) = refl
+by_term cluster root (Ok x) = refl
 
 by_infos : (cluster : Record) (root : Root) (infos : Result (Unit {0}) Obstacle)
-    → (infos >>= λ x. known_ids root (safe_number cluster.safe) cluster.term >>= λ y. no_delete cluster.ops >>= λ z. has_term cluster.term >>= both_of cluster root)
+    → (infos >>= λ x. known_ids root (safe_number cluster.safe) cluster.term >>= λ y. has_term cluster.term >>= both_of cluster root)
     ≡ ((infos >>= λ x. Ok root) >>= λ r. own_checks cluster r >>= both_of cluster r)
 by_infos cluster root (Err e) = refl
-by_infos cluster root (Ok x) = by_term cluster root (known_ids root (safe_number cluster.safe) cluster.term) (no_delete cluster.ops)
+by_infos cluster root (Ok x) = by_term cluster root (known_ids root (safe_number cluster.safe) cluster.term)
 
 by_root : (blobs : Blobs) (cluster : Record) (root : Result Root Obstacle)
     → (root >>= λ r. checked blobs cluster r) ≡ ((root >>= λ r. infos_in blobs r (safe_number cluster.safe) r.snapshots >>= λ x. Ok r) >>= λ r. own_checks cluster r >>= both_of cluster r)

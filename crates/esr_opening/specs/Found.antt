@@ -1,5 +1,5 @@
 -- What opening finds in an image, where no call fails: the record and the safe root, or the first thing that is wrong.
-use Rattle.std.specs.Prelude.{ℕ, suc, ◌-◌, ◌^◌, ◌==◌, Bool, true, false, if◌then◌else◌, ℤ, pos, negsuc, codes, List, [], ◌∷◌, Option, Some, None, Result, Ok, Err}
+use Rattle.std.specs.Prelude.{ℕ, suc, ◌-◌, ◌^◌, ◌==◌, if◌then◌else◌, ℤ, pos, negsuc, codes, List, [], ◌∷◌, Option, Some, None, Result, Ok, Err}
 use Rattle.std.specs.FinMap as fin
 use Rattle.esr_model.specs.Names.{Root, Snap}
 use Rattle.esr_model.specs.Values.{Bytes}
@@ -10,9 +10,6 @@ use Rattle.esr_names.specs.declared.blob.BlobName.TheVariants as code
 use Rattle.esr_depot.specs.Image.{Image as Held, Blobs, sizes_of}
 use Rattle.esr_record.specs.Record.{Record}
 use Rattle.esr_record.specs.Reading.{record_from}
-use Rattle.esr_record.specs.declared.op.RecordOp.{RecordOp}
-use Rattle.esr_record.specs.declared.op.OpWork.{OpWork}
-use Rattle.esr_record.specs.declared.op.OpWork.TheVariants as works
 use Rattle.esr_root.specs.Root as roots
 use Rattle.esr_root.specs.Root.{empty_root}
 use Rattle.esr_root.specs.Reading.{root_from}
@@ -23,7 +20,7 @@ use Rattle.esr_formats.specs.Names.{name_kind}
 use Rattle.esr_formats.specs.Roots.{root_of, root_snap_of}
 use Rattle.esr_formats.specs.Infos.{info_of_code}
 use Rattle.esr_opening.specs.declared.refusal.Why.{Why}
-use Rattle.esr_opening.specs.declared.refusal.Why.TheVariants.{NoRecord, Absent, Unreadable, Disagrees, ForeignId, OpenDelete}
+use Rattle.esr_opening.specs.declared.refusal.Why.TheVariants.{NoRecord, Absent, Unreadable, Disagrees, ForeignId}
 use Rattle.esr_agreement.specs.Agreement.{agrees}
 use Rattle.esr_opening.specs.Foreign.{root_ids, first_from}
 
@@ -91,7 +88,7 @@ abbrev pub infos_in : Blobs → roots.Root → ℕ → List RootSnap → Result 
 infos_in blobs root n [] = Ok tt
 infos_in blobs root n (s ∷ snaps) = info_in blobs root n s >>= λ x. infos_in blobs root n snaps
 
--- ---- its ids, the open ops, the term
+-- ---- its ids, the term
 
 abbrev pub known_by : ℕ → Option ℕ → Result Unit Obstacle
 known_by n None = Ok tt
@@ -100,17 +97,6 @@ known_by n (Some id) = Err (Damage (root_name n) (ForeignId (id_of id)))
 -- no id of the root is of a later term than the record's
 abbrev pub known_ids : roots.Root → ℕ → ℕ → Result Unit Obstacle
 known_ids root n term = known_by n (first_from (first_id (suc term)) (root_ids (root_of root)))
-
-abbrev pub is_delete : OpWork → Bool
-is_delete (works.Create info) = false
-is_delete (works.Clone info source) = false
-is_delete (works.Delete uuids) = true
-is_delete works.Cleanup = false
-
--- no delete is open
-abbrev pub no_delete : List RecordOp → Result Unit Obstacle
-no_delete [] = Ok tt
-no_delete (o ∷ ops) = if is_delete o.work then Err (Damage (codes "record") (OpenDelete o.op)) else no_delete ops
 
 -- there is a next term
 abbrev pub has_term : ℕ → Result Unit Obstacle
@@ -123,9 +109,8 @@ abbrev pub checked : Blobs → Record → roots.Root → Result (Record × roots
 checked blobs cluster root =
     infos_in blobs root (safe_number cluster.safe) root.snapshots
     >>= λ x. known_ids root (safe_number cluster.safe) cluster.term
-    >>= λ y. no_delete cluster.ops
-    >>= λ z. has_term cluster.term
-    >>= λ u. Ok (cluster, root)
+    >>= λ y. has_term cluster.term
+    >>= λ z. Ok (cluster, root)
 
 unfoldable pub found : Held → Result (Record × roots.Root) Obstacle
 found i = record_in i.blobs i.text >>= λ cluster. root_in i.blobs cluster.safe >>= λ root. checked i.blobs cluster root

@@ -9,7 +9,7 @@ use Rattle.esr_opening.specs.Found.{found}
 use Rattle.esr_opening.specs.Opening.{image_of}
 use Rattle.esr_opening.specs.Hindrances.{IsNoDamage}
 
--- In an image that is kept for a shelf opening finds the record and the safe root, unless a delete is open or the last term has come.
+-- In an image that is kept for a shelf opening finds the record and the safe root, unless the last term has come.
 abbrev pub KeptImagesOpen : Type 0
 KeptImagesOpen =
     (known : Bytes → Bytes → ℕ → Bool) (told : Bytes → Bytes → ℕ → List (Bytes × Bytes)) (i : Held) (shelf : List Shelved)

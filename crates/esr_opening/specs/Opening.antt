@@ -6,6 +6,7 @@ use Rattle.esr_model.specs.Shelf.{Shelved}
 use Rattle.esr_model.specs.Image.{Blobs, Image}
 use Rattle.esr_model.specs.Kept.{Kept as IsKept}
 use Rattle.esr_core.specs.World.{World, record_of, opened, Opened}
+use Rattle.esr_core.specs.Allowed.{NoCleanup}
 use Rattle.esr_core.specs.Tracked.{Tracked}
 use Rattle.esr_core.specs.Ranked.{Ranked}
 use Rattle.esr_depot.specs.Image.{Image as Held, with_text}
@@ -21,8 +22,6 @@ use Rattle.esr_formats.specs.Clusters.{cluster_of, cluster_kind}
 use Rattle.esr_progress.specs.Plan.{Plan, IsPlanOf}
 use Rattle.esr_progress.specs.Infos.{AreInfosOf}
 use Rattle.esr_opening.specs.Found.{Damage, LastTerm, found}
-use Rattle.esr_opening.specs.Hindrances.{IsOpenDelete}
-use Rattle.esr_opening.specs.declared.refusal.Why.{Why}
 use Rattle.esr_opening.specs.declared.refusal.OpenRefusal.{OpenRefusal}
 use Rattle.esr_opening.specs.declared.refusal.OpenRefusal.TheVariants as refusals
 
@@ -70,7 +69,8 @@ pub record IsInOrder (w : World) : Type 0 where
   pub record_back : ReadsBack cluster_kind (record_of w)
   pub tracked : Tracked w
   pub ranked : Ranked w
-  pub no_deletes : w.deletes ≡ fin.empty
+  pub no_cleanups : NoCleanup w
+  pub few : w.next_op ≤ 2 ^ 61
 
 -- what a crash in the opening may leave: all as it was, or with the opened world's record
 abbrev pub IsLeftOf : Option Held → Record → Root → Held → Type 0
@@ -118,16 +118,16 @@ HasFailed faults (Some fetch) = 0 < faults fetch
 abbrev pub IsFault : {F : Type 0} → (F → ℕ) → ℕ → ℕ → Option F → Type 0
 IsFault faults old_faults new_faults fetch = HasCause old_faults new_faults true ⊎ HasFailed faults fetch
 
--- In an image that is kept for a shelf nothing is damaged: a delete is open.
-abbrev pub SparesKept : Option Held → Bytes → Why → Type 0
-SparesKept held name why =
+-- the image is kept for no shelf, as nothing in one that is kept is damaged
+abbrev pub SparesKept : Option Held → Type 0
+SparesKept held =
     (i : Held) (known : Bytes → Bytes → ℕ → Bool) (told : Bytes → Bytes → ℕ → List (Bytes × Bytes)) (shelf : List Shelved) → held ≡ Some i
-    → IsKept (formats known told) (image_of i) shelf → IsOpenDelete name why
+    → IsKept (formats known told) (image_of i) shelf → ⊥
 
 -- Why a container wasn't opened; it counts faults. Where it tells, a refusal is what opening finds, and no kept image is damaged.
 abbrev pub IsOpenRefused : {F : Type 0} → (F → ℕ) → Look → Look → ℕ → ℕ → OpenRefusal F → Type 0
 IsOpenRefused faults before after old_faults new_faults refusals.Memory = IsAsBefore before after
 IsOpenRefused faults before after old_faults new_faults (refusals.DepotFault fetch) = IsFault faults old_faults new_faults fetch × (IsAsBefore before after ⊎ SwapFailed before after)
 IsOpenRefused faults before after old_faults new_faults (refusals.Damaged name why) =
-    IsAsBefore before after × ((i : Held) → now before ≡ Some i → found i ≡ Err (Damage name why)) × SparesKept (now before) name why
+    IsAsBefore before after × ((i : Held) → now before ≡ Some i → found i ≡ Err (Damage name why)) × SparesKept (now before)
 IsOpenRefused faults before after old_faults new_faults (refusals.TermsSpent term) = IsAsBefore before after × ((i : Held) → now before ≡ Some i → found i ≡ Err (LastTerm term))

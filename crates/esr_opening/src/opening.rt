@@ -3,7 +3,6 @@ ghost use Rattle.std.specs.Prelude.{◌≡◌, ◌+◌, ◌^◌, ◌≤◌, Opti
 ghost use Rattle.esr_model.specs.Kept.{first_id};
 ghost use Rattle.esr_depot.specs.Look.{now};
 ghost use Rattle.esr_formats.specs.Roots.{root_of};
-ghost use Rattle.esr_progress.specs.Plan.{no_plan};
 ghost use Rattle.esr_opening.specs.Found.{found};
 ghost use Rattle.esr_opening.specs.Opening.{IsOpening, IsOpenRefused};
 ghost use Rattle.esr_opening.specs.Listed.{AreListed, AreInfosIn};
@@ -17,7 +16,7 @@ use crate::laws::opened_worlds_are_in_order;
 use crate::own::check_own;
 use crate::record::find_record;
 use crate::root::find_whole_root;
-use crate::term::begin_term;
+use crate::term::{begin_term, next_of};
 use crate::{OpenRefusal, SnapInfos};
 use esr_depot::Depot;
 use esr_names::Id;
@@ -27,7 +26,7 @@ use esr_root::RootData;
 use std::alloc::Global;
 
 /// A container that was opened, with what a repository keeps of it at its start: the record of the new term, the safe
-/// root and the infos of its snapshots, an empty list of ops, and the first id of the term.
+/// root and the infos of its snapshots, the list of the deletes that are open, and the first id of the term.
 #[derive(Drop)]
 pub struct Opening<D: Depot> {
     pub depot: D,
@@ -41,7 +40,7 @@ pub struct Opening<D: Depot> {
 
 /// Opens a container: one into which nothing was written, or one that an earlier run left. It reads the record, the safe
 /// root and the info of each snapshot that it lists, and refuses the first that is damaged; then one swap of the record
-/// begins the next term, without the ops that were open.
+/// begins the next term. Of the ops that were open the deletes alone stay, numbered from 1 on.
 pub fn open_container<D: Depot>(
     alloc: Global,
     mut depot: D,
@@ -55,14 +54,14 @@ pub fn open_container<D: Depot>(
     ensures sure { IfErr result (λ e. 2 ^ 61 ≤ (D.look depot).sure → (fetch : Option D.Fetch) → e.1 ≡ DepotFault fetch → ⊥) }
 {
     match open_in_place(alloc, &mut depot) {
-        Ok((cluster, root, infos)) => {
+        Ok((cluster, root, infos, progress)) => {
             let next = Id::new(cluster.term, 0);
             Ok(Opening {
                 depot,
                 cluster,
                 root,
                 infos,
-                progress: Progress::new(alloc),
+                progress,
                 next,
             })
         }
@@ -91,8 +90,8 @@ fn find<D: Depot>(
 fn open_in_place<D: Depot>(
     alloc: Global,
     depot: &mut D,
-) -> Result<(ClusterRecord, RootData, SnapInfos), OpenRefusal<D::Fetch>>
-    ensures opened { IfOk result (λ o. IsOpening (D.look depot.old) (D.look depot.new) (record { cluster = o.0; root = o.1; infos = o.2; plan = no_plan; next = first_id o.0.term })) }
+) -> Result<(ClusterRecord, RootData, SnapInfos, Progress), OpenRefusal<D::Fetch>>
+    ensures opened { IfOk result (λ o. IsOpening (D.look depot.old) (D.look depot.new) (record { cluster = o.0; root = o.1; infos = o.2; plan = o.3; next = first_id o.0.term })) }
     ensures listed { IfOk result (λ o. AreListed (root_of o.1) o.2) }
     ensures refused { IfErr result (λ e. IsOpenRefused D.Fetch.faults (D.look depot.old) (D.look depot.new) (D.faults depot.old) (D.faults depot.new) e) }
     ensures counted { D.faults depot.old ≤ D.faults depot.new }
@@ -100,6 +99,7 @@ fn open_in_place<D: Depot>(
 {
     opened_worlds_are_in_order();
     let (cluster, root, infos) = find(alloc, depot)?;
-    let next = begin_term(alloc, depot, &cluster)?;
-    Ok((next, root, infos))
+    let (next, progress) = next_of(alloc, &cluster)?;
+    begin_term(alloc, depot, &next)?;
+    Ok((next, root, infos, progress))
 }

@@ -1,6 +1,6 @@
-//! What the record and the root say of themselves: ids, open ops and the term.
+//! What the record and the root say of themselves: ids and the term.
 ghost use Rattle.std.specs.Prelude.{◌≡◌, ◌<◌, ◌^◌, OnOk};
-ghost use Rattle.esr_opening.specs.Found.{known_ids, is_delete, no_delete, has_term};
+ghost use Rattle.esr_opening.specs.Found.{known_ids, has_term};
 ghost use Rattle.esr_opening.specs.Looked.{Says};
 ghost use Rattle.esr_opening.specs.Terms.{own_checks, IsFit};
 
@@ -9,9 +9,8 @@ use crate::root::safe_place;
 use crate::{OpenRefusal, Why};
 use esr_formats::write_name;
 use esr_names::{BlobName, Id};
-use esr_record::{ClusterRecord, OpWork, RecordOp};
+use esr_record::ClusterRecord;
 use esr_root::RootData;
-use esr_seq::Text;
 use std::alloc::Global;
 
 /// Refuses a root, by its number, with an id of a later term.
@@ -36,32 +35,6 @@ fn check_ids<F>(
     })
 }
 
-/// The op is a delete.
-fn is_delete(work: &OpWork) -> bool
-    ensures { result ≡ is_delete work.now }
-{
-    match work {
-        OpWork::Create { .. } => false,
-        OpWork::Clone { .. } => false,
-        OpWork::Delete { .. } => true,
-        OpWork::Cleanup => false,
-    }
-}
-
-/// Refuses the first open delete.
-fn check_ops<F>(alloc: Global, ops: &[RecordOp]) -> Result<(), OpenRefusal<F>>
-    ensures { Says (no_delete ops.now) result }
-{
-    for op in ops {
-        if is_delete(&op.work) {
-            let name = Text::from_str(alloc, "record")?;
-            let why = Why::OpenDelete { op: op.op };
-            return Err(OpenRefusal::Damaged { name, why });
-        }
-    }
-    Ok(())
-}
-
 /// Refuses the last term.
 fn check_term<F>(term: u64) -> Result<(), OpenRefusal<F>>
     ensures { Says (has_term term) result }
@@ -72,7 +45,7 @@ fn check_term<F>(term: u64) -> Result<(), OpenRefusal<F>>
     Ok(())
 }
 
-/// Refuses ids of later terms, then open deletes, then the last term.
+/// Refuses ids of later terms, then the last term.
 pub(crate) fn check_own<F>(
     alloc: Global,
     cluster: &ClusterRecord,
@@ -84,6 +57,5 @@ pub(crate) fn check_own<F>(
     let _ = &root.snapshots;
     let number = safe_place(cluster.safe).unwrap_or(0);
     check_ids(alloc, root, number, cluster.term)?;
-    check_ops(alloc, cluster.ops.as_slice())?;
     check_term(cluster.term)
 }

@@ -19,8 +19,6 @@ pub enum Why {
     Disagrees { with: BlobName },
     /// The root has an id of a term that has not come.
     ForeignId { id: Id },
-    /// The record has a delete that is open. Nothing carries one out so far.
-    OpenDelete { op: u64 },
 }
 
 /// Why a container isn't opened. It is as it was, unless the swap of the record failed.

@@ -18,29 +18,35 @@ use Rattle.esr_model.specs.Shelf.{Shelved, ShelfShard}
 use Rattle.esr_model.specs.Image.{AllPairs, IsOne, Reads, Generation, IndexStands, ShardStands, SnapStands, RootStands, Stands, Picked, FileStands, concat, index_at, at_shard, at_shard_of}
 use Rattle.esr_plain.specs.Exactly.{IsExactly}
 use Rattle.esr_plain.specs.Joined.{IsStored}
+use Rattle.esr_plain.specs.Listed.{HaveSnaps}
 use Rattle.esr_plain.proofs.Blobs.{reads_one}
 use Rattle.esr_plain.proofs.Loops.{pairs_has, pairs_each, pairs_one}
 
 -- ---- the index of one shard
 
-module _ (f : Formats) (has : BlobName → Bytes → Type 0) (index shard generation : ℕ) where
-  pub index_unread : ((v : ShardFiles) → Reads has (ShardIndex index shard generation) f.shard_index v → ⊥) → IndexStands f has index shard generation → ⊥
+module _ (f : Formats) (has : BlobName → Bytes → Type 0) (root : RootData) (index shard generation : ℕ) where
+  pub index_unread : ((v : ShardFiles) → Reads has (ShardIndex index shard generation) f.shard_index v → ⊥) → IndexStands f has root index shard generation → ⊥
   index_unread none s = none s.held s.held_reads
 
-  pub index_above : IsOne has → (held : ShardFiles) → Reads has (ShardIndex index shard generation) f.shard_index held → (((l : SnapList) → Has held.snapshots l → l.uuid < generation) → ⊥) → IndexStands f has index shard generation → ⊥
+  pub index_above : IsOne has → (held : ShardFiles) → Reads has (ShardIndex index shard generation) f.shard_index held → (((l : SnapList) → Has held.snapshots l → l.uuid < generation) → ⊥) → IndexStands f has root index shard generation → ⊥
   index_above one held reads none s =
       none (subst (λ (v : ShardFiles). (l : SnapList) → Has v.snapshots l → l.uuid < generation) (reads_one has one (ShardIndex index shard generation) f.shard_index s.held held s.held_reads reads) s.below)
 
   pub index_with : (held : ShardFiles) (files : List (Bytes × Bytes)) → Reads has (ShardIndex index shard generation) f.shard_index held → ((l : SnapList) → Has held.snapshots l → l.uuid < generation)
-      → AllPairs (IsStored f has index shard) held.files files → IndexStands f has index shard generation
-  index_with held files reads below stored = record {
+      → HaveSnaps f has root index shard held.snapshots → AllPairs (IsStored f has index shard) held.files files → IndexStands f has root index shard generation
+  index_with held files reads below snaps stored = record {
     held = held;
     held_reads = reads;
     files = λ e there. let one = pairs_has (IsStored f has index shard) held.files files stored e there in (one.0.1, one.1.1);
+    snaps = λ l s there listed same. snaps l there s listed same;
     below = below;
   }
 
-  pub index_without : IsOne has → (held : ShardFiles) → Reads has (ShardIndex index shard generation) f.shard_index held → ((files : List (Bytes × Bytes)) → AllPairs (IsStored f has index shard) held.files files → ⊥) → IndexStands f has index shard generation → ⊥
+  pub index_lacks : IsOne has → (held : ShardFiles) → Reads has (ShardIndex index shard generation) f.shard_index held → (HaveSnaps f has root index shard held.snapshots → ⊥) → IndexStands f has root index shard generation → ⊥
+  index_lacks one held reads none s =
+      none (subst (λ (v : ShardFiles). HaveSnaps f has root index shard v.snapshots) (reads_one has one (ShardIndex index shard generation) f.shard_index s.held held s.held_reads reads) (λ l there snap listed same. s.snaps l snap there listed same))
+
+  pub index_without : IsOne has → (held : ShardFiles) → Reads has (ShardIndex index shard generation) f.shard_index held → ((files : List (Bytes × Bytes)) → AllPairs (IsStored f has index shard) held.files files → ⊥) → IndexStands f has root index shard generation → ⊥
   index_without one held reads none s =
       let each : (e : FileEntry) → Has s.held.files e → (file : Bytes × Bytes) × IsStored f has index shard e file = (λ e there. let stands = s.files e there in ((e.physical, stands.0), (refl, stands.1))) in
       let files = pairs_each (IsStored f has index shard) s.held.files each in
@@ -48,8 +54,8 @@ module _ (f : Formats) (has : BlobName → Bytes → Type 0) (index shard genera
 
 -- ---- the shards of an index, and of a root
 
-abbrev pub ShardsStand : (f : Formats) → (BlobName → Bytes → Type 0) → RootIndex → Type 0
-ShardsStand f has x = (k g : ℕ) → at_shard x.generations k ≡ Some g → IndexStands f has x.id k g
+abbrev pub ShardsStand : (f : Formats) → (BlobName → Bytes → Type 0) → RootData → RootIndex → Type 0
+ShardsStand f has root x = (k g : ℕ) → at_shard x.generations k ≡ Some g → IndexStands f has root x.id k g
 
 -- an index that is found is in the list
 pub index_found : (xs : List RootIndex) (id : ℕ) (k g : ℕ) → at_shard_of (index_at xs id) k ≡ Some g → (x : RootIndex) × Has xs x × (x.id ≡ id) × (at_shard x.generations k ≡ Some g)
@@ -98,18 +104,18 @@ one_each is rule x y has_x has_y same =
     let number : i.0.id.number ≡ j.0.id.number = ap (λ (z : RootIndex). z.id) i.2 ∙ same ∙ sym (ap (λ (z : RootIndex). z.id) j.2) in
     sym i.2 ∙ ap root_index_of (once_codes is rule.distinct i.0 j.0 i.1 j.1 number) ∙ j.2
 
-pub by_index : (f : Formats) (has : BlobName → Bytes → Type 0) (root : RootData) → ((x : RootIndex) → Has root.indices x → ShardsStand f has x) → (i k g : ℕ) → Generation root i k g → IndexStands f has i k g
+pub by_index : (f : Formats) (has : BlobName → Bytes → Type 0) (root : RootData) → ((x : RootIndex) → Has root.indices x → ShardsStand f has root x) → (i k g : ℕ) → Generation root i k g → IndexStands f has root i k g
 by_index f has root each i k g is =
     let found = index_found root.indices i k g is in
-    subst (λ (n : ℕ). IndexStands f has n k g) found.2 (each found.0 found.1 k g found.3)
+    subst (λ (n : ℕ). IndexStands f has root n k g) found.2 (each found.0 found.1 k g found.3)
 
-pub to_index : (f : Formats) (has : BlobName → Bytes → Type 0) (root : RootData) → IsOneEach root.indices → ((i k g : ℕ) → Generation root i k g → IndexStands f has i k g) → (x : RootIndex) → Has root.indices x → ShardsStand f has x
+pub to_index : (f : Formats) (has : BlobName → Bytes → Type 0) (root : RootData) → IsOneEach root.indices → ((i k g : ℕ) → Generation root i k g → IndexStands f has root i k g) → (x : RootIndex) → Has root.indices x → ShardsStand f has root x
 to_index f has root once all x there k g is =
     all x.id k g (ap (λ (o : Option RootIndex). at_shard_of o k) (index_there root.indices once x there) ∙ is)
 
 -- ---- a root
 
-pub root_stands : (f : Formats) (has : BlobName → Bytes → Type 0) (root : RootData) → ((i k g : ℕ) → Generation root i k g → IndexStands f has i k g)
+pub root_stands : (f : Formats) (has : BlobName → Bytes → Type 0) (root : RootData) → ((i k g : ℕ) → Generation root i k g → IndexStands f has root i k g)
     → (o : Option (List Shelved)) → IsExactly (AllPairs (SnapStands f has root) root.snapshots) o → IsExactly (RootStands f has root) o
 root_stands f has root indices (Some shelf) snapshots = record { snapshots = snapshots; indices = indices }
 root_stands f has root indices None none = λ shelf s. none shelf s.snapshots
@@ -175,24 +181,24 @@ at_within h (x ∷ xs) zero g is = omega arith
 at_within h (x ∷ xs) (suc k) g is = let rest = at_within h xs k g is in omega arith
 
 -- the index of a shard that has this generation, or none
-abbrev pub PlaceStands : (f : Formats) → (BlobName → Bytes → Type 0) → ℕ → ℕ → Option ℕ → Type 0
-PlaceStands f has index shard o = (g : ℕ) → o ≡ Some g → IndexStands f has index shard g
+abbrev pub PlaceStands : (f : Formats) → (BlobName → Bytes → Type 0) → RootData → ℕ → ℕ → Option ℕ → Type 0
+PlaceStands f has root index shard o = (g : ℕ) → o ≡ Some g → IndexStands f has root index shard g
 
-pub place_stands : (f : Formats) (has : BlobName → Bytes → Type 0) (index shard g : ℕ) (o : Option ℕ) → o ≡ Some g → IndexStands f has index shard g → PlaceStands f has index shard o
-place_stands f has index shard g o is stands h some = let same : g ≡ h = cc in subst (λ (n : ℕ). IndexStands f has index shard n) same stands
+pub place_stands : (f : Formats) (has : BlobName → Bytes → Type 0) (root : RootData) (index shard g : ℕ) (o : Option ℕ) → o ≡ Some g → IndexStands f has root index shard g → PlaceStands f has root index shard o
+place_stands f has root index shard g o is stands h some = let same : g ≡ h = cc in subst (λ (n : ℕ). IndexStands f has root index shard n) same stands
 
-module _ {A : Type 0} (f : Formats) (has : BlobName → Bytes → Type 0) (index : ℕ) (h : A → Option ℕ) (xs : List A) where
-  pub place_of_all : (k : ℕ) (d : A) → k < length xs → ((j g : ℕ) → at_shard (map h xs) j ≡ Some g → IndexStands f has index j g) → PlaceStands f has index k (h (get_or xs k d))
+module _ {A : Type 0} (f : Formats) (has : BlobName → Bytes → Type 0) (root : RootData) (index : ℕ) (h : A → Option ℕ) (xs : List A) where
+  pub place_of_all : (k : ℕ) (d : A) → k < length xs → ((j g : ℕ) → at_shard (map h xs) j ≡ Some g → IndexStands f has root index j g) → PlaceStands f has root index k (h (get_or xs k d))
   place_of_all k d less all g is = all k g (at_read h xs k d less ∙ is)
 
-  pub places_more : (k : ℕ) (d : A) → k < length xs → ((j g : ℕ) → j < k → at_shard (map h xs) j ≡ Some g → IndexStands f has index j g) → PlaceStands f has index k (h (get_or xs k d))
-      → (j g : ℕ) → j < k + 1 → at_shard (map h xs) j ≡ Some g → IndexStands f has index j g
+  pub places_more : (k : ℕ) (d : A) → k < length xs → ((j g : ℕ) → j < k → at_shard (map h xs) j ≡ Some g → IndexStands f has root index j g) → PlaceStands f has root index k (h (get_or xs k d))
+      → (j g : ℕ) → j < k + 1 → at_shard (map h xs) j ≡ Some g → IndexStands f has root index j g
   places_more k d less each one j g below is = elim (cases_lt j k) [
     | inl before ↦ each j g before is
     | inr past ↦
         let same : k ≡ j = omega arith in
-        subst (λ (n : ℕ). IndexStands f has index n g) same (one g (sym (at_read h xs k d less) ∙ ap (at_shard (map h xs)) same ∙ is))
+        subst (λ (n : ℕ). IndexStands f has root index n g) same (one g (sym (at_read h xs k d less) ∙ ap (at_shard (map h xs)) same ∙ is))
   ]
 
-  pub places_all : (k : ℕ) → length xs ≤ k → ((j g : ℕ) → j < k → at_shard (map h xs) j ≡ Some g → IndexStands f has index j g) → (j g : ℕ) → at_shard (map h xs) j ≡ Some g → IndexStands f has index j g
+  pub places_all : (k : ℕ) → length xs ≤ k → ((j g : ℕ) → j < k → at_shard (map h xs) j ≡ Some g → IndexStands f has root index j g) → (j g : ℕ) → at_shard (map h xs) j ≡ Some g → IndexStands f has root index j g
   places_all k past each j g is = let within = at_within h xs j g is in each j g (omega arith) is

@@ -3,6 +3,7 @@ pub mod Images
 pub mod Commands
 pub mod Settled
 pub mod Joined
+pub mod Listed
 pub mod Places
 pub mod Infos
 pub mod Reach

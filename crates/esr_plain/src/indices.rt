@@ -9,6 +9,7 @@ ghost use Rattle.esr_plain.specs.Exactly.{Always};
 
 use crate::Image;
 use crate::files::stored_files;
+use crate::listed::have_snaps;
 use crate::reading::shard_index_at;
 use esr_names::{Id, ShardId};
 use esr_root::{RootData, RootIndex};
@@ -27,19 +28,23 @@ fn are_below(held: &ShardIndex, generation: Id) -> bool
     true
 }
 
-/// Whether the index of a shard reads, and each file that it lists stands.
+/// Whether the index of a shard reads, each file that it lists stands, and so does what each listed snapshot has of the shard.
 fn index_stands(
     alloc: Global,
     image: &Image,
+    root: &RootData,
     shard: ShardId,
     generation: Id,
 ) -> Result<bool, AllocError>
-    ensures { IfOk result (λ b. Always (λ f. IsTrue b ↔ IndexStands f (At f image.now) shard.index.number shard.number generation.number)) }
+    ensures { IfOk result (λ b. Always (λ f. IsTrue b ↔ IndexStands f (At f image.now) (root_of root.now) shard.index.number shard.number generation.number)) }
 {
     let Some(held) = shard_index_at(alloc, image, shard, generation)? else {
         return Ok(false);
     };
     if !are_below(&held, generation) {
+        return Ok(false);
+    }
+    if !have_snaps(alloc, image, root, shard, &held)? {
         return Ok(false);
     }
     match stored_files(alloc, image, shard, held.files())? {
@@ -52,27 +57,33 @@ fn index_stands(
 fn shard_stands(
     alloc: Global,
     image: &Image,
+    root: &RootData,
     shard: ShardId,
     generation: Option<Id>,
 ) -> Result<bool, AllocError>
-    ensures { IfOk result (λ b. Always (λ f. IsTrue b ↔ ((g : ℕ) → option_map number_of generation ≡ Some g → IndexStands f (At f image.now) shard.index.number shard.number g))) }
+    ensures { IfOk result (λ b. Always (λ f. IsTrue b ↔ ((g : ℕ) → option_map number_of generation ≡ Some g → IndexStands f (At f image.now) (root_of root.now) shard.index.number shard.number g))) }
 {
     match generation {
-        Some(generation) => index_stands(alloc, image, shard, generation),
+        Some(generation) => index_stands(alloc, image, root, shard, generation),
         None => Ok(true),
     }
 }
 
 /// The same of each shard of an index.
-fn shards_stand(alloc: Global, image: &Image, index: &RootIndex) -> Result<bool, AllocError>
-    ensures { IfOk result (λ b. Always (λ f. IsTrue b ↔ ((k g : ℕ) → at_shard (root_index_of index.now).generations k ≡ Some g → IndexStands f (At f image.now) index.now.id.number k g))) }
+fn shards_stand(
+    alloc: Global,
+    image: &Image,
+    root: &RootData,
+    index: &RootIndex,
+) -> Result<bool, AllocError>
+    ensures { IfOk result (λ b. Always (λ f. IsTrue b ↔ ((k g : ℕ) → at_shard (root_index_of index.now).generations k ≡ Some g → IndexStands f (At f image.now) (root_of root.now) index.now.id.number k g))) }
 {
     for (number, generation) in index.generations.as_slice().iter().enumerate() {
         let shard = ShardId {
             index: index.id,
             number: number as u32,
         };
-        if !shard_stands(alloc, image, shard, *generation)? {
+        if !shard_stands(alloc, image, root, shard, *generation)? {
             return Ok(false);
         }
     }
@@ -81,10 +92,10 @@ fn shards_stand(alloc: Global, image: &Image, index: &RootIndex) -> Result<bool,
 
 /// The same of each shard of a root.
 pub fn indices_stand(alloc: Global, image: &Image, root: &RootData) -> Result<bool, AllocError>
-    ensures { IfOk result (λ b. Always (λ f. IsTrue b ↔ ((i k g : ℕ) → Generation (root_of root.now) i k g → IndexStands f (At f image.now) i k g))) }
+    ensures { IfOk result (λ b. Always (λ f. IsTrue b ↔ ((i k g : ℕ) → Generation (root_of root.now) i k g → IndexStands f (At f image.now) (root_of root.now) i k g))) }
 {
     for index in root.indices.as_slice() {
-        if !shards_stand(alloc, image, index)? {
+        if !shards_stand(alloc, image, root, index)? {
             return Ok(false);
         }
     }

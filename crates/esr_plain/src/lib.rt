@@ -5,6 +5,7 @@ mod files;
 mod image;
 mod indices;
 mod info;
+mod listed;
 mod places;
 mod reached;
 mod reading;

@@ -16,7 +16,7 @@ use Rattle.esr_progress.specs.Plan.{Plan, Seat, seat_of_code, ReaderSeat, reader
 use Rattle.esr_progress.specs.Seats.{seat_at, seat_in, reader_in, told_in}
 use Rattle.esr_progress.specs.Inside.{plan_with, seats_with, readers_with, numbers_of, AreNumbers, IsProgress}
 use Rattle.esr_progress.specs.Restores.{is_waiting}
-use Rattle.esr_progress.specs.Changes.{with_seat, without_op, with_completed, op_changed, op_marked, op_failed, seat_ended, done_by, failed_by, with_reader, reader_ended, restore_over, restore_changed, restore_kept, put_plan, read_by}
+use Rattle.esr_progress.specs.Changes.{with_seat, without_op, with_completed, op_changed, op_marked, op_failed, seat_ended, done_by, failed_by, with_reader, reader_ended, restore_over, restore_changed, restore_kept, put_plan, read_by, delete_changed}
 use Rattle.esr_progress.proofs.Lists.{none_some, some_same}
 use Rattle.esr_progress.proofs.Entries.{FirstAt, position_found, position_missed, get_from, get_put, get_left, same_maps, from_set, from_filter}
 use Rattle.esr_progress.proofs.Numbers.{numbers-set, numbers-filter, kept_number}
@@ -119,6 +119,48 @@ module _ (ops : List (ℕ × Op)) (deletes : List (ℕ × Deletion)) (o : ℕ) w
   pub left_is : (completed : List ℕ) (seats : List Slot) (next : ℕ) (restores : List (ℕ × RestorePlan))
       → plan_with (filter (λ e. not (eqb e.0 o)) ops) (filter (λ e. not (eqb e.0 o)) deletes) completed seats next restores ≡ without_op (plan_with ops deletes completed seats next restores) o
   left_is completed seats next restores = λ j. record (plan_with ops deletes completed seats next restores) { ops = from_filter ops o j; deletes = from_filter deletes o j }
+
+-- ---- a delete
+
+pub has_delete_is : (deletes : List (ℕ × Deletion)) (o : ℕ) (i : Option ℕ) → i ≡ position (λ e. eqb e.0 o) deletes → is_some i ≡ is_some (fin.get (fin.from_entries {R = nat_cmp} deletes) o)
+has_delete_is deletes o None e = sym (ap is_some (get_from deletes o ∙ position_missed deletes o (sym e)))
+has_delete_is [] o (Some i) e = absurd (none_some i (sym e))
+has_delete_is (x ∷ deletes) o (Some i) e = sym (ap is_some (get_from (x ∷ deletes) o ∙ (position_found (x ∷ deletes) o i x (sym e)).found))
+
+module _ (g : Deletion → Deletion) (ops : List (ℕ × Op)) (completed : List ℕ) (seats : List Slot) (next : ℕ) (restores : List (ℕ × RestorePlan)) (o : ℕ) where
+  pub delete_missed : (deletes : List (ℕ × Deletion)) → position (λ e. eqb e.0 o) deletes ≡ None
+      → plan_with ops deletes completed seats next restores ≡ delete_changed g (plan_with ops deletes completed seats next restores) o (fin.get (fin.from_entries {R = nat_cmp} deletes) o)
+  delete_missed deletes e = sym (ap (delete_changed g (plan_with ops deletes completed seats next restores) o) (get_from deletes o ∙ position_missed deletes o e))
+
+  module _ (deletes : List (ℕ × Deletion)) (i : ℕ) (x new : ℕ × Deletion) (found : position (λ e. eqb e.0 o) deletes ≡ Some i) (x_is : x ≡ get_or deletes i x) (new_is : new ≡ (x.0, g x.1)) where
+    delete_at : FirstAt deletes o i
+    delete_at = position_found deletes o i x found
+
+    same_delete : x ≡ delete_at.e
+    same_delete = x_is ∙ get_or_from_slice_get deletes i delete_at.e x delete_at.there
+
+    delete_is : new ≡ (o, g delete_at.e.1)
+    delete_is = new_is ∙ (λ j. ((same_delete j).0, g (same_delete j).1)) ∙ (λ j. (delete_at.key j, g delete_at.e.1))
+
+    pub delete_put : plan_with ops (set deletes i new) completed seats next restores ≡ delete_changed g (plan_with ops deletes completed seats next restores) o (fin.get (fin.from_entries {R = nat_cmp} deletes) o)
+    delete_put =
+        let map_is : fin.from_entries {R = nat_cmp} (set deletes i new) ≡ fin.insert (fin.from_entries {R = nat_cmp} deletes) o (g delete_at.e.1) =
+        ap (λ v. fin.from_entries {R = nat_cmp} (set deletes i v)) delete_is ∙ from_set deletes o i (g delete_at.e.1) delete_at in
+        let there : fin.get (fin.from_entries {R = nat_cmp} deletes) o ≡ Some delete_at.e.1 = get_from deletes o ∙ delete_at.found in
+        (λ j. record (plan_with ops deletes completed seats next restores) { deletes = map_is j }) ∙ sym (ap (delete_changed g (plan_with ops deletes completed seats next restores) o) there)
+
+    pub delete_put_numbers : numbers_of (set deletes i new) ≡ numbers_of deletes
+    delete_put_numbers = ap (λ v. numbers_of (set deletes i v)) delete_is ∙ numbers-set deletes o i (g delete_at.e.1) delete_at
+
+    pub delete_put_keeps : IsProgress ops deletes next restores → IsProgress ops (set deletes i new) next restores
+    delete_put_keeps h = record {
+      ops_numbered = h.ops_numbered;
+      deletes_numbered = subst (λ ns. AreNumbers ns next) (sym delete_put_numbers) h.deletes_numbered;
+      restores_numbered = h.restores_numbered;
+      apart = λ n m d. h.apart n m (subst (λ (ns : List ℕ). Has ns n) delete_put_numbers d);
+      first = h.first;
+      most = h.most;
+    }
 
 -- ---- a restore
 

@@ -7,7 +7,7 @@ use Rattle.std.proofs.lemmas.Bool.{cases_lt}
 use Rattle.std.proofs.lemmas.List.Quantifiers.{position-Some}
 use Rattle.std.proofs.lemmas.Option.{slice_get_read, slice_get_within, slice_get-get_or, get_or_from_slice_get}
 use Rattle.esr_model.specs.Values.{Has, ShardResult}
-use Rattle.esr_core.specs.World.{Op, ShardState, Pending, Out, Done, GivenUp, ShardWork, AllDone}
+use Rattle.esr_core.specs.World.{Op, Deletion, ShardState, Pending, Out, Done, GivenUp, ShardWork, AllDone}
 use Rattle.esr_core.specs.Ready.{Goes, Stopped, Waits, Before}
 use Rattle.esr_core.specs.Steps.{all_done, is_done}
 use Rattle.esr_core.specs.Allowed.{StandsBefore}
@@ -18,24 +18,24 @@ use Rattle.esr_progress.specs.declared.unit.Slot.{Slot}
 use Rattle.esr_progress.specs.Shards.{is_pending, waits, waits_for, is_shard}
 use Rattle.esr_progress.specs.Ops.{has_stopped, is_free}
 use Rattle.esr_progress.specs.Inside.{numbers_of, Rise}
-use Rattle.esr_progress.specs.Choice.{goes_in, is_first_at, is_earliest, is_out_of, is_swapping, ready_by, is_final, ready_of, NoneBefore, IsReadyAt, IsPossible, AreShards}
+use Rattle.esr_progress.specs.Choice.{barred, is_going, goes_in, is_first_at, is_earliest, is_out_of, is_swapping, ready_by, is_final, ready_of, NoneBefore, IsReadyAt, IsPossible, AreShards}
 use Rattle.esr_progress.proofs.Lists.{Has-at, Has-map, position-None, some_same, none_some}
 use Rattle.esr_progress.proofs.Entries.{eqb_is, find-member}
 use Rattle.esr_progress.proofs.Numbers.{found_member}
 
 -- ---- the search
 
-module _ (ops : List (ℕ × Op)) (completed : List ℕ) (seats : List Slot) (term : ℕ) where
-  pub ready_here : (at : ℕ) (e : ℕ × Op) (kind : Kind) → at < length ops → e ≡ get_or ops at e → ready_of ops completed seats term (take at ops) e ≡ Some kind → NoneBefore ops completed seats term at
-      → IsReadyAt ops completed seats term at kind
+module _ (ops : List (ℕ × Op)) (deletes : List (ℕ × Deletion)) (completed : List ℕ) (seats : List Slot) (term : ℕ) where
+  pub ready_here : (at : ℕ) (e : ℕ × Op) (kind : Kind) → at < length ops → e ≡ get_or ops at e → ready_of ops deletes completed seats term (take at ops) e ≡ Some kind → NoneBefore ops deletes completed seats term at
+      → IsReadyAt ops deletes completed seats term at kind
   ready_here at e kind lt is found before = record { e = e; there = slice_get_read ops (length ops) at e refl lt is; is = found; before = before }
 
-  pub none_more : (at : ℕ) (e : ℕ × Op) → at < length ops → e ≡ get_or ops at e → ready_of ops completed seats term (take at ops) e ≡ None → NoneBefore ops completed seats term at → NoneBefore ops completed seats term (at + 1)
+  pub none_more : (at : ℕ) (e : ℕ × Op) → at < length ops → e ≡ get_or ops at e → ready_of ops deletes completed seats term (take at ops) e ≡ None → NoneBefore ops deletes completed seats term at → NoneBefore ops deletes completed seats term (at + 1)
   none_more at e lt is none before k x below there = elim (lt_or_same k at below) [
     | inl less ↦ before k x less there
     | inr same ↦
         let one : e ≡ x = some_same e x (sym (slice_get_read ops (length ops) at e refl lt is) ∙ ap (slice_get ops) (sym same) ∙ there) in
-        (λ i. ready_of ops completed seats term (take (same i) ops) (sym one i)) ∙ none
+        (λ i. ready_of ops deletes completed seats term (take (same i) ops) (sym one i)) ∙ none
   ]
     where
       lt_or_same : (k at : ℕ) → k < at + 1 → (k < at) ⊎ (k ≡ at)
@@ -224,46 +224,51 @@ module _ (p o : ℕ) where
   before_taken (x ∷ xs) (suc i) there (ne, inr h) = inr (before_taken xs i there h)
 
 -- an op that goes and stands before the number
-pub record Earlier (ops : List (ℕ × Op)) (completed : List ℕ) (number : ℕ) : Type 0 where
+pub record Earlier (ops : List (ℕ × Op)) (deletes : List (ℕ × Deletion)) (completed : List ℕ) (number : ℕ) : Type 0 where
   pub p : ℕ
   pub q : Op
   pub found : fin.find nat_cmp p ops ≡ Some q
   pub goes : has_stopped q ≡ false
+  pub unbarred : barred deletes p ≡ false
   pub before : Before completed p number
 
-module _ (ops : List (ℕ × Op)) (rise : Rise (numbers_of ops)) (completed : List ℕ) (number : ℕ) where
-  going : (p : ℕ) → goes_in ops p ≡ true → (q : Op) × (fin.find nat_cmp p ops ≡ Some q) × (has_stopped q ≡ false)
+module _ (ops : List (ℕ × Op)) (rise : Rise (numbers_of ops)) (deletes : List (ℕ × Deletion)) (completed : List ℕ) (number : ℕ) where
+  going : (p : ℕ) → goes_in ops deletes p ≡ true → (q : Op) × (fin.find nat_cmp p ops ≡ Some q) × (has_stopped q ≡ false) × (barred deletes p ≡ false)
   going p e =
-      let (x, m, h) = any_true (λ (x : ℕ × Op). (x.0 == p) && not (has_stopped x.1)) ops e in
+      let (one, free) = and_true (is_going ops p) (not (barred deletes p)) e in
+      let (x, m, h) = any_true (λ (x : ℕ × Op). (x.0 == p) && not (has_stopped x.1)) ops one in
       let (same, on) = and_true _ _ h in
-      (x.1, subst (λ (k : ℕ). fin.find nat_cmp k ops ≡ Some x.1) (eqb_is x.0 p same) (found_member ops rise x m), not_true _ on)
+      (x.1, subst (λ (k : ℕ). fin.find nat_cmp k ops ≡ Some x.1) (eqb_is x.0 p same) (found_member ops rise x m), not_true _ on, not_true (barred deletes p) free)
 
-  gone : (p : ℕ) (q : Op) → fin.find nat_cmp p ops ≡ Some q → has_stopped q ≡ false → goes_in ops p ≡ true
-  gone p q found on = any_here (λ (x : ℕ × Op). (x.0 == p) && not (has_stopped x.1)) ops (p, q) (find-member p ops q found) (both_true _ _ (eq-eqb p p refl) (ap not on))
+  gone : (p : ℕ) (q : Op) → fin.find nat_cmp p ops ≡ Some q → has_stopped q ≡ false → barred deletes p ≡ false → goes_in ops deletes p ≡ true
+  gone p q found on free =
+      both_true (is_going ops p) (not (barred deletes p))
+      (any_here (λ (x : ℕ × Op). (x.0 == p) && not (has_stopped x.1)) ops (p, q) (find-member p ops q found) (both_true _ _ (eq-eqb p p refl) (ap not on)))
+      (ap not free)
 
-  late : (o : Option ℕ) → position (λ n. n == number) completed ≡ o → is_first_at ops completed o ≡ false → Earlier ops completed number
+  late : (o : Option ℕ) → position (λ n. n == number) completed ≡ o → is_first_at ops deletes completed o ≡ false → Earlier ops deletes completed number
   late None e h = absurd (true≢false h)
   late (Some i) e h =
       let (within, at) = place_within (λ n. n == number) completed i e in
       let (here, earlier) = first_place (λ n. n == number) completed i at.0 e at.1 in
       let there : slice_get completed i ≡ Some number = at.1 ∙ ap (λ n. Some n) (eqb_is at.0 number here) in
-      let some : list_any (goes_in ops) (take i completed) ≡ true = is_true _ (λ f. true≢false (ap not (sym f) ∙ h)) in
-      let (p, m, on) = any_true (goes_in ops) (take i completed) some in
-      let (q, found, goes) = going p on in
-      record { p = p; q = q; found = found; goes = goes; before = taken_before p number completed i there (λ z hz is. clash (z == number) (eq-eqb z number is) (earlier z hz)) m }
+      let some : list_any (goes_in ops deletes) (take i completed) ≡ true = is_true _ (λ f. true≢false (ap not (sym f) ∙ h)) in
+      let (p, m, on) = any_true (goes_in ops deletes) (take i completed) some in
+      let (q, found, goes, free) = going p on in
+      record { p = p; q = q; found = found; goes = goes; unbarred = free; before = taken_before p number completed i there (λ z hz is. clash (z == number) (eq-eqb z number is) (earlier z hz)) m }
 
-  early : (o : Option ℕ) → position (λ n. n == number) completed ≡ o → is_first_at ops completed o ≡ true → Earlier ops completed number → ⊥
+  early : (o : Option ℕ) → position (λ n. n == number) completed ≡ o → is_first_at ops deletes completed o ≡ true → Earlier ops deletes completed number → ⊥
   early None e h x = clash (number == number) (eq-eqb number number refl) (position-None (λ n. n == number) completed e number (Before-member completed x.p number x.before))
   early (Some i) e h x =
       let (within, at) = place_within (λ n. n == number) completed i e in
       let (here, earlier) = first_place (λ n. n == number) completed i at.0 e at.1 in
       let there : slice_get completed i ≡ Some number = at.1 ∙ ap (λ n. Some n) (eqb_is at.0 number here) in
-      clash _ (any_here (goes_in ops) (take i completed) x.p (before_taken x.p number completed i there x.before) (gone x.p x.q x.found x.goes)) (not_true _ h)
+      clash _ (any_here (goes_in ops deletes) (take i completed) x.p (before_taken x.p number completed i there x.before) (gone x.p x.q x.found x.goes x.unbarred)) (not_true _ h)
 
-  pub not_earliest : is_earliest ops completed number ≡ false → Earlier ops completed number
+  pub not_earliest : is_earliest ops deletes completed number ≡ false → Earlier ops deletes completed number
   not_earliest h = late (position (λ n. n == number) completed) refl h
 
-  pub none_earlier : is_earliest ops completed number ≡ true → Earlier ops completed number → ⊥
+  pub none_earlier : is_earliest ops deletes completed number ≡ true → Earlier ops deletes completed number → ⊥
   none_earlier h x = early (position (λ n. n == number) completed) refl h x
 
 -- ---- shards that are done
@@ -277,24 +282,25 @@ all_done_by (s ∷ shards) (r ∷ rs) h = both_true _ _ (ap is_done h.0) (all_do
 -- ---- which unit
 
 -- how the choice of a unit came out
-abbrev pub WasPicked : Option Kind → Bool → Bool → Option ℕ → Bool → Type 0
-WasPicked (Some (ready.Shard i)) stopped out free final = (stopped ≡ false) × (free ≡ Some i)
-WasPicked (Some ready.Finalize) stopped out free final = (stopped ≡ false) × (free ≡ None) × (final ≡ true)
-WasPicked (Some ready.Drop) stopped out free final = (stopped ≡ true) × (out ≡ false)
-WasPicked None stopped out free final = ((stopped ≡ true) × (out ≡ true)) ⊎ ((stopped ≡ false) × (free ≡ None) × (final ≡ false))
+abbrev pub WasPicked : Option Kind → Bool → Bool → Bool → Option ℕ → Bool → Type 0
+WasPicked (Some (ready.Shard i)) stopped out bar free final = (stopped ≡ false) × (free ≡ Some i) × (bar ≡ false)
+WasPicked (Some ready.Finalize) stopped out bar free final = (stopped ≡ false) × (free ≡ None) × (final ≡ true) × (bar ≡ false)
+WasPicked (Some ready.Drop) stopped out bar free final = (stopped ≡ true) × (out ≡ false)
+WasPicked None stopped out bar free final = ((stopped ≡ true) × (out ≡ true)) ⊎ ((stopped ≡ false) × ((bar ≡ true) ⊎ ((free ≡ None) × (final ≡ false))))
 
-picked_so : (stopped out : Bool) (free : Option ℕ) (final : Bool) → WasPicked (cond stopped (cond out None (Some ready.Drop)) (ready_by free final)) stopped out free final
-picked_so true true free final = inl (refl, refl)
-picked_so true false free final = (refl, refl)
-picked_so false out (Some i) final = (refl, refl)
-picked_so false out None true = (refl, refl, refl)
-picked_so false out None false = inr (refl, refl, refl)
+picked_so : (stopped out bar : Bool) (free : Option ℕ) (final : Bool) → WasPicked (cond stopped (cond out None (Some ready.Drop)) (cond bar None (ready_by free final))) stopped out bar free final
+picked_so true true bar free final = inl (refl, refl)
+picked_so true false bar free final = (refl, refl)
+picked_so false out true free final = inr (refl, inl refl)
+picked_so false out false (Some i) final = (refl, refl, refl)
+picked_so false out false None true = (refl, refl, refl, refl)
+picked_so false out false None false = inr (refl, inr (refl, refl))
 
-pub picked : (ops : List (ℕ × Op)) (completed : List ℕ) (seats : List Slot) (term : ℕ) (before : List (ℕ × Op)) (e : ℕ × Op) (kind : Option Kind) → ready_of ops completed seats term before e ≡ kind
-    → WasPicked kind (has_stopped e.1) (is_out_of seats term e.0) (position (is_free before) e.1.shards) (is_final ops completed seats term e)
-picked ops completed seats term before e kind is =
-    subst (λ (k : Option Kind). WasPicked k (has_stopped e.1) (is_out_of seats term e.0) (position (is_free before) e.1.shards) (is_final ops completed seats term e)) is
-    (picked_so (has_stopped e.1) (is_out_of seats term e.0) (position (is_free before) e.1.shards) (is_final ops completed seats term e))
+pub picked : (ops : List (ℕ × Op)) (deletes : List (ℕ × Deletion)) (completed : List ℕ) (seats : List Slot) (term : ℕ) (before : List (ℕ × Op)) (e : ℕ × Op) (kind : Option Kind) → ready_of ops deletes completed seats term before e ≡ kind
+    → WasPicked kind (has_stopped e.1) (is_out_of seats term e.0) (barred deletes e.0) (position (is_free before) e.1.shards) (is_final ops deletes completed seats term e)
+picked ops deletes completed seats term before e kind is =
+    subst (λ (k : Option Kind). WasPicked k (has_stopped e.1) (is_out_of seats term e.0) (barred deletes e.0) (position (is_free before) e.1.shards) (is_final ops deletes completed seats term e)) is
+    (picked_so (has_stopped e.1) (is_out_of seats term e.0) (barred deletes e.0) (position (is_free before) e.1.shards) (is_final ops deletes completed seats term e))
 
 -- ---- the first shard of its id and number
 
@@ -322,26 +328,28 @@ pub free_alike : (before : List (ℕ × Op)) (a b : ShardWork) → a.ref.id ≡ 
 free_alike before a b id number state = λ i. is_pending (state i) && not (list_any (λ (e : ℕ × Op). list_any (waits_for (id i) (number i)) e.1.shards) before)
 
 -- an op can give the unit that is found
-pub possible : (ops : List (ℕ × Op)) (completed : List ℕ) (seats : List Slot) (term : ℕ) (before : List (ℕ × Op)) (e : ℕ × Op) (kind : Kind) → ready_of ops completed seats term before e ≡ Some kind → IsPossible e.1 kind
-possible ops completed seats term before e (ready.Shard i) is = (place_within (is_free before) e.1.shards i (picked ops completed seats term before e (Some (ready.Shard i)) is).1).0
-possible ops completed seats term before e ready.Finalize is = (and_true _ _ (picked ops completed seats term before e (Some ready.Finalize) is).2).0
-possible ops completed seats term before e ready.Drop is = tt
+pub possible : (ops : List (ℕ × Op)) (deletes : List (ℕ × Deletion)) (completed : List ℕ) (seats : List Slot) (term : ℕ) (before : List (ℕ × Op)) (e : ℕ × Op) (kind : Kind) → ready_of ops deletes completed seats term before e ≡ Some kind → IsPossible e.1 kind
+possible ops deletes completed seats term before e (ready.Shard i) is = (place_within (is_free before) e.1.shards i (picked ops deletes completed seats term before e (Some (ready.Shard i)) is).1).0
+possible ops deletes completed seats term before e ready.Finalize is = (and_true _ _ (picked ops deletes completed seats term before e (Some ready.Finalize) is).2).0
+possible ops deletes completed seats term before e ready.Drop is = tt
 
 -- ---- the same, of equal lists
 
-module _ (ops here : List (ℕ × Op)) (same : here ≡ ops) where
-  pub none_in : (completed done : List ℕ) → done ≡ completed → (seats sat : List Slot) → sat ≡ seats → (term : ℕ) → NoneBefore here done sat term (length here) → NoneBefore ops completed seats term (length ops)
-  none_in completed done d seats sat s term h =
-      subst (λ (es : List (ℕ × Op)). NoneBefore es completed seats term (length es)) same
-      (subst (λ (ns : List ℕ). NoneBefore here ns seats term (length here)) d (subst (λ (cs : List Slot). NoneBefore here done cs term (length here)) s h))
+module _ (ops here : List (ℕ × Op)) (same : here ≡ ops) (deletes held : List (ℕ × Deletion)) (kept : held ≡ deletes) (completed done : List ℕ) (d : done ≡ completed) (seats sat : List Slot) (s : sat ≡ seats) (term : ℕ) where
+  pub none_in : NoneBefore here held done sat term (length here) → NoneBefore ops deletes completed seats term (length ops)
+  none_in h =
+      subst (λ (es : List (ℕ × Op)). NoneBefore es deletes completed seats term (length es)) same
+      (subst (λ (ds : List (ℕ × Deletion)). NoneBefore here ds completed seats term (length here)) kept
+      (subst (λ (ns : List ℕ). NoneBefore here held ns seats term (length here)) d (subst (λ (cs : List Slot). NoneBefore here held done cs term (length here)) s h)))
 
-  pub ready_in : (completed done : List ℕ) → done ≡ completed → (seats sat : List Slot) → sat ≡ seats → (term at : ℕ) (kind : Kind) → IsReadyAt here done sat term at kind → IsReadyAt ops completed seats term at kind
-  ready_in completed done d seats sat s term at kind h =
-      subst (λ (es : List (ℕ × Op)). IsReadyAt es completed seats term at kind) same
-      (subst (λ (ns : List ℕ). IsReadyAt here ns seats term at kind) d (subst (λ (cs : List Slot). IsReadyAt here done cs term at kind) s h))
+  pub ready_in : (at : ℕ) (kind : Kind) → IsReadyAt here held done sat term at kind → IsReadyAt ops deletes completed seats term at kind
+  ready_in at kind h =
+      subst (λ (es : List (ℕ × Op)). IsReadyAt es deletes completed seats term at kind) same
+      (subst (λ (ds : List (ℕ × Deletion)). IsReadyAt here ds completed seats term at kind) kept
+      (subst (λ (ns : List ℕ). IsReadyAt here held ns seats term at kind) d (subst (λ (cs : List Slot). IsReadyAt here held done cs term at kind) s h)))
 
 -- the op at the place, read
-module _ (ops here : List (ℕ × Op)) (same : here ≡ ops) (completed : List ℕ) (seats : List Slot) (term at : ℕ) (kind : Kind) (r : IsReadyAt here completed seats term at kind) (e : ℕ × Op) (is : e ≡ get_or ops at e) where
+module _ (ops here : List (ℕ × Op)) (same : here ≡ ops) (deletes : List (ℕ × Deletion)) (completed : List ℕ) (seats : List Slot) (term at : ℕ) (kind : Kind) (r : IsReadyAt here deletes completed seats term at kind) (e : ℕ × Op) (is : e ≡ get_or ops at e) where
   pub read_there : slice_get ops at ≡ Some e
   read_there =
       let there : slice_get ops at ≡ Some r.e = ap (λ es. slice_get es at) (sym same) ∙ r.there in
@@ -350,4 +358,4 @@ module _ (ops here : List (ℕ × Op)) (same : here ≡ ops) (completed : List �
   pub possible_there : IsPossible e.1 kind
   possible_there =
       let one : r.e ≡ e = some_same r.e e (sym r.there ∙ ap (λ es. slice_get es at) same ∙ read_there) in
-      subst (λ (x : ℕ × Op). IsPossible x.1 kind) one (possible here completed seats term (take at here) r.e kind r.is)
+      subst (λ (x : ℕ × Op). IsPossible x.1 kind) one (possible here deletes completed seats term (take at here) r.e kind r.is)

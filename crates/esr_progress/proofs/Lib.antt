@@ -16,6 +16,7 @@ pub mod Accepts
 pub mod Changing
 pub mod Reporting
 pub mod Reading
+pub mod Between
 pub mod Recorded
 pub mod Takes
 pub mod Choices
@@ -23,3 +24,5 @@ pub mod NextUnits
 pub mod Unread
 pub mod Restorables
 pub mod Lowest
+pub mod NextDeletes
+pub mod Reopening

@@ -1,31 +1,113 @@
--- The unit of the lowest op, of units of ops and of restores.
-use Rattle.std.proofs.Common.{◌≡◌, ◌⊎◌, ℕ, ◌<◌, ◌≤◌, Bool, true, false, Option, Some, None, refl, sym, ap, ◌∙◌, subst, inl, inr, true≢false, arith}
-use Rattle.std.specs.Prelude.{nat_lt, IfOk, Result, Ok, Err}
+-- The unit of the lowest number, of units of restores, deletes and snapshots.
+use Rattle.std.proofs.Common.{◌≡◌, ◌⊎◌, ℕ, ◌<◌, ◌≤◌, Bool, true, false, cond, Option, Some, None, refl, sym, ap, ◌∙◌, inl, inr, true≢false, arith}
+use Rattle.std.specs.Prelude.{IfOk, Result, Ok, Err}
 use Rattle.std.proofs.lemmas.Bool.{cases_lt}
 use Rattle.std.proofs.lemmas.Bool.Decides.{Decides-ltb}
 use Rattle.std.specs.FinMap as fin
-use Rattle.esr_model.specs.Values.{Formats}
-use Rattle.esr_core.specs.World.{World}
-use Rattle.esr_core.specs.Ready.{AnyReady, AShard, AFinalize, ADrop, ADelete, ACleanup, ARestore}
-use Rattle.esr_core.specs.Allowed.{HasReady}
+use Rattle.esr_core.specs.World.{World, Deletion}
+use Rattle.esr_core.specs.Ready.{ReadyDrop, AnyReady, AShard, AFinalize, ADrop, ADelete, ACleanup, ARestore}
+use Rattle.esr_core.specs.Allowed.{NoCleanup, HasReady}
 use Rattle.esr_progress.specs.declared.unit.ReadyUnit.{ReadyUnit}
-use Rattle.esr_progress.specs.Plan.{Plan}
-use Rattle.esr_progress.specs.Units.{HasOpReady, HasUnread, IsLowest, GivesLowest, LowestUnit, GivesUnit, NextUnit}
-use Rattle.esr_progress.specs.Choice.{is_before}
-use Rattle.esr_progress.proofs.Lists.{none_some}
+use Rattle.esr_progress.specs.Plan.{Plan, IsPlanOf}
+use Rattle.esr_progress.specs.Units.{HasSnapReady, HasDeleteReady, HasUnread, IsLowest, LowestUnit, NextUnit}
+use Rattle.esr_progress.specs.Choice.{is_before, lower_of}
 
 -- what holds of an answer that isn't an error
 pub ok_maps : {A E : Type 0} {P Q : A → Type 0} (r : Result A E) → IfOk r P → ((x : A) → P x → Q x) → IfOk r Q
 ok_maps (Ok x) h f = f x h
 ok_maps (Err e) h f = h
 
--- what is ready is of an op or of a restore
-parts : (w : World) (o : ℕ) → HasReady w o → HasOpReady w o ⊎ HasUnread w o
-parts w o (inl h) = inl (inl h)
-parts w o (inr (inl h)) = inl (inr (inl h))
-parts w o (inr (inr (inl h))) = inl (inr (inr (inl h)))
-parts w o (inr (inr (inr (inl h)))) = inl (inr (inr (inr h)))
-parts w o (inr (inr (inr (inr h)))) = inr h
+-- neither comes below the other
+reaches : (P : ℕ → Type 0) (o p : ℕ) → ((q : ℕ) → q < o → P q → ⊥) → P p → o ≤ p
+reaches P o p below h = elim (cases_lt p o) [ inl lt ↦ absurd (below p lt h) | inr le ↦ le ]
+
+-- ---- of two kinds
+
+module _ (P Q : ℕ → Type 0) where
+  -- the first comes first: nothing of the second is ready below any number that has nothing of the first below it
+  no_second : (a b : Option ℕ) → IsLowest P a → IsLowest Q b → is_before a b ≡ true → (n : ℕ) → ((p : ℕ) → p < n → P p → ⊥) → (p : ℕ) → p < n → Q p → ⊥
+  no_second None b lowest least first n none p lt h = true≢false (sym first)
+  no_second (Some x) None lowest least first n none p lt h = least p h
+  no_second (Some x) (Some y) lowest least first n none p lt h =
+      let below : x < y = (Decides-ltb x y).0 first in
+      let le : y ≤ p = reaches Q y p least.1 h in
+      none x (omega arith) lowest.0
+
+  no_first : (a b : Option ℕ) → IsLowest P a → IsLowest Q b → is_before a b ≡ false → (n : ℕ) → ((p : ℕ) → p < n → Q p → ⊥) → (p : ℕ) → p < n → P p → ⊥
+  no_first None b lowest least first n none p lt h = lowest p h
+  no_first (Some x) None lowest least first n none p lt h = true≢false first
+  no_first (Some x) (Some y) lowest least first n none p lt h =
+      let le : x ≤ p = reaches P x p lowest.1 h in
+      elim (cases_lt x y) [ inl below ↦ true≢false (sym ((Decides-ltb x y).1 below) ∙ first) | inr above ↦ none y (omega (arith, above)) least.0 ]
+
+  some_first : (a b : Option ℕ) → IsLowest P a → is_before a b ≡ true → (x : ℕ) × P x
+  some_first None b lowest first = absurd (true≢false (sym first))
+  some_first (Some x) b lowest first = (x, lowest.0)
+
+  none_at_all : (a b : Option ℕ) → IsLowest P a → IsLowest Q b → is_before a b ≡ false → ((n : ℕ) → Q n → ⊥) → (n : ℕ) → P n → ⊥
+  none_at_all None b lowest least first none n h = lowest n h
+  none_at_all (Some x) None lowest least first none n h = true≢false first
+  none_at_all (Some x) (Some y) lowest least first none n h = none y least.0
+
+  first_lowest : (a b : Option ℕ) → IsLowest P a → IsLowest Q b → is_before a b ≡ true → IsLowest (λ n. P n ⊎ Q n) a
+  first_lowest None b lowest least first = absurd (true≢false (sym first))
+  first_lowest (Some x) b lowest least first = (inl lowest.0, λ p lt h. elim h [ inl one ↦ lowest.1 p lt one | inr two ↦ no_second (Some x) b lowest least first x lowest.1 p lt two ])
+
+  second_lowest : (a b : Option ℕ) → IsLowest P a → IsLowest Q b → is_before a b ≡ false → IsLowest (λ n. P n ⊎ Q n) b
+  second_lowest None None lowest least first = λ n h. elim h [ inl one ↦ lowest n one | inr two ↦ least n two ]
+  second_lowest (Some x) None lowest least first = absurd (true≢false first)
+  second_lowest a (Some y) lowest least first = (inr least.0, λ p lt h. elim h [ inl one ↦ no_first a (Some y) lowest least first y least.1 p lt one | inr two ↦ least.1 p lt two ])
+
+  -- the lower number is the lowest of both
+  lowest_of : (a b : Option ℕ) → IsLowest P a → IsLowest Q b → IsLowest (λ n. P n ⊎ Q n) (lower_of a b)
+  lowest_of a b lowest least = go (is_before a b) refl
+    where
+      go : (c : Bool) → is_before a b ≡ c → IsLowest (λ n. P n ⊎ Q n) (cond c a b)
+      go true e = first_lowest a b lowest least e
+      go false e = second_lowest a b lowest least e
+
+  module _ (w : World) (a b : Option ℕ) (lowest : IsLowest P a) (least : IsLowest Q b) where
+    first_unit : is_before a b ≡ true → (o : Option (Plan × ReadyUnit)) → LowestUnit P w o → LowestUnit (λ n. P n ⊎ Q n) w o
+    first_unit first None none = let (x, h) = some_first a b lowest first in absurd (none x h)
+    first_unit first (Some (new, u)) (g, plan) = (
+      record {
+        ticket = g.ticket;
+        lowest = λ p lt h. elim h [ inl one ↦ g.lowest p lt one | inr two ↦ no_second a b lowest least first u.op g.lowest p lt two ];
+        gives = g.gives;
+        copy = g.copy;
+      },
+      plan,
+    )
+
+    second_unit : is_before a b ≡ false → (o : Option (Plan × ReadyUnit)) → LowestUnit Q w o → LowestUnit (λ n. P n ⊎ Q n) w o
+    second_unit first None none = λ n h. elim h [ inl one ↦ none_at_all a b lowest least first none n one | inr two ↦ none n two ]
+    second_unit first (Some (new, u)) (g, plan) = (
+      record {
+        ticket = g.ticket;
+        lowest = λ p lt h. elim h [ inl one ↦ no_first a b lowest least first u.op g.lowest p lt one | inr two ↦ g.lowest p lt two ];
+        gives = g.gives;
+        copy = g.copy;
+      },
+      plan,
+    )
+
+-- ---- of all three
+
+-- what leaves is a snapshot or a delete
+leaves : (w : World) (o : ℕ) → ReadyDrop w o → HasDeleteReady w o ⊎ HasSnapReady w o
+leaves w o r = elim r.stopped [
+  | inl x ↦ inr (inr (inr (record { op = x.0; there = x.1; stopped = x.2; idle = r.idle })))
+  | inr x ↦ inl (inl (record { deletion = x.0; there = x.1; failed = x.2; idle = r.idle }))
+]
+
+-- what is ready is of a restore, of a delete or of a snapshot
+parts : (w : World) → NoCleanup w → (o : ℕ) → HasReady w o → HasUnread w o ⊎ (HasDeleteReady w o ⊎ HasSnapReady w o)
+parts w clean o (inl h) = inr (inr (inl h))
+parts w clean o (inr (inl h)) = inr (inr (inr (inl h)))
+parts w clean o (inr (inr (inl h))) = inr (leaves w o h)
+parts w clean o (inr (inr (inr (inl (x, inl r))))) = inr (inl (inr (x, r)))
+parts w clean o (inr (inr (inr (inl (x, inr r))))) = absurd (true≢false (sym r.cleans ∙ clean o x r.there))
+parts w clean o (inr (inr (inr (inr h)))) = inl h
 
 any_of : (w : World) → AnyReady w → (o : ℕ) × HasReady w o
 any_of w (AShard o op s r) = (o, inl (op, s, r))
@@ -35,56 +117,25 @@ any_of w (ADelete d x r) = (d, inr (inr (inr (inl (x, inl r)))))
 any_of w (ACleanup d x r) = (d, inr (inr (inr (inl (x, inr r)))))
 any_of w (ARestore o r s h) = (o, inr (inr (inr (inr (r, s, h)))))
 
--- neither comes below the other
-reaches : (P : ℕ → Type 0) (o p : ℕ) → ((q : ℕ) → q < o → P q → ⊥) → P p → o ≤ p
-reaches P o p below h = elim (cases_lt p o) [ inl lt ↦ absurd (below p lt h) | inr le ↦ le ]
+whole : (w : World) → NoCleanup w → (o : Option (Plan × ReadyUnit)) → LowestUnit (λ n. HasUnread w n ⊎ (HasDeleteReady w n ⊎ HasSnapReady w n)) w o → NextUnit w o
+whole w clean None none = λ any. let (o, h) = any_of w any in none o (parts w clean o h)
+whole w clean (Some (new, u)) (g, plan) = (record { ticket = g.ticket; lowest = λ p lt h. g.lowest p lt (parts w clean p h); gives = g.gives; copy = g.copy }, plan)
 
-module _ (w : World) where
-  -- a restore is first: nothing of an op is ready below any number that has nothing unread below it
-  no_op : (restore op : Option ℕ) → IsLowest (HasUnread w) restore → IsLowest (HasOpReady w) op → is_before restore op ≡ true → (n : ℕ) → ((p : ℕ) → p < n → HasUnread w p → ⊥) → (p : ℕ) → p < n → HasOpReady w p → ⊥
-  no_op None op lowest least first n none p lt h = true≢false (sym first)
-  no_op (Some r) None lowest least first n none p lt h = least p h
-  no_op (Some r) (Some o) lowest least first n none p lt h =
-      let below : r < o = (Decides-ltb r o).0 first in
-      let le : o ≤ p = reaches (HasOpReady w) o p least.1 h in
-      none r (omega arith) lowest.0
+-- no cleanup is open in a world of which the list tells
+pub cleans_none : (w : World) (p : Plan) → IsPlanOf w p → ((d : ℕ) (x : Deletion) → fin.get p.deletes d ≡ Some x → x.clean ≡ false) → NoCleanup w
+cleans_none w p is none d x e = none d x (ap (λ m. fin.get m d) is.deletes ∙ e)
 
-  no_restore : (restore op : Option ℕ) → IsLowest (HasUnread w) restore → IsLowest (HasOpReady w) op → is_before restore op ≡ false → (n : ℕ) → ((p : ℕ) → p < n → HasOpReady w p → ⊥) → (p : ℕ) → p < n → HasUnread w p → ⊥
-  no_restore None op lowest least first n none p lt h = lowest p h
-  no_restore (Some r) None lowest least first n none p lt h = true≢false first
-  no_restore (Some r) (Some o) lowest least first n none p lt h =
-      let le : r ≤ p = reaches (HasUnread w) r p lowest.1 h in
-      elim (cases_lt r o) [ inl below ↦ true≢false (sym ((Decides-ltb r o).1 below) ∙ first) | inr above ↦ none o (omega (arith, above)) least.0 ]
+module _ (w : World) (clean : NoCleanup w) (restore delete op : Option ℕ) (unread : IsLowest (HasUnread w) restore) (deletes : IsLowest (HasDeleteReady w) delete) (ops : IsLowest (HasSnapReady w) op) where
+  open_lowest : IsLowest (λ n. HasDeleteReady w n ⊎ HasSnapReady w n) (lower_of delete op)
+  open_lowest = lowest_of (HasDeleteReady w) (HasSnapReady w) delete op deletes ops
 
-  some_restore : (restore op : Option ℕ) → IsLowest (HasUnread w) restore → is_before restore op ≡ true → (r : ℕ) × HasUnread w r
-  some_restore None op lowest first = absurd (true≢false (sym first))
-  some_restore (Some r) op lowest first = (r, lowest.0)
+  pub restore_is_next : is_before restore (lower_of delete op) ≡ true → (o : Option (Plan × ReadyUnit)) → LowestUnit (HasUnread w) w o → NextUnit w o
+  restore_is_next first o h = whole w clean o (first_unit (HasUnread w) (λ n. HasDeleteReady w n ⊎ HasSnapReady w n) w restore (lower_of delete op) unread open_lowest first o h)
 
-  none_at_all : (restore op : Option ℕ) → IsLowest (HasUnread w) restore → IsLowest (HasOpReady w) op → is_before restore op ≡ false → ((n : ℕ) → HasOpReady w n → ⊥) → (n : ℕ) → HasUnread w n → ⊥
-  none_at_all None op lowest least first none n h = lowest n h
-  none_at_all (Some r) None lowest least first none n h = true≢false first
-  none_at_all (Some r) (Some o) lowest least first none n h = none o least.0
+  pub delete_is_next : is_before restore (lower_of delete op) ≡ false → is_before delete op ≡ true → (o : Option (Plan × ReadyUnit)) → LowestUnit (HasDeleteReady w) w o → NextUnit w o
+  delete_is_next later first o h =
+      whole w clean o (second_unit (HasUnread w) (λ n. HasDeleteReady w n ⊎ HasSnapReady w n) w restore (lower_of delete op) unread open_lowest later o (first_unit (HasDeleteReady w) (HasSnapReady w) w delete op deletes ops first o h))
 
-  pub restore_is_next : (restore op : Option ℕ) → IsLowest (HasUnread w) restore → IsLowest (HasOpReady w) op → is_before restore op ≡ true → (o : Option (Plan × ReadyUnit)) → LowestUnit (HasUnread w) w o → NextUnit w o
-  restore_is_next restore op lowest least first None none = let (r, h) = some_restore restore op lowest first in absurd (none r h)
-  restore_is_next restore op lowest least first (Some (new, u)) (g, plan) = (
-    record {
-      ticket = g.ticket;
-      lowest = λ p lt h. elim (parts w p h) [ inl a ↦ no_op restore op lowest least first u.op g.lowest p lt a | inr b ↦ g.lowest p lt b ];
-      gives = g.gives;
-      copy = g.copy;
-    },
-    plan,
-  )
-
-  pub op_is_next : (restore op : Option ℕ) → IsLowest (HasUnread w) restore → IsLowest (HasOpReady w) op → is_before restore op ≡ false → (o : Option (Plan × ReadyUnit)) → LowestUnit (HasOpReady w) w o → NextUnit w o
-  op_is_next restore op lowest least first None none = λ any. let (o, h) = any_of w any in elim (parts w o h) [ inl a ↦ none o a | inr b ↦ none_at_all restore op lowest least first none o b ]
-  op_is_next restore op lowest least first (Some (new, u)) (g, plan) = (
-    record {
-      ticket = g.ticket;
-      lowest = λ p lt h. elim (parts w p h) [ inl a ↦ g.lowest p lt a | inr b ↦ no_restore restore op lowest least first u.op g.lowest p lt b ];
-      gives = g.gives;
-      copy = g.copy;
-    },
-    plan,
-  )
+  pub op_is_next : is_before restore (lower_of delete op) ≡ false → is_before delete op ≡ false → (o : Option (Plan × ReadyUnit)) → LowestUnit (HasSnapReady w) w o → NextUnit w o
+  op_is_next later last o h =
+      whole w clean o (second_unit (HasUnread w) (λ n. HasDeleteReady w n ⊎ HasSnapReady w n) w restore (lower_of delete op) unread open_lowest later o (second_unit (HasDeleteReady w) (HasSnapReady w) w delete op deletes ops last o h))

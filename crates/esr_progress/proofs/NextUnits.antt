@@ -1,9 +1,10 @@
 -- The unit that is given, in a world of which the list tells.
 use Rattle.std.proofs.Common.{◌≡◌, ◌≢◌, ◌⊎◌, ℕ, suc, zero, ◌+◌, ◌<◌, ◌≤◌, Bool, true, false, ◌&&◌, ◌||◌, List, [], ◌∷◌, Option, Some, None, cond, eqb, option_map, map, length, get_or, take, refl, sym, ap, ◌∙◌, subst, inl, inr, true≢false, arith, eq-eqb, nat_cmp}
-use Rattle.std.specs.Prelude.{not, is_some, slice_get, ◌==◌, IfSome}
+use Rattle.std.specs.Prelude.{not, is_some, nat_lt, slice_get, ◌==◌, IfSome}
 use Rattle.std.specs.List.{list_any, position}
 use Rattle.std.specs.FinMap as fin
 use Rattle.std.proofs.Math.ListN.{set}
+use Rattle.std.proofs.lemmas.Bool.{lt-ltb, ltb-true}
 use Rattle.std.proofs.lemmas.Option.{slice_get_within, slice_get-get_or, get_or_from_slice_get}
 use Rattle.esr_names.specs.declared.ids.Id.{Id}
 use Rattle.esr_names.specs.declared.blob.ShardId.{ShardId}
@@ -11,7 +12,7 @@ use Rattle.esr_model.specs.Values.{Bytes, Has, RootData, ShardResult, Formats}
 use Rattle.esr_core.specs.Entry.{GivenShard}
 use Rattle.esr_model.specs.Image.{Generation}
 use Rattle.esr_core.specs.World.{World, Op, Deletion, ShardState, Pending, Out, Done, GivenUp, ShardWork, Ticket, Work, Shard, Finalize, Deleting, Drop, AllDone, info_of}
-use Rattle.esr_core.specs.Ready.{Barrier, Goes, Stopped, Waits, Before, IsMaster, IsShard, SwapIsOut, UnitIsOut, ReadyShard, ReadyFinalize, ReadyDrop, ReadyDelete, ReadyCleanup, ReadyRestore}
+use Rattle.esr_core.specs.Ready.{Barrier, Goes, Stopped, Waits, Before, IsMaster, IsShard, SwapIsOut, UnitIsOut, ReadyShard, ReadyFinalize, ReadyDrop}
 use Rattle.esr_core.specs.Steps.{all_done, is_done, given, Largest, final_ticket, shard_ticket}
 use Rattle.esr_core.specs.Turns.{plain_ticket}
 use Rattle.esr_core.specs.Generations.{IsLive, DoneAt}
@@ -37,8 +38,8 @@ use Rattle.esr_progress.specs.Plan.{Plan, Seat, UnitKind, OfShard, OfFinalize, O
 use Rattle.esr_progress.specs.Seats.{seat_at, seat_in, told_in, holds, is_swap_out, is_unit_out, is_master, is_of_shard}
 use Rattle.esr_progress.specs.Ops.{has_stopped, is_free, IsDoneAt, Among, IsMost, IsShardWork, IsFinalWork}
 use Rattle.esr_progress.specs.Inside.{plan_with, seats_with, numbers_of, Rise, IsProgress}
-use Rattle.esr_progress.specs.Units.{given_by, given_of, IsCopyOf, ShardGiven, GivesWork, HasOpReady, GivesLowest, LowestUnit, IsLowest}
-use Rattle.esr_progress.specs.Choice.{is_earliest, is_out_of, is_swapping, is_final, ready_of, NoneBefore, IsReadyAt, IsFirstReady, IsPossible, IsWorkFor, IsSeatOf, IsSeatFor, IsLiveIn, IsBaseFor, given_entry, AreShards}
+use Rattle.esr_progress.specs.Units.{given_by, given_of, IsCopyOf, ShardGiven, GivesWork, LeavesSnap, HasSnapReady, GivesLowest, LowestUnit, IsLowest}
+use Rattle.esr_progress.specs.Choice.{barred, is_earliest, is_out_of, is_swapping, is_final, ready_of, NoneBefore, IsReadyAt, IsFirstReady, IsPossible, IsWorkFor, IsSeatOf, IsSeatFor, IsLiveIn, IsBaseFor, given_entry, AreShards}
 use Rattle.esr_progress.proofs.Lists.{Has-at, position-None, some_same, none_some}
 use Rattle.esr_progress.proofs.Entries.{FirstAt, first_at, from_set, get_from, find-member, eqb_is}
 use Rattle.esr_progress.proofs.Numbers.{found_member, entries_from, numbers-set}
@@ -123,6 +124,7 @@ entry_at {A} ops rise at e there =
 given_numbers : (ops : List (ℕ × Op)) → Rise (numbers_of ops) → (at : ℕ) (e : ℕ × Op) → slice_get ops at ≡ Some e → (seat : SeatKind) (ticket : ℕ) → numbers_of (set ops at (given_entry seat ticket e)) ≡ numbers_of ops
 given_numbers ops rise at e there (kinds.Shard shard) ticket = numbers-set ops e.0 at (record e.1 { shards = map (given ticket shard.index.number shard.number) e.1.shards }) (entry_at ops rise at e there)
 given_numbers ops rise at e there kinds.Finalize ticket = numbers-set ops e.0 at e.1 (entry_at ops rise at e there)
+given_numbers ops rise at e there kinds.Delete ticket = numbers-set ops e.0 at e.1 (entry_at ops rise at e there)
 given_numbers ops rise at e there kinds.Drop ticket = numbers-set ops e.0 at e.1 (entry_at ops rise at e there)
 
 pub same_numbers : (ops here : List (ℕ × Op)) → here ≡ ops → (deletes : List (ℕ × Deletion)) (completed : List ℕ) (seats : List Slot) (next : ℕ) (restores : List (ℕ × RestorePlan)) (now : Plan) → plan_with ops deletes completed seats next restores ≡ now → IsProgress ops deletes next restores
@@ -134,18 +136,24 @@ same_numbers ops here same deletes completed seats next restores now view h at e
     ∙ ap numbers_of (sym (entries_from ops h.ops_numbered.rise)) ∙ ap (λ (p : Plan). numbers_of (fin.entries p.ops)) view
 
 module _ (ops : List (ℕ × Op)) (deletes : List (ℕ × Deletion)) (completed : List ℕ) (seats : List Slot) (next : ℕ) (restores : List (ℕ × RestorePlan)) (now : Plan) (view : plan_with ops deletes completed seats next restores ≡ now) (h : IsProgress ops deletes next restores)
-    (no_delete : now.deletes ≡ fin.empty) (root : RootData) (safe term : ℕ) (w : World) (is : IsGivenIn now root safe term w) where
+    (root : RootData) (safe term : ℕ) (w : World) (is : IsGivenIn now root safe term w) where
   rise : Rise (numbers_of ops)
   rise = h.ops_numbered.rise
 
-  find_op : (q : ℕ) → fin.get w.ops q ≡ fin.find nat_cmp q ops
+  pub find_op : (q : ℕ) → fin.get w.ops q ≡ fin.find nat_cmp q ops
   find_op q = ap (λ m. fin.get m q) (sym is.plan.ops) ∙ ap (λ (p : Plan). fin.get p.ops q) (sym view) ∙ get_from ops q
 
-  gone : (d : ℕ) (x : Deletion) → fin.get w.deletes d ≡ Some x → ⊥
-  gone d x e = none_some x (sym (fin.get-empty nat_cmp d) ∙ ap (λ (m : fin.FinMap nat_cmp Deletion). fin.get m d) (sym no_delete ∙ is.plan.deletes) ∙ e)
+  pub find_delete : (d : ℕ) → fin.get w.deletes d ≡ fin.find nat_cmp d deletes
+  find_delete d = ap (λ m. fin.get m d) (sym is.plan.deletes) ∙ ap (λ (p : Plan). fin.get p.deletes d) (sym view) ∙ get_from deletes d
 
-  barrier : (o : ℕ) → Barrier w.deletes o → ⊥
-  barrier o b = gone b.number b.deletion b.there
+  pub none_barred : (o : ℕ) → barred deletes o ≡ false → Barrier w.deletes o → ⊥
+  none_barred o e b =
+      clash _ (any_here (λ (d : ℕ × Deletion). nat_lt d.0 o) deletes (b.number, b.deletion) (find-member b.number deletes b.deletion (sym (find_delete b.number) ∙ b.there)) (lt-ltb b.number o b.before)) e
+
+  pub some_barred : (o : ℕ) → barred deletes o ≡ true → Barrier w.deletes o
+  some_barred o e =
+      let (d, m, lower) = any_true (λ (d : ℕ × Deletion). nat_lt d.0 o) deletes e in
+      record { number = d.0; deletion = d.1; there = find_delete d.0 ∙ found_member deletes h.deletes_numbered.rise d m; before = ltb-true d.0 o lower }
 
   completed_is : completed ≡ w.completed
   completed_is = ap (λ (p : Plan). p.completed) view ∙ is.plan.completed
@@ -163,7 +171,7 @@ module _ (ops : List (ℕ × Op)) (deletes : List (ℕ × Deletion)) (completed 
   by_seat : (c : Slot) (s : Seat) → seat_in c ≡ Some s → Has seats c → (k : ℕ) × ((t : Ticket) × (fin.get w.tickets k ≡ Some t) × (seat_of t ≡ s))
   by_seat c s e m = let (k, at) = place_of seats c m in (suc k, ticket_of w now is.plan (suc k) s (seat_is (suc k) ∙ ap (told_in seat_in) at ∙ e))
 
-  none_out : (o : ℕ) → is_out_of seats term o ≡ false → (k : ℕ) → UnitIsOut w.tickets w.term o k → ⊥
+  pub none_out : (o : ℕ) → is_out_of seats term o ≡ false → (k : ℕ) → UnitIsOut w.tickets w.term o k → ⊥
   none_out o e k u =
       let (c, m, same) = seat_by k u.t u.there in
       let counts : (is_of_shard (kind_of u.t.work) || (u.t.term == term)) ≡ true = elim u.counts [
@@ -172,7 +180,7 @@ module _ (ops : List (ℕ × Op)) (deletes : List (ℕ × Deletion)) (completed 
       ] in
       clash _ (any_here (λ (s : Slot). holds (is_unit_out term o) (seat_in s)) seats c m (ap (holds (is_unit_out term o)) same ∙ both_true _ _ (both_true _ _ u.out (eq-eqb u.t.op o u.op_is)) counts)) e
 
-  some_out : (o : ℕ) → is_out_of seats term o ≡ true → (k : ℕ) × UnitIsOut w.tickets w.term o k
+  pub some_out : (o : ℕ) → is_out_of seats term o ≡ true → (k : ℕ) × UnitIsOut w.tickets w.term o k
   some_out o e =
       let (c, m, hold) = any_true (λ (s : Slot). holds (is_unit_out term o) (seat_in s)) seats e in
       let (s, seat, test) = held (is_unit_out term o) (seat_in c) hold in
@@ -183,13 +191,13 @@ module _ (ops : List (ℕ × Op)) (deletes : List (ℕ × Deletion)) (completed 
       let (out, op_is) = and_true _ _ first in
       (k, record { t = t; there = found.1; out = out; op_is = eqb_is t.op o op_is; counts = elim (or_true _ _ counts) [ inl shard ↦ inl (kind_shard t.work shard) | inr present ↦ inr (eqb_is t.term term present ∙ sym is.term_is) ] })
 
-  none_swapping : is_swapping seats term ≡ false → (k : ℕ) → SwapIsOut w.tickets w.term k → ⊥
+  pub none_swapping : is_swapping seats term ≡ false → (k : ℕ) → SwapIsOut w.tickets w.term k → ⊥
   none_swapping e k u =
       let (c, m, same) = seat_by k u.t u.there in
       clash _ (any_here (λ (s : Slot). holds (is_swap_out term) (seat_in s)) seats c m
       (ap (holds (is_swap_out term)) same ∙ both_true _ _ (both_true _ _ (both_true _ _ u.out (ap not u.unsettled)) (eq-eqb u.t.term term (u.present ∙ is.term_is))) (master_kind u.t.work u.swaps))) e
 
-  some_swapping : is_swapping seats term ≡ true → (k : ℕ) × SwapIsOut w.tickets w.term k
+  pub some_swapping : is_swapping seats term ≡ true → (k : ℕ) × SwapIsOut w.tickets w.term k
   some_swapping e =
       let (c, m, hold) = any_true (λ (s : Slot). holds (is_swap_out term) (seat_in s)) seats e in
       let (s, seat, test) = held (is_swap_out term) (seat_in c) hold in
@@ -216,94 +224,99 @@ module _ (ops : List (ℕ × Op)) (deletes : List (ℕ × Deletion)) (completed 
     shard_ready : (s : ShardWork) → ReadyShard w e.0 e.1 s → is_free (take at ops) s ≡ true
     shard_ready s r = says_free ops rise at e there s r.pending (λ p q z lt f. r.first p q z lt (find_op p ∙ f))
 
-    ready_shard : (s : ShardWork) → has_stopped e.1 ≡ false → Has e.1.shards s → is_free (take at ops) s ≡ true → ReadyShard w e.0 e.1 s
-    ready_shard s goes m free =
+    ready_shard : (s : ShardWork) → has_stopped e.1 ≡ false → barred deletes e.0 ≡ false → Has e.1.shards s → is_free (take at ops) s ≡ true → ReadyShard w e.0 e.1 s
+    ready_shard s goes unbarred m free =
         let (pending, none) = free_says ops rise at e there s free in
-        record { op_there = got; s_there = m; pending = pending; goes = goes_by e.1 goes; no_barrier = barrier e.0; first = λ p q z lt f. none p q z lt (sym (find_op p) ∙ f) }
+        record { op_there = got; s_there = m; pending = pending; goes = goes_by e.1 goes; no_barrier = none_barred e.0 unbarred; first = λ p q z lt f. none p q z lt (sym (find_op p) ∙ f) }
 
-    final_ready : (results : List ShardResult) → ReadyFinalize w e.0 e.1 results → is_final ops completed seats term e ≡ true
+    final_ready : (results : List ShardResult) → ReadyFinalize w e.0 e.1 results → is_final ops deletes completed seats term e ≡ true
     final_ready results r = both_true _ _ (all_done_by e.1.shards results r.done) (both_true _ _
         (ap not (is_false _ (λ s. let (k, out) = some_swapping s in r.no_swap k out)))
-        (is_true _ (λ s. let x = not_earliest ops rise completed e.0 s in r.earliest x.p x.q (find_op x.p ∙ x.found) (goes_by x.q x.goes) (barrier x.p) (subst (λ (ns : List ℕ). Before ns x.p e.0) completed_is x.before))))
+        (is_true _ (λ s. let x = not_earliest ops rise deletes completed e.0 s in r.earliest x.p x.q (find_op x.p ∙ x.found) (goes_by x.q x.goes) (none_barred x.p x.unbarred) (subst (λ (ns : List ℕ). Before ns x.p e.0) completed_is x.before))))
 
-    ready_final : (results : List ShardResult) → has_stopped e.1 ≡ false → AllDone e.1.shards results → is_final ops completed seats term e ≡ true → ReadyFinalize w e.0 e.1 results
-    ready_final results goes done final =
+    ready_final : (results : List ShardResult) → has_stopped e.1 ≡ false → barred deletes e.0 ≡ false → AllDone e.1.shards results → is_final ops deletes completed seats term e ≡ true → ReadyFinalize w e.0 e.1 results
+    ready_final results goes unbarred done final =
         let (all, rest) = and_true _ _ final in
         let (swap, early) = and_true _ _ rest in
         record {
           op_there = got;
           done = done;
           goes = goes_by e.1 goes;
-          no_barrier = barrier e.0;
+          no_barrier = none_barred e.0 unbarred;
           no_swap = none_swapping (not_true _ swap);
-          earliest = λ p q f g b before. none_earlier ops rise completed e.0 early (record { p = p; q = q; found = sym (find_op p) ∙ f; goes = goes_on q g; before = subst (λ (ns : List ℕ). Before ns p e.0) (sym completed_is) before });
+          earliest = λ p q f g b before. none_earlier ops rise deletes completed e.0 early (record { p = p; q = q; found = sym (find_op p) ∙ f; goes = goes_on q g; unbarred = is_false _ (λ s. b (some_barred p s)); before = subst (λ (ns : List ℕ). Before ns p e.0) (sym completed_is) before });
         }
 
-    drop_ready : ReadyDrop w e.0 → (has_stopped e.1 ≡ true) × (is_out_of seats term e.0 ≡ false)
+    drop_ready : LeavesSnap w e.0 → (has_stopped e.1 ≡ true) × (is_out_of seats term e.0 ≡ false)
     drop_ready r = (
-      elim r.stopped [ inl x ↦ ap has_stopped (sym (same_op x.0 x.1)) ∙ has_by x.0 x.2 | inr x ↦ absurd (gone e.0 x.0 x.1) ],
+      ap has_stopped (sym (same_op r.op r.there)) ∙ has_by r.op r.stopped,
       is_false _ (λ s. let (k, out) = some_out e.0 s in r.idle k out),
     )
+
+    leaves : has_stopped e.1 ≡ true → is_out_of seats term e.0 ≡ false → LeavesSnap w e.0
+    leaves stopped out = record { op = e.1; there = got; stopped = stopped_by e.1 stopped; idle = none_out e.0 out }
 
     ready_drop : has_stopped e.1 ≡ true → is_out_of seats term e.0 ≡ false → ReadyDrop w e.0
     ready_drop stopped out = record { stopped = inl (e.1, got, stopped_by e.1 stopped); idle = none_out e.0 out }
 
     -- where the search finds none, none is ready
-    none_ready : ready_of ops completed seats term (take at ops) e ≡ None → HasOpReady w e.0 → ⊥
+    none_ready : ready_of ops deletes completed seats term (take at ops) e ≡ None → HasSnapReady w e.0 → ⊥
     none_ready none (inl (op, s, r0)) =
         let r = subst (λ (o : Op). ReadyShard w e.0 o s) (same_op op r0.op_there) r0 in
-        elim (picked ops completed seats term (take at ops) e None none) [
+        elim (picked ops deletes completed seats term (take at ops) e None none) [
           | inl x ↦ clash _ x.0 (goes_on e.1 r.goes)
-          | inr x ↦ clash _ (shard_ready s r) (position-None (is_free (take at ops)) e.1.shards x.1 s r.s_there)
+          | inr x ↦ elim x.1 [
+            | inl bar ↦ r.no_barrier (some_barred e.0 bar)
+            | inr y ↦ clash _ (shard_ready s r) (position-None (is_free (take at ops)) e.1.shards y.0 s r.s_there)
+          ]
         ]
     none_ready none (inr (inl (op, results, r0))) =
         let r = subst (λ (o : Op). ReadyFinalize w e.0 o results) (same_op op r0.op_there) r0 in
-        elim (picked ops completed seats term (take at ops) e None none) [
+        elim (picked ops deletes completed seats term (take at ops) e None none) [
           | inl x ↦ clash _ x.0 (goes_on e.1 r.goes)
-          | inr x ↦ clash _ (final_ready results r) x.2
+          | inr x ↦ elim x.1 [
+            | inl bar ↦ r.no_barrier (some_barred e.0 bar)
+            | inr y ↦ clash _ (final_ready results r) y.1
+          ]
         ]
-    none_ready none (inr (inr (inl r))) =
+    none_ready none (inr (inr r)) =
         let (stopped, out) = drop_ready r in
-        elim (picked ops completed seats term (take at ops) e None none) [
+        elim (picked ops deletes completed seats term (take at ops) e None none) [
           | inl x ↦ clash _ x.1 out
           | inr x ↦ clash _ stopped x.0
         ]
-    none_ready none (inr (inr (inr (x, inl r)))) = gone e.0 x r.there
-    none_ready none (inr (inr (inr (x, inr r)))) = gone e.0 x r.there
 
   -- an op of which a unit is ready is in the list
-  open_of : (o : ℕ) → HasOpReady w o → (op : Op) × Has ops (o, op)
+  open_of : (o : ℕ) → HasSnapReady w o → (op : Op) × Has ops (o, op)
   open_of o (inl (op, s, r)) = (op, find-member o ops op (sym (find_op o) ∙ r.op_there))
   open_of o (inr (inl (op, results, r))) = (op, find-member o ops op (sym (find_op o) ∙ r.op_there))
-  open_of o (inr (inr (inl r))) = elim r.stopped [ inl x ↦ (x.0, find-member o ops x.0 (sym (find_op o) ∙ x.1)) | inr x ↦ absurd (gone o x.0 x.1) ]
-  open_of o (inr (inr (inr (x, inl r)))) = absurd (gone o x r.there)
-  open_of o (inr (inr (inr (x, inr r)))) = absurd (gone o x r.there)
+  open_of o (inr (inr r)) = (r.op, find-member o ops r.op (sym (find_op o) ∙ r.there))
 
-  lowest : (at : ℕ) (e : ℕ × Op) → slice_get ops at ≡ Some e → NoneBefore ops completed seats term at → (p : ℕ) → p < e.0 → HasOpReady w p → ⊥
+  lowest : (at : ℕ) (e : ℕ × Op) → slice_get ops at ≡ Some e → NoneBefore ops deletes completed seats term at → (p : ℕ) → p < e.0 → HasSnapReady w p → ⊥
   lowest at e there before p lt r =
       let (op, m) = open_of p r in
       let (k, below, here) = place_below ops at (p, op) (place_lower ops rise at e there (p, op) m lt) in
       none_ready k (p, op) here (before k (p, op) below here) r
 
-  is_ready_op : (at : ℕ) (e : ℕ × Op) → slice_get ops at ≡ Some e → (kind : Kind) → ready_of ops completed seats term (take at ops) e ≡ Some kind → HasOpReady w e.0
-  is_ready_op at e there ready.Drop chosen = let (stopped, out) = picked ops completed seats term (take at ops) e (Some ready.Drop) chosen in inr (inr (inl (ready_drop at e there stopped out)))
+  is_ready_op : (at : ℕ) (e : ℕ × Op) → slice_get ops at ≡ Some e → (kind : Kind) → ready_of ops deletes completed seats term (take at ops) e ≡ Some kind → HasSnapReady w e.0
+  is_ready_op at e there ready.Drop chosen = let (stopped, out) = picked ops deletes completed seats term (take at ops) e (Some ready.Drop) chosen in inr (inr (leaves at e there stopped out))
   is_ready_op at e there ready.Finalize chosen =
-      let (goes, free, final) = picked ops completed seats term (take at ops) e (Some ready.Finalize) chosen in
+      let (goes, free, final, unbarred) = picked ops deletes completed seats term (take at ops) e (Some ready.Finalize) chosen in
       let (results, done) = some_results e.1.shards (and_true _ _ final).0 in
-      inr (inl (e.1, results, ready_final at e there results goes done final))
+      inr (inl (e.1, results, ready_final at e there results goes unbarred done final))
   is_ready_op at e there (ready.Shard i) chosen =
-      let (goes, free) = picked ops completed seats term (take at ops) e (Some (ready.Shard i)) chosen in
+      let (goes, free, unbarred) = picked ops deletes completed seats term (take at ops) e (Some (ready.Shard i)) chosen in
       let (within, here) = place_within (is_free (take at ops)) e.1.shards i free in
-      inl (e.1, here.0, ready_shard at e there here.0 goes (Has-at e.1.shards i here.0 here.1) (first_place (is_free (take at ops)) e.1.shards i here.0 free here.1).0)
+      inl (e.1, here.0, ready_shard at e there here.0 goes unbarred (Has-at e.1.shards i here.0 here.1) (first_place (is_free (take at ops)) e.1.shards i here.0 free here.1).0)
 
   -- the lowest op of which a unit is ready
-  pub lowest_op : (at : ℕ) (kind : Kind) (r : IsReadyAt ops completed seats term at kind) (e : ℕ × Op) → slice_get ops at ≡ Some e → (o : ℕ) → o ≡ e.0 → IsLowest (HasOpReady w) (Some o)
+  pub lowest_op : (at : ℕ) (kind : Kind) (r : IsReadyAt ops deletes completed seats term at kind) (e : ℕ × Op) → slice_get ops at ≡ Some e → (o : ℕ) → o ≡ e.0 → IsLowest (HasSnapReady w) (Some o)
   lowest_op at kind r e there o is_number =
       let entry : r.e ≡ e = some_same r.e e (sym r.there ∙ there) in
-      let found : ready_of ops completed seats term (take at ops) e ≡ Some kind = ap (ready_of ops completed seats term (take at ops)) (sym entry) ∙ r.is in
-      subst (λ (n : ℕ). IsLowest (HasOpReady w) (Some n)) (sym is_number) (is_ready_op at e there kind found, lowest at e there r.before)
+      let found : ready_of ops deletes completed seats term (take at ops) e ≡ Some kind = ap (ready_of ops deletes completed seats term (take at ops)) (sym entry) ∙ r.is in
+      subst (λ (n : ℕ). IsLowest (HasSnapReady w) (Some n)) (sym is_number) (is_ready_op at e there kind found, lowest at e there r.before)
 
-  pub nothing : NoneBefore ops completed seats term (length ops) → (o : ℕ) → HasOpReady w o → ⊥
+  pub nothing : NoneBefore ops deletes completed seats term (length ops) → (o : ℕ) → HasSnapReady w o → ⊥
   nothing before o r =
       let (op, m) = open_of o r in
       let (k, here) = place_of ops (o, op) m in
@@ -312,7 +325,7 @@ module _ (ops : List (ℕ × Op)) (deletes : List (ℕ × Deletion)) (completed 
   -- ---- what is given
 
   -- a ticket more
-  ticketed : (t : Ticket) (s : Seat) (ops_now : fin.FinMap nat_cmp Op) (ops_then : fin.FinMap nat_cmp Op) → ops_now ≡ ops_then → seat_of t ≡ s
+  pub ticketed : (t : Ticket) (s : Seat) (ops_now : fin.FinMap nat_cmp Op) (ops_then : fin.FinMap nat_cmp Op) → ops_now ≡ ops_then → seat_of t ≡ s
       → IsPlanOf (record w { ops = ops_then; tickets = fin.insert w.tickets w.next_ticket t; next_ticket = suc w.next_ticket })
       (record now { ops = ops_now; seats = fin.insert now.seats now.next_ticket s; next_ticket = suc now.next_ticket })
   ticketed t s ops_now ops_then ops_is seat = record {
@@ -327,7 +340,7 @@ module _ (ops : List (ℕ × Op)) (deletes : List (ℕ × Deletion)) (completed 
     readers = is.plan.readers;
   }
 
-  ops_is : fin.from_entries {R = nat_cmp} ops ≡ w.ops
+  pub ops_is : fin.from_entries {R = nat_cmp} ops ≡ w.ops
   ops_is = ap (λ (p : Plan). p.ops) view ∙ is.plan.ops
 
   -- the seat, and the list, of a unit of this op
@@ -345,18 +358,18 @@ module _ (ops : List (ℕ × Op)) (deletes : List (ℕ × Deletion)) (completed 
     unchanged : (kind : SeatKind) → given_entry kind ticket e ≡ e → fin.from_entries {R = nat_cmp} (set ops at (given_entry kind ticket e)) ≡ w.ops
     unchanged kind same = ap (λ (x : ℕ × Op). fin.from_entries {R = nat_cmp} (set ops at x)) same ∙ ap (λ (es : List (ℕ × Op)). fin.from_entries {R = nat_cmp} es) (set_same ops at e there) ∙ ops_is
 
-    gives_drop : ready_of ops completed seats term (take at ops) e ≡ Some ready.Drop → IsGivenBy e at ticket works.Drop kinds.Drop copy
+    gives_drop : ready_of ops deletes completed seats term (take at ops) e ≡ Some ready.Drop → IsGivenBy e at ticket works.Drop kinds.Drop copy
     gives_drop chosen =
-        let (stopped, out) = picked ops completed seats term (take at ops) e (Some ready.Drop) chosen in (
+        let (stopped, out) = picked ops deletes completed seats term (take at ops) e (Some ready.Drop) chosen in (
           ready_drop at e there stopped out,
           λ f. ticketed (plain_ticket w e.0 Drop) (seat_of_code (seat_for kinds.Drop e.0)) _ w.ops (unchanged kinds.Drop refl)
               (λ i. record { kind = OfDrop; op = e.0; term = is.term_is i; raised = None; settled = false; out = true }),
         )
 
-    gives_final : (work : CodeWork) → ready_of ops completed seats term (take at ops) e ≡ Some ready.Finalize → IsFinalWork e.1 work → IsGivenBy e at ticket work kinds.Finalize copy
+    gives_final : (work : CodeWork) → ready_of ops deletes completed seats term (take at ops) e ≡ Some ready.Finalize → IsFinalWork e.1 work → IsGivenBy e at ticket work kinds.Finalize copy
     gives_final (works.Finalize info shards) chosen h =
-        let (goes, free, final) = picked ops completed seats term (take at ops) e (Some ready.Finalize) chosen in (
-          (e.1, ready_final at e there (map result_of shards) goes h.0 final, h.1),
+        let (goes, free, final, unbarred) = picked ops deletes completed seats term (take at ops) e (Some ready.Finalize) chosen in (
+          (e.1, ready_final at e there (map result_of shards) goes unbarred h.0 final, h.1),
           λ f.
               subst (λ (o : Option Op). IsPlanOf (taken_by f w e.0 (given_by (works.Finalize info shards) copy) o) (seated kinds.Finalize e at ticket)) (sym (got at e there))
               (ticketed (final_ticket f w e.0 e.1 (map result_of shards)) (seat_of_code (seat_for kinds.Finalize e.0)) _ w.ops (unchanged kinds.Finalize refl)
@@ -394,15 +407,15 @@ module _ (ops : List (ℕ × Op)) (deletes : List (ℕ × Deletion)) (completed 
         back g (inl x) = inl (subst (λ (r : RootData). Generation r index number g) is.root_is x)
         back g (inr (uuid, d)) = inr ((d.number, d.op), find-member d.number ops d.op (sym (find_op d.number) ∙ d.there), (d.s, d.s_there, record { r = d.r; state = d.state; index_is = d.index_is; number_is = d.shard_is; generation_is = d.generation_is }))
 
-    module _ (i : ℕ) (found : ready_of ops completed seats term (take at ops) e ≡ Some (ready.Shard i)) (s : ShardWork) (here : slice_get e.1.shards i ≡ Some s) where
+    module _ (i : ℕ) (found : ready_of ops deletes completed seats term (take at ops) e ≡ Some (ready.Shard i)) (s : ShardWork) (here : slice_get e.1.shards i ≡ Some s) where
       free_at : position (is_free (take at ops)) e.1.shards ≡ Some i
-      free_at = (picked ops completed seats term (take at ops) e (Some (ready.Shard i)) found).1
+      free_at = (picked ops deletes completed seats term (take at ops) e (Some (ready.Shard i)) found).1
 
       before_it : (z : ShardWork) → Has (take i e.1.shards) z → is_free (take at ops) z ≡ false
       before_it = (first_place (is_free (take at ops)) e.1.shards i s free_at here).1
 
       is_ready : ReadyShard w e.0 e.1 s
-      is_ready = ready_shard at e there s (picked ops completed seats term (take at ops) e (Some (ready.Shard i)) found).0 (Has-at e.1.shards i s here) (first_place (is_free (take at ops)) e.1.shards i s free_at here).0
+      is_ready = ready_shard at e there s (picked ops deletes completed seats term (take at ops) e (Some (ready.Shard i)) found).0 (picked ops deletes completed seats term (take at ops) e (Some (ready.Shard i)) found).2 (Has-at e.1.shards i s here) (first_place (is_free (take at ops)) e.1.shards i s free_at here).0
 
       is_found : (index number : ℕ) → s.ref.id ≡ index → s.number ≡ number → shard_of e.1.shards index number ≡ Some s
       is_found index number id n = shard_found index number e.1.shards i s here id n
@@ -443,6 +456,7 @@ module _ (ops : List (ℕ × Op)) (deletes : List (ℕ × Deletion)) (completed 
 
       gives_shard : (work : CodeWork) (kind : SeatKind) → IsShardWork e.1 s work → IsSeatOf s kind → IsBaseFor root ops kind copy.base → IsGivenBy e at ticket work kind copy
       gives_shard (works.Shard uuid shard index place) kinds.Finalize h seat base = absurd seat
+      gives_shard (works.Shard uuid shard index place) kinds.Delete h seat base = absurd seat
       gives_shard (works.Shard uuid shard index place) kinds.Drop h seat base = absurd seat
       gives_shard (works.Shard uuid shard index place) (kinds.Shard own) h seat base =
           let most : IsMost (IsLiveIn root ops s.ref.id s.number) (option_map number_of copy.base) =
@@ -452,28 +466,28 @@ module _ (ops : List (ℕ × Op)) (deletes : List (ℕ × Deletion)) (completed 
           )
       gives_shard work kind h seat base = absurd h
 
-    gives_any : (kind : Kind) → ready_of ops completed seats term (take at ops) e ≡ Some kind → (work : CodeWork) (seat : SeatKind) → IsWorkFor e.1 kind work → IsSeatFor e.1 kind seat → IsBaseFor root ops seat copy.base
+    gives_any : (kind : Kind) → ready_of ops deletes completed seats term (take at ops) e ≡ Some kind → (work : CodeWork) (seat : SeatKind) → IsWorkFor e.1 kind work → IsSeatFor e.1 kind seat → IsBaseFor root ops seat copy.base
         → IsGivenBy e at ticket work seat copy
     gives_any (ready.Shard i) found work seat hw hs base =
-        let (within, at_i) = place_within (is_free (take at ops)) e.1.shards i (picked ops completed seats term (take at ops) e (Some (ready.Shard i)) found).1 in
+        let (within, at_i) = place_within (is_free (take at ops)) e.1.shards i (picked ops deletes completed seats term (take at ops) e (Some (ready.Shard i)) found).1 in
         gives_shard i found at_i.0 at_i.1 work seat (if_some _ (λ s. IsShardWork e.1 s work) at_i.0 at_i.1 hw) (if_some _ (λ s. IsSeatOf s seat) at_i.0 at_i.1 hs) base
     gives_any ready.Finalize found work seat hw hs base = subst (λ (k : SeatKind). IsGivenBy e at ticket work k copy) (sym hs) (gives_final work found hw)
     gives_any ready.Drop found work seat hw hs base =
         subst (λ (k : SeatKind). IsGivenBy e at ticket work k copy) (sym hs) (subst (λ (k : CodeWork). IsGivenBy e at ticket k kinds.Drop copy) (sym hw) (gives_drop found))
 
-  pub next_is : (at : ℕ) (kind : Kind) (r : IsReadyAt ops completed seats term at kind) (e : ℕ × Op) → slice_get ops at ≡ Some e → AreShards e.1.shards → (ticket : ℕ) → ticket ≡ suc (length seats)
+  pub next_is : (at : ℕ) (kind : Kind) (r : IsReadyAt ops deletes completed seats term at kind) (e : ℕ × Op) → slice_get ops at ≡ Some e → AreShards e.1.shards → (ticket : ℕ) → ticket ≡ suc (length seats)
       → (o : ℕ) → o ≡ e.0 → (work : CodeWork) (seat : SeatKind) (copy : Copied) → IsWorkFor e.1 kind work → IsSeatFor e.1 kind seat → IsBaseFor root ops seat copy.base → count_of copy.safe ≡ safe → root_of copy.root ≡ root
       → (given_list : List (ℕ × Op)) → IfSome (slice_get ops at) (λ (x : ℕ × Op). given_list ≡ set ops at (given_entry seat ticket x))
       → (new : Plan) → new ≡ record now { ops = fin.from_entries given_list; seats = fin.insert now.seats now.next_ticket (seat_of_code (seat_for seat o)); next_ticket = suc now.next_ticket }
-      → LowestUnit (HasOpReady w) w (Some (new, record { ticket = ticket; op = o; work = work; copy = copy }))
+      → LowestUnit (HasSnapReady w) w (Some (new, record { ticket = ticket; op = o; work = work; copy = copy }))
   next_is at kind r e there rule ticket ticket_is o o_is work seat copy hw hs base safe_is root_is given_list given_is new new_is =
       let entry : r.e ≡ e = some_same r.e e (sym r.there ∙ there) in
-      let found : ready_of ops completed seats term (take at ops) e ≡ Some kind = ap (ready_of ops completed seats term (take at ops)) (sym entry) ∙ r.is in
+      let found : ready_of ops deletes completed seats term (take at ops) e ≡ Some kind = ap (ready_of ops deletes completed seats term (take at ops)) (sym entry) ∙ r.is in
       let both : IsGivenBy e at ticket work seat copy = gives_any at e there rule ticket ticket_is copy kind found work seat hw hs base in
       let list_is : given_list ≡ set ops at (given_entry seat ticket e) = if_some _ (λ (x : ℕ × Op). given_list ≡ set ops at (given_entry seat ticket x)) e there given_is in
       let plan_is : seated seat e at ticket ≡ new =
       sym (new_is ∙ (λ i. record now { ops = fin.from_entries (list_is i); seats = fin.insert now.seats now.next_ticket (seat_of_code (seat_for seat (o_is i))); next_ticket = suc now.next_ticket })) in
-      subst (λ (k : ℕ). LowestUnit (HasOpReady w) w (Some (new, record { ticket = ticket; op = k; work = work; copy = copy }))) (sym o_is) (
+      subst (λ (k : ℕ). LowestUnit (HasSnapReady w) w (Some (new, record { ticket = ticket; op = k; work = work; copy = copy }))) (sym o_is) (
         record {
           ticket = ticket_is ∙ ap (λ (p : Plan). p.next_ticket) view ∙ is.plan.next_ticket;
           lowest = lowest at e there r.before;

@@ -3,13 +3,13 @@ use Rattle.std.proofs.Common.{◌≡◌, ℕ, Bool, true, false, cond, ◌&&◌,
 use Rattle.std.specs.Prelude.{not}
 use Rattle.std.specs.FinMap as fin
 use Rattle.esr_model.specs.Values.{ShardResult, Formats}
-use Rattle.esr_core.specs.World.{World, Op, Ticket, Swap, swap, Work, Shard, Finalize, Deleting, Drop}
+use Rattle.esr_core.specs.World.{World, Op, Deletion, Ticket, Swap, swap, Work, Shard, Finalize, Deleting, Drop}
 use Rattle.esr_core.specs.Steps.{completing}
-use Rattle.esr_core.specs.After.{with_given, change, raised, settled_by, settled_of, done_of, failed_of, is_stale, dropped_of}
+use Rattle.esr_core.specs.After.{with_given, change, raised, settled_by, settled_of, done_of, failed_of, is_stale, dropped_of, delete_failed_by, delete_failed, delete_settled_by, delete_settled}
 use Rattle.esr_core.specs.After as after
 use Rattle.esr_progress.specs.Plan.{Plan, Seat, seat_of, kind_of, IsPlanOf}
 use Rattle.esr_progress.specs.Seats.{is_of_shard}
-use Rattle.esr_progress.specs.Changes.{with_seat, op_marked, op_failed, seat_ended, seat_settled, seat_raised, seat_changed, op_left, is_stale_seat, done_by, done_in, failed_by, failed_in}
+use Rattle.esr_progress.specs.Changes.{with_seat, op_marked, op_failed, seat_ended, seat_settled, seat_raised, seat_changed, op_left, is_stale_seat, done_by, done_in, failed_by, failed_in, delete_failing, deletion_failed_by, deletion_failed_in}
 use Rattle.esr_progress.proofs.Plans.{seats_put}
 
 module _ (w : World) (p : Plan) (is : IsPlanOf w p) (k : ℕ) where
@@ -129,6 +129,47 @@ module _ (w : World) (p : Plan) (is : IsPlanOf w p) (k : ℕ) where
           let same : is_stale w t t.work ≡ is_stale_seat term (seat_of t) = stale_by t t.work ∙ ap (λ n. not (is_of_shard (kind_of t.work)) && not (t.term == n)) e in
           subst (λ b. IsPlanOf (failed_of w k (Some t)) (cond b (with_seat p k (seat_ended (seat_of t))) (failed_by p k (seat_of t) (fin.get p.ops t.op)))) same (either t (is_stale w t t.work))
 
+  delete_failed_there : (term : ℕ) → w.term ≡ term → IsPlanOf (delete_failed w k (fin.get w.tickets k)) (deletion_failed_in term p k (fin.get p.seats k))
+  delete_failed_there term e = subst (λ o. IsPlanOf (delete_failed w k (fin.get w.tickets k)) (deletion_failed_in term p k o)) (sym (is.seats k)) (go (fin.get w.tickets k))
+    where
+      inner : (t : Ticket) (o : Option Deletion) → IsPlanOf (delete_failed_by w k t o) (deletion_failed_by p k (seat_of t) o)
+      inner t None = is
+      inner t (Some x) = record {
+        ops = is.ops;
+        deletes = λ j. fin.insert (is.deletes j) t.op (delete_failing x);
+        completed = is.completed;
+        seats = seats_put w p is k (record t { out = false }) (seat_ended (seat_of t)) refl;
+        next_op = is.next_op;
+        next_ticket = is.next_ticket;
+        restores = is.restores;
+        restore_count = is.restore_count;
+        readers = is.readers;
+      }
+
+      fresh : (t : Ticket) → IsPlanOf (delete_failed_by w k t (fin.get w.deletes t.op)) (deletion_failed_by p k (seat_of t) (fin.get p.deletes t.op))
+      fresh t = subst (λ m. IsPlanOf (delete_failed_by w k t (fin.get w.deletes t.op)) (deletion_failed_by p k (seat_of t) (fin.get m t.op))) (sym is.deletes) (inner t (fin.get w.deletes t.op))
+
+      stale : (t : Ticket) → IsPlanOf (record w { tickets = fin.insert w.tickets k (record t { out = false }) }) (with_seat p k (seat_ended (seat_of t)))
+      stale t = record { ops = is.ops; deletes = is.deletes; completed = is.completed; seats = seats_put w p is k (record t { out = false }) (seat_ended (seat_of t)) refl; next_op = is.next_op; next_ticket = is.next_ticket; restores = is.restores; restore_count = is.restore_count; readers = is.readers }
+
+      either : (t : Ticket) (b : Bool) → IsPlanOf (cond b (record w { tickets = fin.insert w.tickets k (record t { out = false }) }) (delete_failed_by w k t (fin.get w.deletes t.op)))
+          (cond b (with_seat p k (seat_ended (seat_of t))) (deletion_failed_by p k (seat_of t) (fin.get p.deletes t.op)))
+      either t true = stale t
+      either t false = fresh t
+
+      go : (o : Option Ticket) → IsPlanOf (delete_failed w k o) (deletion_failed_in term p k (option_map seat_of o))
+      go None = is
+      go (Some t) =
+          let same : is_stale w t t.work ≡ is_stale_seat term (seat_of t) = stale_by t t.work ∙ ap (λ n. not (is_of_shard (kind_of t.work)) && not (t.term == n)) e in
+          subst (λ b. IsPlanOf (delete_failed w k (Some t)) (cond b (with_seat p k (seat_ended (seat_of t))) (deletion_failed_by p k (seat_of t) (fin.get p.deletes t.op)))) same (either t (is_stale w t t.work))
+
+-- a delete's settle leaves of the plan what a finalization's does
+delete_settled_by_is : (f : Formats) (w : World) (k : ℕ) (t : Ticket) (s : Option Swap) (n : Option ℕ) (p : Plan) → IsPlanOf (settled_by f w k t s n) p → IsPlanOf (delete_settled_by f w k t s n) p
+delete_settled_by_is f w k t (Some s) (Some n) p is =
+    record { ops = is.ops; deletes = is.deletes; completed = is.completed; seats = is.seats; next_op = is.next_op; next_ticket = is.next_ticket; restores = is.restores; restore_count = is.restore_count; readers = is.readers }
+delete_settled_by_is f w k t (Some s) None p is = is
+delete_settled_by_is f w k t None n p is = is
+
 -- ---- what the code makes of a copy
 
 module _ (p q new : Plan) (k : ℕ) (copied : q ≡ p) where
@@ -150,3 +191,10 @@ module _ (p q new : Plan) (k : ℕ) (copied : q ≡ p) where
 
   pub failed_is : (term : ℕ) → new ≡ failed_in term q k (fin.get q.seats k) → (w : World) → IsPlanOf w p → w.term ≡ term → IsPlanOf (failed_of w k (fin.get w.tickets k)) new
   failed_is term e w is in_term = subst (IsPlanOf (failed_of w k (fin.get w.tickets k))) (sym (e ∙ ap (λ (z : Plan). failed_in term z k (fin.get z.seats k)) copied)) (failed_there w p is k term in_term)
+
+  pub delete_failed_is : (term : ℕ) → new ≡ deletion_failed_in term q k (fin.get q.seats k) → (w : World) → IsPlanOf w p → w.term ≡ term → IsPlanOf (delete_failed w k (fin.get w.tickets k)) new
+  delete_failed_is term e w is in_term = subst (IsPlanOf (delete_failed w k (fin.get w.tickets k))) (sym (e ∙ ap (λ (z : Plan). deletion_failed_in term z k (fin.get z.seats k)) copied)) (delete_failed_there w p is k term in_term)
+
+  pub delete_settled_is : new ≡ op_left seat_settled q k (fin.get q.seats k)
+      → (f : Formats) (w : World) (t : Ticket) (s : Swap) (n : ℕ) → IsPlanOf w p → fin.get w.tickets k ≡ Some t → swap f t ≡ Some s → t.raised ≡ Some n → IsPlanOf (delete_settled f w k (Some t)) new
+  delete_settled_is e f w t s n is there swaps raises = delete_settled_by_is f w k t (swap f t) t.raised new (settled_is e f w t s n is there swaps raises)

@@ -170,6 +170,7 @@ given_shard ops copied new at kind shard ticket x y lt same is there now put =
 kept_entry : (kind : SeatKind) (ticket : ℕ) (e : ℕ × Op) → ((shard : ShardId) → kind ≡ kinds.Shard shard → ⊥) → given_entry kind ticket e ≡ e
 kept_entry (kinds.Shard shard) ticket e other = absurd (other shard refl)
 kept_entry kinds.Finalize ticket e other = refl
+kept_entry kinds.Delete ticket e other = refl
 kept_entry kinds.Drop ticket e other = refl
 
 pub set_same : {A : Type 0} (xs : List A) (at : ℕ) (x : A) → slice_get xs at ≡ Some x → set xs at x ≡ xs

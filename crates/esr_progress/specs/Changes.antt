@@ -4,7 +4,7 @@ use Rattle.std.specs.Ordering.{nat_cmp}
 use Rattle.std.specs.FinMap as fin
 use Rattle.esr_model.specs.Values.{ShardResult}
 use Rattle.std.specs.List.{list_any}
-use Rattle.esr_core.specs.World.{Op, Done, GivenUp, marked}
+use Rattle.esr_core.specs.World.{Op, Deletion, Done, GivenUp, marked}
 use Rattle.esr_core.specs.Steps.{completing}
 use Rattle.esr_core.specs.Turns.{fails}
 use Rattle.esr_progress.specs.Plan.{Seat, ReaderSeat, RestorePlan, Plan}
@@ -104,3 +104,21 @@ failed_by p k s (Some op) = record p { ops = fin.insert p.ops s.op (op_failed k 
 abbrev pub failed_in : ℕ → Plan → ℕ → Option Seat → Plan
 failed_in term p k None = p
 failed_in term p k (Some s) = if is_stale_seat term s then with_seat p k (seat_ended s) else failed_by p k s (fin.get p.ops s.op)
+
+-- ---- deletes
+
+-- the delete given anew, where there is one
+abbrev pub delete_changed : (Deletion → Deletion) → Plan → ℕ → Option Deletion → Plan
+delete_changed g p o None = p
+delete_changed g p o (Some x) = record p { deletes = fin.insert p.deletes o (g x) }
+
+abbrev pub delete_failing : Deletion → Deletion
+delete_failing x = record x { failed = true }
+
+abbrev pub deletion_failed_by : Plan → ℕ → Seat → Option Deletion → Plan
+deletion_failed_by p k s None = p
+deletion_failed_by p k s (Some x) = record p { deletes = fin.insert p.deletes s.op (delete_failing x); seats = fin.insert p.seats k (seat_ended s) }
+
+abbrev pub deletion_failed_in : ℕ → Plan → ℕ → Option Seat → Plan
+deletion_failed_in term p k None = p
+deletion_failed_in term p k (Some s) = if is_stale_seat term s then with_seat p k (seat_ended s) else deletion_failed_by p k s (fin.get p.deletes s.op)

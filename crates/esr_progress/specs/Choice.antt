@@ -7,7 +7,7 @@ use Rattle.esr_progress.specs.Plan.{RestorePlan}
 use Rattle.esr_progress.specs.Restores.{is_unread}
 use Rattle.esr_model.specs.Values.{Has, RootData}
 use Rattle.esr_model.specs.Image.{Generation}
-use Rattle.esr_core.specs.World.{Op, ShardWork}
+use Rattle.esr_core.specs.World.{Op, Deletion, ShardWork}
 use Rattle.esr_core.specs.Steps.{given, all_done}
 use Rattle.esr_formats.specs.Ids.{number_of}
 use Rattle.esr_progress.specs.declared.ready.Kind.{Kind}
@@ -22,17 +22,25 @@ use Rattle.esr_progress.specs.Ops.{has_stopped, is_free, IsDoneAt, Among, IsMost
 
 -- ---- which
 
+-- an open delete has a lower number
+abbrev pub barred : List (ℕ × Deletion) → ℕ → Bool
+barred deletes number = list_any (λ (d : ℕ × Deletion). nat_lt d.0 number) deletes
+
 -- an op of this number is open that neither failed nor was aborted
-abbrev pub goes_in : List (ℕ × Op) → ℕ → Bool
-goes_in ops number = list_any (λ (e : ℕ × Op). (e.0 == number) && not (has_stopped e.1)) ops
+abbrev pub is_going : List (ℕ × Op) → ℕ → Bool
+is_going ops number = list_any (λ (e : ℕ × Op). (e.0 == number) && not (has_stopped e.1)) ops
+
+-- and no delete stands before it
+abbrev pub goes_in : List (ℕ × Op) → List (ℕ × Deletion) → ℕ → Bool
+goes_in ops deletes number = is_going ops number && not (barred deletes number)
 
 -- none that goes completed before the op that completed at this place
-abbrev pub is_first_at : List (ℕ × Op) → List ℕ → Option ℕ → Bool
-is_first_at ops completed None = true
-is_first_at ops completed (Some i) = not (list_any (goes_in ops) (take i completed))
+abbrev pub is_first_at : List (ℕ × Op) → List (ℕ × Deletion) → List ℕ → Option ℕ → Bool
+is_first_at ops deletes completed None = true
+is_first_at ops deletes completed (Some i) = not (list_any (goes_in ops deletes) (take i completed))
 
-abbrev pub is_earliest : List (ℕ × Op) → List ℕ → ℕ → Bool
-is_earliest ops completed number = is_first_at ops completed (position (λ n. n == number) completed)
+abbrev pub is_earliest : List (ℕ × Op) → List (ℕ × Deletion) → List ℕ → ℕ → Bool
+is_earliest ops deletes completed number = is_first_at ops deletes completed (position (λ n. n == number) completed)
 
 abbrev pub is_out_of : List Slot → ℕ → ℕ → Bool
 is_out_of seats term number = list_any (λ s. holds (is_unit_out term number) (seat_in s)) seats
@@ -45,28 +53,34 @@ abbrev pub ready_by : Option ℕ → Bool → Option Kind
 ready_by (Some i) final = Some (ready.Shard i)
 ready_by None final = if final then Some ready.Finalize else None
 
-abbrev pub is_final : List (ℕ × Op) → List ℕ → List Slot → ℕ → ℕ × Op → Bool
-is_final ops completed seats term e = all_done e.1.shards && (not (is_swapping seats term) && is_earliest ops completed e.0)
+abbrev pub is_final : List (ℕ × Op) → List (ℕ × Deletion) → List ℕ → List Slot → ℕ → ℕ × Op → Bool
+is_final ops deletes completed seats term e = all_done e.1.shards && (not (is_swapping seats term) && is_earliest ops deletes completed e.0)
 
 -- the unit of an op that is ready
-abbrev pub ready_of : List (ℕ × Op) → List ℕ → List Slot → ℕ → List (ℕ × Op) → ℕ × Op → Option Kind
-ready_of ops completed seats term before e =
+abbrev pub ready_of : List (ℕ × Op) → List (ℕ × Deletion) → List ℕ → List Slot → ℕ → List (ℕ × Op) → ℕ × Op → Option Kind
+ready_of ops deletes completed seats term before e =
     if has_stopped e.1 then (if is_out_of seats term e.0 then None else Some ready.Drop)
-    else ready_by (position (is_free before) e.1.shards) (is_final ops completed seats term e)
+    else (if barred deletes e.0 then None else ready_by (position (is_free before) e.1.shards) (is_final ops deletes completed seats term e))
 
 -- the op at the place, and no unit of those before it is ready
-abbrev pub NoneBefore : List (ℕ × Op) → List ℕ → List Slot → ℕ → ℕ → Type 0
-NoneBefore ops completed seats term at = (k : ℕ) (e : ℕ × Op) → k < at → slice_get ops k ≡ Some e → ready_of ops completed seats term (take k ops) e ≡ None
+abbrev pub NoneBefore : List (ℕ × Op) → List (ℕ × Deletion) → List ℕ → List Slot → ℕ → ℕ → Type 0
+NoneBefore ops deletes completed seats term at = (k : ℕ) (e : ℕ × Op) → k < at → slice_get ops k ≡ Some e → ready_of ops deletes completed seats term (take k ops) e ≡ None
 
-pub record IsReadyAt (ops : List (ℕ × Op)) (completed : List ℕ) (seats : List Slot) (term at : ℕ) (kind : Kind) : Type 0 where
+pub record IsReadyAt (ops : List (ℕ × Op)) (deletes : List (ℕ × Deletion)) (completed : List ℕ) (seats : List Slot) (term at : ℕ) (kind : Kind) : Type 0 where
   pub e : ℕ × Op
   pub there : slice_get ops at ≡ Some e
-  pub is : ready_of ops completed seats term (take at ops) e ≡ Some kind
-  pub before : NoneBefore ops completed seats term at
+  pub is : ready_of ops deletes completed seats term (take at ops) e ≡ Some kind
+  pub before : NoneBefore ops deletes completed seats term at
 
-abbrev pub IsFirstReady : List (ℕ × Op) → List ℕ → List Slot → ℕ → Option (ℕ × Kind) → Type 0
-IsFirstReady ops completed seats term None = NoneBefore ops completed seats term (length ops)
-IsFirstReady ops completed seats term (Some (at, kind)) = IsReadyAt ops completed seats term at kind
+abbrev pub IsFirstReady : List (ℕ × Op) → List (ℕ × Deletion) → List ℕ → List Slot → ℕ → Option (ℕ × Kind) → Type 0
+IsFirstReady ops deletes completed seats term None = NoneBefore ops deletes completed seats term (length ops)
+IsFirstReady ops deletes completed seats term (Some (at, kind)) = IsReadyAt ops deletes completed seats term at kind
+
+-- a unit of the delete is ready: it failed and none of its units is out, or nothing stands before it and no swap is out
+abbrev pub delete_ready : List (ℕ × Op) → List (ℕ × Deletion) → List Slot → ℕ → ℕ × Deletion → Bool
+delete_ready ops deletes seats term d =
+    if d.1.failed then not (is_out_of seats term d.0)
+    else ((not (barred deletes d.0) && not (list_any (λ (e : ℕ × Op). nat_lt e.0 d.0) ops)) && not (is_swapping seats term))
 
 -- ---- what is given
 
@@ -84,8 +98,7 @@ IsWorkFor op ready.Drop work = work ≡ works.Drop
 -- the seat is of this shard
 abbrev pub IsSeatOf : ShardWork → SeatKind → Type 0
 IsSeatOf s (kinds.Shard shard) = (s.ref.id ≡ shard.index.number) × (s.number ≡ shard.number)
-IsSeatOf s kinds.Finalize = ⊥
-IsSeatOf s kinds.Drop = ⊥
+IsSeatOf s kind = ⊥
 
 abbrev pub IsSeatFor : Op → Kind → SeatKind → Type 0
 IsSeatFor op (ready.Shard i) kind = IfSome (slice_get op.shards i) (λ s. IsSeatOf s kind)
@@ -99,14 +112,12 @@ IsLiveIn root ops index number g = Generation root index number g ⊎ Among ops 
 -- the largest live generation of the shard that is given
 abbrev pub IsBaseFor : RootData → List (ℕ × Op) → SeatKind → Option Id → Type 0
 IsBaseFor root ops (kinds.Shard shard) base = IsMost (IsLiveIn root ops shard.index.number shard.number) (option_map number_of base)
-IsBaseFor root ops kinds.Finalize base = Unit {0}
-IsBaseFor root ops kinds.Drop base = Unit {0}
+IsBaseFor root ops kind base = Unit {0}
 
 -- the op, with the shard given to the ticket
 abbrev pub given_entry : SeatKind → ℕ → ℕ × Op → ℕ × Op
 given_entry (kinds.Shard shard) ticket e = (e.0, record e.1 { shards = map (given ticket shard.index.number shard.number) e.1.shards })
-given_entry kinds.Finalize ticket e = e
-given_entry kinds.Drop ticket e = e
+given_entry kind ticket e = e
 
 -- ---- restores
 
@@ -128,11 +139,15 @@ IsFirstUnread restores (Some (at, i)) = IsUnreadAt restores at i
 abbrev pub given_restore : ShardId → ℕ → ℕ × RestorePlan → ℕ × RestorePlan
 given_restore shard ticket e = (e.0, record e.1 { shards = map (given ticket shard.index.number shard.number) e.1.shards })
 
--- a restore comes before an op
+-- the first number is there, and comes before the other where that is there
 abbrev pub is_before : Option ℕ → Option ℕ → Bool
-is_before None op = false
-is_before (Some r) None = true
-is_before (Some r) (Some o) = nat_lt r o
+is_before None b = false
+is_before (Some m) None = true
+is_before (Some m) (Some n) = nat_lt m n
+
+-- the lower of two numbers, or the one that is there
+abbrev pub lower_of : Option ℕ → Option ℕ → Option ℕ
+lower_of a b = if is_before a b then a else b
 
 -- what holds of the shards of every open op: their numbers are of the layout, and those of one id and number are equally far
 pub record AreShards (shards : List ShardWork) : Type 0 where

@@ -31,6 +31,7 @@ pub record Seat : Type 0 where
 abbrev pub kind_of_code : SeatKind → UnitKind
 kind_of_code (kinds.Shard shard) = OfShard shard.index.number shard.number
 kind_of_code kinds.Finalize = OfFinalize
+kind_of_code kinds.Delete = OfDelete
 kind_of_code kinds.Drop = OfDrop
 
 abbrev pub seat_of_code : CodeSeat → Seat

@@ -1,9 +1,9 @@
 -- The unit that is given, as the definitions see it.
-use Rattle.std.specs.Prelude.{◌≡◌, ◌⊎◌, ℕ, ◌<◌, map, List, Option, Some, None, option_map}
+use Rattle.std.specs.Prelude.{◌≡◌, ◌⊎◌, ℕ, ◌<◌, true, map, List, Option, Some, None, option_map}
 use Rattle.std.specs.FinMap as fin
 use Rattle.esr_model.specs.Values.{Bytes, ShardResult, Formats}
 use Rattle.esr_core.specs.World.{World, Op, Deletion, ShardWork, RestoreShard, Restoring, info_of}
-use Rattle.esr_core.specs.Ready.{ReadyShard, ReadyFinalize, ReadyDrop, ReadyDelete, ReadyCleanup, ReadyRestore, AnyReady}
+use Rattle.esr_core.specs.Ready.{Stopped, UnitIsOut, ReadyShard, ReadyFinalize, ReadyDrop, ReadyDelete, ReadyRestore, AnyReady}
 use Rattle.esr_core.specs.After.{taken_by}
 use Rattle.esr_progress.specs.Plan.{Plan, IsPlanOf}
 use Rattle.esr_core.specs.Entry.{Given, GivenShard, GivenFinalize, GivenDrop, GivenRestore, GivenClone, GivenDelete, GivenCleanup}
@@ -57,6 +57,7 @@ GivesWork w o (works.Shard uuid shard index place) copy = ShardGiven w o shard.i
 GivesWork w o (works.Finalize info shards) copy = (op : Op) × ReadyFinalize w o op (map result_of shards) × (info_of_code info ≡ info_of op (map result_of shards))
 GivesWork w o works.Drop copy = ReadyDrop w o
 GivesWork w o (works.RestoreShard uuid shard index place) copy = RestoreGiven w o shard.index.number shard.number uuid.number index place
+GivesWork w o (works.Delete uuids) copy = (x : Deletion) × ReadyDelete w o x × (map number_of uuids ≡ x.uuids)
 -- the others are not given so far
 GivesWork w o work copy = ⊥
 
@@ -67,11 +68,29 @@ pub record GivesUnit (w : World) (u : ReadyUnit) : Type 0 where
   pub gives : GivesWork w u.op u.work u.copy
   pub copy : IsCopyOf w u.copy
 
--- ---- units of ops, and of restores
+-- ---- units of snapshots, of deletes, and of restores
 
--- some unit of this op, which is no restore, is ready
-abbrev pub HasOpReady : World → ℕ → Type 0
-HasOpReady w o = ((op : Op) × (s : ShardWork) × ReadyShard w o op s) ⊎ (((op : Op) × (results : List ShardResult) × ReadyFinalize w o op results) ⊎ (ReadyDrop w o ⊎ ((x : Deletion) × (ReadyDelete w o x ⊎ ReadyCleanup w o x))))
+-- the snapshot of this number has stopped, and none of its units is out
+pub record LeavesSnap (w : World) (o : ℕ) : Type 0 where
+  pub op : Op
+  pub there : fin.get w.ops o ≡ Some op
+  pub stopped : Stopped op
+  pub idle : (k : ℕ) → UnitIsOut w.tickets w.term o k → ⊥
+
+-- the delete of this number has failed, and none of its units is out
+pub record LeavesDelete (w : World) (o : ℕ) : Type 0 where
+  pub deletion : Deletion
+  pub there : fin.get w.deletes o ≡ Some deletion
+  pub failed : deletion.failed ≡ true
+  pub idle : (k : ℕ) → UnitIsOut w.tickets w.term o k → ⊥
+
+-- some unit of the snapshot of this number is ready
+abbrev pub HasSnapReady : World → ℕ → Type 0
+HasSnapReady w o = ((op : Op) × (s : ShardWork) × ReadyShard w o op s) ⊎ (((op : Op) × (results : List ShardResult) × ReadyFinalize w o op results) ⊎ LeavesSnap w o)
+
+-- some unit of the delete of this number is ready
+abbrev pub HasDeleteReady : World → ℕ → Type 0
+HasDeleteReady w o = LeavesDelete w o ⊎ ((x : Deletion) × ReadyDelete w o x)
 
 -- some shard of this restore is unread
 abbrev pub HasUnread : World → ℕ → Type 0

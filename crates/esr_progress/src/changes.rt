@@ -5,9 +5,9 @@ ghost use Rattle.esr_core.specs.Steps.{all_done};
 ghost use Rattle.esr_model.specs.Values.{ShardResult as Outcome};
 ghost use Rattle.esr_results.specs.Results.{result_of};
 ghost use Rattle.esr_progress.specs.Plan.{seat_of_code, reader_of_code};
-ghost use Rattle.esr_progress.specs.Changes.{with_seat, without_op, with_completed, op_changed, op_marked, op_failed, seat_ended, seat_changed, seat_settled, seat_raised, op_left, done_in, failed_by, failed_in, is_stale_seat, reader_ended, with_reader, restore_changed, restore_over, restore_kept, read_by, read_in};
+ghost use Rattle.esr_progress.specs.Changes.{with_seat, without_op, with_completed, op_changed, op_marked, op_failed, seat_ended, seat_changed, seat_settled, seat_raised, op_left, done_in, failed_by, failed_in, delete_changed, delete_failing, deletion_failed_by, deletion_failed_in, is_stale_seat, reader_ended, with_reader, restore_changed, restore_over, restore_kept, read_by, read_in};
 
-use crate::progress::{place, restore_place};
+use crate::progress::{delete_place, place, restore_place};
 use crate::shard::ShardState;
 use crate::unit::Slot;
 use crate::{Progress, ReaderSeat, Seat};
@@ -222,6 +222,48 @@ impl Progress {
         self.put_seat(ticket, seat.ended());
         self.mark_op(seat.op, ticket, outcome);
         Ok(())
+    }
+
+    /// A delete fails.
+    fn fail_open(&mut self, number: u64)
+        ensures { self.new ≡ delete_changed delete_failing self.old number (fin.get self.old.deletes number) }
+    {
+        if let Some(at) = delete_place(&self.deletes, number) {
+            self.deletes[at].fail();
+        }
+    }
+
+    /// Whether a delete of this number is open.
+    fn has_delete(&self, number: u64) -> bool
+        ensures { result ≡ is_some (fin.get self.now.deletes number) }
+    {
+        delete_place(&self.deletes, number).is_some()
+    }
+
+    /// The delete of a ticket fails, where it is open, and the ticket ends.
+    fn fail_deletion(&mut self, ticket: u64, seat: Seat)
+        requires { is_some (fin.get self.old.seats ticket) ≡ true }
+        ensures { self.new ≡ deletion_failed_by self.old ticket (seat_of_code seat) (fin.get self.old.deletes seat.op) }
+    {
+        if !self.has_delete(seat.op) {
+            return;
+        }
+        self.put_seat(ticket, seat.ended());
+        self.fail_open(seat.op);
+    }
+
+    /// The unit of a delete has failed in this term.
+    pub(crate) fn fail_delete(&mut self, term: u64, ticket: u64)
+        ensures { self.new ≡ deletion_failed_in term self.old ticket (fin.get self.old.seats ticket) }
+    {
+        let Some(seat) = self.seat(ticket) else {
+            return;
+        };
+        if seat.is_stale(term) {
+            self.put_seat(ticket, seat.ended());
+            return;
+        }
+        self.fail_deletion(ticket, seat);
     }
 
     /// Whether an op of this number is open.

@@ -112,6 +112,13 @@ pub(crate) fn restore_place(restores: &[OpenRestore], number: u64) -> Option<usi
         .position(|restore| restore.number() == number)
 }
 
+/// Where the delete of a number stands.
+pub(crate) fn delete_place(deletes: &[OpenDelete], number: u64) -> Option<usize>
+    ensures { result ≡ position (λ e. e.0 == number) deletes.now }
+{
+    deletes.iter().position(|delete| delete.number() == number)
+}
+
 /// Where the op of a number stands.
 pub(crate) fn place(ops: &[OpenOp], number: u64) -> Option<usize>
     ensures { result ≡ position (λ e. e.0 == number) ops.now }

@@ -1,23 +1,26 @@
 //! Which unit is ready.
-ghost use Rattle.std.specs.Prelude.{◌≡◌, ◌==◌, ◌<◌, ◌^◌, ℕ, suc, map, length, position, option_map, slice_get, slice_set, IfOk, IfSome, false, true, None};
+ghost use Rattle.std.specs.Prelude.{◌≡◌, ◌==◌, ◌<◌, ◌^◌, ℕ, suc, map, length, position, option_map, slice_get, slice_set, IfOk, IfSome, false, true, Some, None};
 ghost use Rattle.std.specs.FinMap as fin;
 ghost use Rattle.std.specs.List.{list_any};
 ghost use Rattle.esr_model.specs.Image.{index_at, at_shard_of};
-ghost use Rattle.esr_core.specs.World.{World};
+ghost use Rattle.esr_core.specs.World.{World, Deletion};
 ghost use Rattle.esr_formats.specs.Ids.{number_of};
 ghost use Rattle.esr_formats.specs.Roots.{root_of};
 ghost use Rattle.esr_formats.specs.Clusters.{count_of};
 ghost use Rattle.esr_progress.specs.Plan.{IsGivenIn, IsPlanOf, seat_of_code, reader_of_code};
 ghost use Rattle.esr_progress.specs.Inside.{numbers_of};
 ghost use Rattle.esr_progress.specs.Ops.{IsMost, Among, IsDoneAt};
-ghost use Rattle.esr_progress.specs.Units.{NextUnit, HasOpReady, HasUnread, IsLowest, LowestUnit};
-ghost use Rattle.esr_progress.specs.Choice.{goes_in, is_earliest, ready_of, IsFirstReady, IsPossible, IsWorkFor, IsSeatFor, IsBaseFor, given_entry, IsFirstUnread, given_restore, is_before};
+ghost use Rattle.esr_progress.specs.Units.{NextUnit, HasSnapReady, HasUnread, IsLowest, LowestUnit};
+ghost use Rattle.esr_progress.specs.Choice.{is_going, goes_in, is_earliest, ready_of, IsFirstReady, IsPossible, IsWorkFor, IsSeatFor, IsBaseFor, given_entry, IsFirstUnread, given_restore, is_before, lower_of};
 
+use crate::next_delete::barred;
 use crate::open_op::later;
 use crate::progress::{copy_deletes, copy_restores};
 use crate::seats::{swap_is_out, unit_is_out};
 use crate::unit::Slot;
-use crate::{Copied, OpenOp, OpenRestore, Progress, ReaderSeat, ReadyUnit, Seat, SeatKind, Work};
+use crate::{
+    Copied, OpenDelete, OpenOp, OpenRestore, Progress, ReaderSeat, ReadyUnit, Seat, SeatKind, Work,
+};
 use esr_names::{Id, ShardId};
 use esr_root::RootData;
 use std::alloc::{AllocError, Global};
@@ -39,22 +42,32 @@ impl Progress {
         safe: i64,
         term: u64,
     ) -> Result<Option<(Progress, ReadyUnit)>, AllocError>
-        requires no_delete { self.now.deletes ≡ fin.empty }
+        requires no_cleanup { (d : ℕ) (x : Deletion) → fin.get self.now.deletes d ≡ Some x → x.clean ≡ false }
         requires room { self.now.next_ticket < 2 ^ 62 }
         ensures { IfOk result (λ o. (w : World) → IsGivenIn self.now (root_of root.now) (count_of safe) term w → NextUnit w o) }
     {
-        if comes_first(self.unread_restore(), self.ready_op(term)) {
+        let op = self.ready_op(term);
+        let delete = self.ready_delete(term);
+        if comes_first(self.unread_restore(), lower(delete, op)) {
             return self.restore_unit(alloc, root, safe);
+        }
+        if comes_first(delete, op) {
+            return self.delete_unit(alloc, root, safe, term);
         }
         self.op_unit(alloc, root, safe, term)
     }
 
-    /// The number of the lowest op of which a unit is ready.
+    /// The number of the lowest snapshot of which a unit is ready.
     fn ready_op(&self, term: u64) -> Option<u64>
-        requires no_delete { self.now.deletes ≡ fin.empty }
-        ensures { (w : World) → IsPlanOf w self.now → w.term ≡ term → IsLowest (HasOpReady w) result }
+        ensures { (w : World) → IsPlanOf w self.now → w.term ≡ term → IsLowest (HasSnapReady w) result }
     {
-        let Some((at, _kind)) = find_ready(&self.ops, &self.completed, &self.seats, term) else {
+        let Some((at, _kind)) = find_ready(
+            &self.ops,
+            &self.deletes,
+            &self.completed,
+            &self.seats,
+            term,
+        ) else {
             return None;
         };
         Some(self.ops[at].number())
@@ -128,7 +141,7 @@ impl Progress {
         })
     }
 
-    /// The first ready unit of the lowest op that is no restore.
+    /// The first ready unit of the lowest snapshot.
     fn op_unit(
         &self,
         alloc: Global,
@@ -136,11 +149,16 @@ impl Progress {
         safe: i64,
         term: u64,
     ) -> Result<Option<(Progress, ReadyUnit)>, AllocError>
-        requires no_delete { self.now.deletes ≡ fin.empty }
         requires room { self.now.next_ticket < 2 ^ 62 }
-        ensures { IfOk result (λ o. (w : World) → IsGivenIn self.now (root_of root.now) (count_of safe) term w → LowestUnit (HasOpReady w) w o) }
+        ensures { IfOk result (λ o. (w : World) → IsGivenIn self.now (root_of root.now) (count_of safe) term w → LowestUnit (HasSnapReady w) w o) }
     {
-        let Some((at, kind)) = find_ready(&self.ops, &self.completed, &self.seats, term) else {
+        let Some((at, kind)) = find_ready(
+            &self.ops,
+            &self.deletes,
+            &self.completed,
+            &self.seats,
+            term,
+        ) else {
             return Ok(None);
         };
         let op = &self.ops[at];
@@ -162,7 +180,7 @@ impl Progress {
     }
 
     /// A copy with these ops, in which one ticket more is out.
-    fn with_seat(
+    pub(crate) fn with_seat(
         &self,
         alloc: Global,
         ops: Vec<OpenOp>,
@@ -193,15 +211,25 @@ impl Progress {
     }
 }
 
-/// Whether a restore comes before an op, by their numbers, where both are there.
-fn comes_first(restore: Option<u64>, op: Option<u64>) -> bool
-    ensures { result ≡ is_before restore op }
+/// Whether the first number is there, and comes before the other where that is there.
+fn comes_first(number: Option<u64>, other: Option<u64>) -> bool
+    ensures { result ≡ is_before number other }
 {
-    match (restore, op) {
+    match (number, other) {
         (None, _) => false,
         (Some(_), None) => true,
-        (Some(restore), Some(op)) => restore < op,
+        (Some(number), Some(other)) => number < other,
     }
+}
+
+/// The lower of two numbers, or the one that is there.
+fn lower(number: Option<u64>, other: Option<u64>) -> Option<u64>
+    ensures { result ≡ lower_of number other }
+{
+    if comes_first(number, other) {
+        return number;
+    }
+    other
 }
 
 /// The first restore with an unread shard, by its place, and the place of that shard.
@@ -233,11 +261,17 @@ fn given_restores(
 }
 
 /// The first op with a ready unit, by its place, and which unit that is.
-fn find_ready(ops: &[OpenOp], completed: &[u64], seats: &[Slot], term: u64) -> Option<(usize, Kind)>
-    ensures { IsFirstReady ops.now completed.now seats.now term result }
+fn find_ready(
+    ops: &[OpenOp],
+    deletes: &[OpenDelete],
+    completed: &[u64],
+    seats: &[Slot],
+    term: u64,
+) -> Option<(usize, Kind)>
+    ensures { IsFirstReady ops.now deletes.now completed.now seats.now term result }
 {
     for (at, op) in ops.iter().enumerate() {
-        if let Some(kind) = ready_of(ops, completed, seats, term, &ops[..at], op) {
+        if let Some(kind) = ready_of(ops, deletes, completed, seats, term, &ops[..at], op) {
             return Some((at, kind));
         }
     }
@@ -247,32 +281,36 @@ fn find_ready(ops: &[OpenOp], completed: &[u64], seats: &[Slot], term: u64) -> O
 /// The ready unit of an op, before which these ops stand.
 fn ready_of(
     ops: &[OpenOp],
+    deletes: &[OpenDelete],
     completed: &[u64],
     seats: &[Slot],
     term: u64,
     before: &[OpenOp],
     op: &OpenOp,
 ) -> Option<Kind>
-    ensures { result ≡ ready_of ops.now completed.now seats.now term before.now op.now }
+    ensures { result ≡ ready_of ops.now deletes.now completed.now seats.now term before.now op.now }
 {
     if op.has_stopped() {
         return (!unit_is_out(seats, term, op.number())).then_some(Kind::Drop);
+    }
+    if barred(deletes, op.number()) {
+        return None;
     }
     if let Some(at) = op.first_free(before) {
         return Some(Kind::Shard(at));
     }
     let is_final = op.is_done()
         && !swap_is_out(seats, term)
-        && is_earliest(ops, completed, op.number());
+        && is_earliest(ops, deletes, completed, op.number());
     is_final.then_some(Kind::Finalize)
 }
 
 /// Whether no other op that goes completed before the op of this number.
-fn is_earliest(ops: &[OpenOp], completed: &[u64], number: u64) -> bool
-    ensures { result ≡ is_earliest ops.now completed.now number }
+fn is_earliest(ops: &[OpenOp], deletes: &[OpenDelete], completed: &[u64], number: u64) -> bool
+    ensures { result ≡ is_earliest ops.now deletes.now completed.now number }
 {
     match place(completed, number) {
-        Some(at) => !go(ops, &completed[..at]),
+        Some(at) => !go(ops, deletes, &completed[..at]),
         None => true,
     }
 }
@@ -285,15 +323,22 @@ fn place(numbers: &[u64], number: u64) -> Option<usize>
 }
 
 /// Whether an op of one of these numbers goes.
-fn go(ops: &[OpenOp], numbers: &[u64]) -> bool
-    ensures { result ≡ list_any (goes_in ops.now) numbers.now }
+fn go(ops: &[OpenOp], deletes: &[OpenDelete], numbers: &[u64]) -> bool
+    ensures { result ≡ list_any (goes_in ops.now deletes.now) numbers.now }
 {
-    numbers.iter().any(|number| goes(ops, *number))
+    numbers.iter().any(|number| goes(ops, deletes, *number))
+}
+
+/// Whether an op of this number goes, and no delete stands before it.
+fn goes(ops: &[OpenOp], deletes: &[OpenDelete], number: u64) -> bool
+    ensures { result ≡ goes_in ops.now deletes.now number }
+{
+    is_going(ops, number) && !barred(deletes, number)
 }
 
 /// Whether an op of this number is open that neither failed nor was aborted.
-fn goes(ops: &[OpenOp], number: u64) -> bool
-    ensures { result ≡ goes_in ops.now number }
+fn is_going(ops: &[OpenOp], number: u64) -> bool
+    ensures { result ≡ is_going ops.now number }
 {
     ops.iter()
         .any(|op| op.number() == number && !op.has_stopped())
@@ -331,7 +376,7 @@ fn base_of(root: &RootData, ops: &[OpenOp], kind: SeatKind) -> Option<Id>
 {
     match kind {
         SeatKind::Shard { shard } => later(root_generation(root, shard), generation(ops, shard)),
-        SeatKind::Finalize | SeatKind::Drop => None,
+        SeatKind::Finalize | SeatKind::Delete | SeatKind::Drop => None,
     }
 }
 
@@ -376,7 +421,7 @@ fn given_ops(
     Ok(copy)
 }
 
-fn copy_ops(alloc: Global, ops: &[OpenOp]) -> Result<Vec<OpenOp>, AllocError>
+pub(crate) fn copy_ops(alloc: Global, ops: &[OpenOp]) -> Result<Vec<OpenOp>, AllocError>
     ensures { IfOk result (λ v. v.items ≡ ops.now) }
 {
     let mut copy = Vec::with_capacity(alloc, ops.len())?;

@@ -3,12 +3,13 @@ ghost use Rattle.std.specs.Prelude.{◌≡◌, ℕ, false, Some, map, option_map
 ghost use Rattle.std.specs.FinMap as fin;
 ghost use Rattle.esr_model.specs.Values.{Formats};
 ghost use Rattle.esr_core.specs.World.{World, ReadState, Ticket, Swap, swap, record_ops};
-ghost use Rattle.esr_core.specs.After.{change, raised, settled_of, done_of, failed_of, dropped_of, read_over};
+ghost use Rattle.esr_core.specs.After.{change, raised, settled_of, done_of, failed_of, dropped_of, delete_failed, delete_settled, read_over};
 ghost use Rattle.esr_core.specs.Restores.{waits};
 ghost use Rattle.esr_formats.specs.Clusters.{op_of};
 ghost use Rattle.esr_results.specs.Results.{result_of};
 ghost use Rattle.esr_progress.specs.Plan.{seat_of_code, reader_of_code, IsPlanOf};
 
+use crate::delete::push_between;
 use crate::{Progress, ReaderSeat, Seat};
 use esr_record::RecordOps;
 use esr_results::ShardResult;
@@ -35,15 +36,18 @@ impl Progress {
         }
     }
 
-    /// The ops as the cluster record tells them.
+    /// The ops as the cluster record tells them: snapshots and deletes, by number.
     pub fn record_ops(&self, alloc: Global) -> Result<RecordOps, AllocError>
-        requires no_delete { self.now.deletes ≡ fin.empty }
         ensures { IfOk result (λ ops. map op_of ops ≡ record_ops self.now.ops self.now.deletes) }
     {
         let mut ops = RecordOps::new(alloc);
+        let mut last = 0;
         for op in &self.ops {
+            push_between(alloc, &mut ops, &self.deletes, last, op.number())?;
             ops.push(op.record_op(alloc)?)?;
+            last = op.number();
         }
+        push_between(alloc, &mut ops, &self.deletes, last, self.next_op)?;
         Ok(ops)
     }
 
@@ -67,6 +71,21 @@ impl Progress {
     {
         let mut copy = self.copy(alloc)?;
         copy.fail(term, ticket);
+        Ok(copy)
+    }
+
+    /// The list after a delete's unit failed in this term: the ticket has ended, and the delete has failed, but for a unit of a
+    /// stale master.
+    pub fn delete_failed(
+        &self,
+        alloc: Global,
+        term: u64,
+        ticket: u64,
+    ) -> Result<Progress, AllocError>
+        ensures { IfOk result (λ p. (w : World) → IsPlanOf w self.now → w.term ≡ term → IsPlanOf (delete_failed w ticket (fin.get w.tickets ticket)) p) }
+    {
+        let mut copy = self.copy(alloc)?;
+        copy.fail_delete(term, ticket);
         Ok(copy)
     }
 
@@ -97,6 +116,16 @@ impl Progress {
     pub fn finalized(&self, alloc: Global, ticket: u64) -> Result<Progress, AllocError>
         ensures { IfOk result (λ p. (f : Formats) (w : World) (t : Ticket) (s : Swap) (n : ℕ) → IsPlanOf w self.now → fin.get w.tickets ticket ≡ Some t → swap f t ≡ Some s → t.raised ≡ Some n
             → IsPlanOf (settled_of f w ticket (Some t)) p) }
+    {
+        let mut copy = self.copy(alloc)?;
+        copy.settle(ticket);
+        Ok(copy)
+    }
+
+    /// The list after the swap of a delete has settled: the delete has left, its ticket stays out.
+    pub fn delete_settled(&self, alloc: Global, ticket: u64) -> Result<Progress, AllocError>
+        ensures { IfOk result (λ p. (f : Formats) (w : World) (t : Ticket) (s : Swap) (n : ℕ) → IsPlanOf w self.now → fin.get w.tickets ticket ≡ Some t → swap f t ≡ Some s → t.raised ≡ Some n
+            → IsPlanOf (delete_settled f w ticket (Some t)) p) }
     {
         let mut copy = self.copy(alloc)?;
         copy.settle(ticket);

@@ -5,7 +5,7 @@ ghost use Rattle.esr_progress.specs.Plan.{seat_of_code, reader_of_code};
 ghost use Rattle.esr_progress.specs.Seats.{seat_at, seat_in, reader_in, holds, is_swap_out, is_unit_out};
 
 use crate::unit::Slot;
-use crate::{ReaderSeat, Seat, SeatKind};
+use crate::{ReaderSeat, Seat};
 
 impl Slot {
     /// What is kept of a ticket.
@@ -34,7 +34,7 @@ impl Slot {
     {
         match self {
             Slot::Ticket(seat) => {
-                seat.out && !seat.settled && seat.term == term && seat.kind == SeatKind::Finalize
+                seat.out && !seat.settled && seat.term == term && seat.kind.is_master()
             }
             Slot::Reader(_) => false,
         }

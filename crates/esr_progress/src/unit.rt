@@ -1,7 +1,7 @@
 //! Units of work, and what they report.
 ghost use Rattle.std.specs.Prelude.{◌≡◌};
 ghost use Rattle.esr_progress.specs.Plan.{kind_of_code};
-ghost use Rattle.esr_progress.specs.Seats.{is_of_shard};
+ghost use Rattle.esr_progress.specs.Seats.{is_master, is_of_shard};
 
 use esr_meta::SnapInfo;
 use esr_names::{Id, Ids, IndexName, ShardId};
@@ -40,7 +40,7 @@ pub enum Work {
         shard: ShardId,
         index: IndexName,
     },
-    /// Takes these snapshots out of the root. Not given so far.
+    /// Takes these snapshots out of the root.
     Delete {
         uuids: Ids,
     },
@@ -71,6 +71,7 @@ pub struct ReadyUnit {
 pub enum SeatKind {
     Shard { shard: ShardId },
     Finalize,
+    Delete,
     Drop,
 }
 
@@ -106,5 +107,12 @@ impl SeatKind {
         ensures { result ≡ is_of_shard (kind_of_code self.now) }
     {
         matches!(self, SeatKind::Shard { .. })
+    }
+
+    /// Whether the unit swaps the root.
+    pub(crate) fn is_master(&self) -> bool
+        ensures { result ≡ is_master (kind_of_code self.now) }
+    {
+        matches!(self, SeatKind::Finalize | SeatKind::Delete)
     }
 }

@@ -19,7 +19,7 @@ module _ (f : Formats) (w : World) (shelf : List Shelved) (l : Law f w shelf) (k
   held_law : ShardLaw f (HeldIn f w) w.root w.ops k t index number
   held_law = l.lawful.sound.carried.shards k t out.there out.out index number work
 
-  stands : IndexStands f (HeldIn f w) index number base
+  stands : IndexStands f (HeldIn f w) w.root index number base
   stands = (subst (Base f (HeldIn f w) w.root w.ops index number) base_is held_law.base).1.stands
 
   -- its index is there

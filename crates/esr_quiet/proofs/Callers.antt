@@ -8,11 +8,12 @@ use Rattle.esr_model.specs.Image.{Image}
 use Rattle.esr_core.specs.World.{World, Op, ShardWork, ReadState, RestoreShard, Restoring, Reader, Caller, Ticket, Swap, swap}
 use Rattle.esr_core.specs.Restores.{restore_shard}
 use Rattle.esr_core.specs.Steps.{with_ticket}
-use Rattle.esr_core.specs.Entry.{Asked, Snapshot, Restore, Given, GivenShard, GivenFinalize, GivenDrop, GivenRestore, Read, ReadBlob, RestoredShard, DrawTest, CommitTest, ReadFails, Step, AskStep, TakeStep, DrawStep, BeginStep, CommitStep, LatestStep, FetchStep, RaiseStep, SettleStep, DoneStep, FailedStep, FinishStep, DroppedStep, ElectStep, LookStep, ReadStep, DepotFault, Reply, Gave, DrawnFrom, WasDone, WasThere, WasFetched, HasEnded, Refused, AcceptedRestore, Moment}
+use Rattle.esr_core.specs.Entry.{Asked, Snapshot, Restore, Given, GivenShard, GivenFinalize, GivenDrop, GivenRestore, Read, ReadBlob, RestoredShard, DrawTest, CommitTest, ReadFails, Step, AskStep, TakeStep, DrawStep, BeginStep, CommitStep, LatestStep, FetchStep, RaiseStep, SettleStep, DoneStep, FailedStep, FinishStep, DroppedStep, ElectStep, LookStep, ReadStep, DepotFault, Reply, Gave, DrawnFrom, WasDone, WasThere, WasFetched, HasEnded, Refused, AcceptedRestore, Moment, PruneStep}
 use Rattle.esr_core.specs.After.{shard_of, taken_shard, taken_restore_shard, taken_restore, taken_by, with_given, change, told_blob, settled_by, settled_of, done_by, done_of, is_stale, failed_by, failed_of, dropped_of, read_told, shard_over, read_over, read_step, read_by, done_step, swaps_record, fallen, is_latest, tried, test_left, faulted, answered, caller_after, after}
 use Rattle.esr_core.specs.Allowed as allowed
 use Rattle.esr_core.specs.Allowed.{ReadAllows, VerifyAllows, Allows, Allowed}
 use Rattle.esr_core.specs.History.{world_from}
+use Rattle.esr_core.proofs.PruneFrames.{prune_stays, prune_fault_stays}
 use Rattle.esr_core.proofs.Histories.{deposed_stays}
 use Rattle.esr_desk.specs.Start.{Start, Legal, formats_of, world_of, ticket_of}
 use Rattle.esr_checking.specs.Caller.{caller_of}
@@ -125,6 +126,7 @@ module _ (f : Formats) (w : World) where
   step_same k FinishStep reply image = change_same k _
   step_same k DroppedStep reply image = dropped_same k (fin.get w.tickets k)
   step_same k (ReadStep read) reply image = read_same k read reply image
+  step_same k (PruneStep prune) reply image = (prune_stays f w k prune reply image).caller
   step_same k step reply image = refl
 
   tried_same : (k : ℕ) (b : Bool) → (if b then tried w k else w).caller ≡ w.caller
@@ -149,6 +151,7 @@ module _ (f : Formats) (w : World) where
   fault_same k (BeginStep name) image = tried_same k (is_latest name)
   fault_same k (ReadStep (CommitTest name)) image = test_same name (fin.get w.blobs (f.names.text name)) (told_blob f image name)
   fault_same k (AskStep command) image = swapped_same k (AskStep command) image (swaps_record (AskStep command))
+  fault_same k (PruneStep prune) image = (prune_fault_stays f w k prune image).caller
   fault_same k RaiseStep image = swapped_same k RaiseStep image true
   fault_same k SettleStep image = swapped_same k SettleStep image true
   fault_same k DroppedStep image = swapped_same k DroppedStep image true

@@ -8,10 +8,11 @@ use Rattle.esr_model.specs.Values.{Bytes, Has, ShardFiles, Formats, Kind}
 use Rattle.esr_model.specs.Image.{Image}
 use Rattle.esr_core.specs.World.{World, Shard, Ticket}
 use Rattle.esr_core.specs.Steps.{IsOut}
-use Rattle.esr_core.specs.Entry.{Why, OfDepot, OfSource, OfChange, OfDamage, OfTaken, OfIdsSpent, OfGenerationsSpent, OfTarget, OfPrint, OfDisagreement, Step, FetchStep, FailedStep, Refusal, NameTaken, IdsSpent, GenerationsSpent, Reply, WasAbsent, HasEnded, Refused, Moment}
+use Rattle.esr_core.specs.Entry.{Reason, Why, OfDepot, OfSource, OfChange, OfAbsence, OfUnreadable, OfAhead, OfTaken, OfIdsSpent, OfGenerationsSpent, OfTarget, OfPrint, OfDisagreement, Step, FetchStep, FailedStep, Refusal, NameTaken, IdsSpent, GenerationsSpent, Reply, WasAbsent, HasEnded, Refused, Moment}
 use Rattle.esr_core.specs.Allowed as allowed
 use Rattle.esr_core.specs.Allowed.{Told, Fetches, Fails, Allows, Allowed}
 use Rattle.esr_formats.specs.Formats.{formats}
+use Rattle.esr_formats.specs.Reasons.{unreadable, unreadable_reads_not}
 use Rattle.esr_formats.specs.Shards.{shard_index_kind}
 use Rattle.esr_source.specs.declared.address.Address.{Address}
 use Rattle.esr_desk.specs.declared.fault.FailedObject.TheVariants as objects
@@ -19,7 +20,7 @@ use Rattle.esr_desk.specs.declared.fault.Fault.{Fault}
 use Rattle.esr_desk.specs.declared.fault.By.{By}
 use Rattle.esr_desk.specs.declared.fault.By.TheVariants as by
 use Rattle.esr_desk.specs.Start.{Start, formats_of, world_of, or_no_ticket, ticket_of}
-use Rattle.esr_desk.specs.Damage.{IsBase, BaseFault, WasMissing, IsBad}
+use Rattle.esr_desk.specs.Damage.{IsBase, HadFetch, WasUnreadable, WasAhead}
 use Rattle.esr_desk.specs.Shown.{Counts, DepotShown, SourceShown, ReadShown, StepShown, IsShown, IsUntold, HadFault, HadRefusal}
 use Rattle.esr_quiet.specs.Caused.{AreCaused}
 use Rattle.esr_quiet.specs.Smooth.{IsSpent, IsSmooth, NoneFailed}
@@ -115,21 +116,25 @@ module _ (s : Start) (log : List Moment) (smooth : IsSmooth s log) (prefixes : P
       let law = prefixes.lawful front (m ∷ rest) is in
       is_there (formats_of s) (world_of s front) law.0 law.1 m.entry.who g.t g.out g.index g.shard g.base g.work g.base_is (ap (λ (n : BlobName). fin.get (world_of s front).blobs ((formats_of s).names.text n)) (sym g.name_is) ∙ at.1)
 
-  missing : (front back : List Moment) → log ≡ front ++ back → (who : ℕ) (name : BlobName) → WasMissing front who name → ⊥
+  missing : (front back : List Moment) → log ≡ front ++ back → (who : ℕ) (name : BlobName) → HadFetch front who name WasAbsent → ⊥
   missing front back is who name h = found h.front (h.back ++ back) h.moment (is ∙ ap (λ (l : List Moment). l ++ back) h.is ∙ append_assoc h.front (h.moment ∷ h.back) back) name h.step h.reply
 
-  -- and isn't bad
-  bad : (front back : List Moment) → log ≡ front ++ back → (who : ℕ) (t : Ticket) → IsOut (world_of s front) who t → (name : BlobName) → IsBase t name → (bytes : Bytes) → Has t.read (name, bytes) → IsBad t bytes → ⊥
-  bad front back is who t out name base bytes read h =
+  -- it reads
+  unread : (front back : List Moment) → log ≡ front ++ back → (who : ℕ) → IsOut (world_of s front) who (ticket_of s front who) → (name : BlobName) → IsBase (ticket_of s front who) name → (reason : Reason) → WasUnreadable s front who name reason → ⊥
+  unread front back is who out name base reason (had, bytes, read, refuses) =
       let law = prefixes.lawful front back is in
-      let had : Has t.read (ShardIndex base.index base.number base.base, bytes) = subst (λ (n : BlobName). Has t.read (n, bytes)) base.name_is read in
-      elim h [
-        | inl none ↦ does_read (formats_of s) (world_of s front) law.0 law.1 who t out base.index base.number base.base base.work base.base_is bytes had (ap (λ (kind : Kind ShardFiles). kind.read bytes) (index_is s) ∙ none)
-        | inr v ↦ not_ahead (formats_of s) (world_of s front) law.0 law.1 who t out base.index base.number base.base base.work base.base_is (prefixes.free front back is) bytes had v.0 (ap (λ (kind : Kind ShardFiles). kind.read bytes) (index_is s) ∙ v.1) v.2
-      ]
+      let t : Ticket = ticket_of s front who in
+      let there : Has t.read (ShardIndex base.index base.number base.base, bytes) = subst (λ (n : BlobName). Has t.read (n, bytes)) base.name_is (read smooth.tells) in
+      does_read (formats_of s) (world_of s front) law.0 law.1 who t out base.index base.number base.base base.work base.base_is bytes there
+      (unreadable_reads_not s.known s.told (ShardIndex base.index base.number base.base) bytes reason (subst (λ (n : BlobName). unreadable n bytes ≡ Some reason) base.name_is refuses))
 
-  damage : (front back : List Moment) → log ≡ front ++ back → (who : ℕ) → IsOut (world_of s front) who (ticket_of s front who) → (name : BlobName) → IsBase (ticket_of s front who) name → BaseFault s front who name → ⊥
-  damage front back is who out name base h = elim h [ inl m ↦ missing front back is who name m | inr b ↦ bad front back is who (ticket_of s front who) out name base b.0 (b.1 smooth.tells) b.2 ]
+  -- and isn't ahead
+  ahead : (front back : List Moment) → log ≡ front ++ back → (who : ℕ) → IsOut (world_of s front) who (ticket_of s front who) → (name : BlobName) → IsBase (ticket_of s front who) name → WasAhead s (ticket_of s front who) name → ⊥
+  ahead front back is who out name base (bytes, read, v, reads, over) =
+      let law = prefixes.lawful front back is in
+      let t : Ticket = ticket_of s front who in
+      let there : Has t.read (ShardIndex base.index base.number base.base, bytes) = subst (λ (n : BlobName). Has t.read (n, bytes)) base.name_is (read smooth.tells) in
+      not_ahead (formats_of s) (world_of s front) law.0 law.1 who t out base.index base.number base.base base.work base.base_is (prefixes.free front back is) bytes there v (ap (λ (kind : Kind ShardFiles). kind.read bytes) (index_is s) ∙ reads) over
 
   had : (front back : List Moment) → log ≡ front ++ back → (who : ℕ) (refusal : Refusal) (h : HadRefusal front who refusal) → Has log h.moment
   had front back is who refusal h = subst (λ (l : List Moment). Has l h.moment) (sym is) (has_front front back h.moment (subst (λ (l : List Moment). Has l h.moment) (sym h.is) (has_at h.front h.back h.moment)))
@@ -147,7 +152,9 @@ module _ (s : Start) (log : List Moment) (smooth : IsSmooth s log) (prefixes : P
   shows c front back is who out OfDepot b h = depot c front who (λ m has. subst (λ (l : List Moment). Has l m) (sym is) (has_front front back m has)) b h
   shows c front back is who out OfSource b h = source c (ticket_of s front who) ((quiet_at s log smooth front back is).tickets who (ticket_of s front who) out.there).steady b h
   shows c front back is who out (OfChange first_len first_digest second_len second_digest) b h = untold (ticket_of s front who) (read_shown b _ h).1
-  shows c front back is who out (OfDamage name) b h = let x = read_shown b _ h in damage front back is who out name x.0 x.1
+  shows c front back is who out (OfAbsence name) b h = let x = read_shown b _ h in missing front back is who name x.1
+  shows c front back is who out (OfUnreadable name reason) b h = let x = read_shown b _ h in unread front back is who out name x.0 reason x.1
+  shows c front back is who out (OfAhead name) b h = let x = read_shown b _ h in ahead front back is who out name x.0 x.1
   shows c front back is who out (OfTaken name) b h = untaken front back is who name (step_shown b _ h)
   shows c front back is who out (OfIdsSpent next) b h = unspent front back is who (IdsSpent next) tt (step_shown b _ h)
   shows c front back is who out (OfGenerationsSpent pending) b h = unspent front back is who (GenerationsSpent pending) tt (step_shown b _ h)

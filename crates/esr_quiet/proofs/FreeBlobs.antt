@@ -25,7 +25,7 @@ use Rattle.esr_quiet.proofs.FreeParts.{own_put}
 
 module _ (f : Formats) (w : World) (shelf : List Shelved) (law : Law f w shelf) where
   -- they stand
-  pub used_stands : (index number g : ℕ) → IsInUse w index number g → IndexStands f (HeldIn f w) index number g
+  pub used_stands : (index number g : ℕ) → IsInUse w index number g → IndexStands f (HeldIn f w) w.root index number g
   used_stands index number g (inl live) = (law.lawful.sound.carried.carries index number g live).stands
   used_stands index number g (inr b) = (subst (Base f (HeldIn f w) w.root w.ops index number) b.base_is (law.lawful.sound.carried.shards b.ticket b.t b.there b.out index number b.work).base).1.stands
 

@@ -21,6 +21,7 @@ use Rattle.esr_core.specs.Entry.{AskedIndex, Snapshot, Restore, Given, GivenShar
 use Rattle.esr_core.specs.After.{asked, asked_op, taken_by, taken_shard, taken_restore, taken_restore_shard, read_told, shard_over, read_over, caller_told, caller_wrote, with_given, change, committing, fetching, told_blob, done_of, done_by, failed_of, failed_by, is_stale, settled_of, dropped_of, tried, blobs_in, after}
 use Rattle.esr_core.specs.Allowed as allowed
 use Rattle.esr_core.specs.Allowed.{latest_text, Told, SameBlobs, Adds, Accepts, Gives, Draws, Commits, Raises, Settles, Fails, Dones, Drops, IsOwnTest, RestoreAllows, OpeningRestore, NotListed, NamedByDelete, FullOfRestores, ReadAllows, ReadFound, ReadMissing, ReadFault, RestoringShard, ReaderFailing, CheckingAll, CheckFailing, VerifyAllows, DrawingTest, TestSpent, BeginningTest, BeginTestFails, CommittingTest, TestTaken, CommitTestFails, RemovingTests, RemoveTestsFails, VerifyingAll, VerifyFailing, Allows, Allowed}
+use Rattle.esr_core.proofs.PruneFrames.{prune_has_delete}
 use Rattle.esr_core.proofs.Accepting.{in_all}
 use Rattle.std.specs.Cmp.Lexicographic.{nat_list_cmp_total}
 use Rattle.esr_core.proofs.Adds.{text_one, at_kept, at_new, at_was}
@@ -39,6 +40,7 @@ use Rattle.esr_quiet.proofs.FreeNames.{commits_same, one_place, snap_alone, draw
 use Rattle.esr_quiet.proofs.FreeParts.{Were, Back, at_same, own_were, tests_was, tests_none, follows_same, came_all, came_put, came_new, own_insert, own_put, own_new, waited_all, WaitedBy, waited_as, waited_map, waited_left, live_left}
 use Rattle.esr_quiet.proofs.FreeBlobs.{used_below, free_committed}
 use Rattle.esr_quiet.proofs.FreeEnds.{free_done, live_settled}
+use Rattle.esr_quiet.proofs.Maps.{nothing}
 
 -- the blobs after `index.latest` is replaced
 latest_back : (f : Formats) (blobs now : Blobs) (bytes : Bytes) → now ≡ fin.insert blobs (f.names.text Latest) bytes → ReadsBack f.names Latest → Back f now blobs
@@ -241,21 +243,21 @@ module _ (f : Formats) (w : World) (shelf : List Shelved) (law : Law f w shelf) 
             no_delete = never;
           }
 
-  gives : (o : ℕ) (unit : Given) → Gives f w o unit → (blobs : Blobs) → Back f blobs w.blobs → IsFree f (record (taken_by f w o unit (fin.get w.ops o)) { blobs = blobs })
-  gives o (GivenShard index number base) g blobs back =
+  gives : w.deletes ≡ fin.empty → (o : ℕ) (unit : Given) → Gives f w o unit → (blobs : Blobs) → Back f blobs w.blobs → IsFree f (record (taken_by f w o unit (fin.get w.ops o)) { blobs = blobs })
+  gives none o (GivenShard index number base) g blobs back =
       subst (λ x. IsFree f (record (taken_by f w o (GivenShard index number base) x) { blobs = blobs })) (sym g.ready.op_there)
       (subst (λ x. IsFree f (record (taken_shard w o g.op base x) { blobs = blobs })) (sym g.found) (gives_shard o g.op g.s base g.ready.op_there g.ready.s_there g.ready.pending g.largest blobs back))
-  gives o (GivenFinalize info results) g blobs back =
+  gives none o (GivenFinalize info results) g blobs back =
       subst (λ x. IsFree f (record (taken_by f w o (GivenFinalize info results) x) { blobs = blobs })) (sym g.ready.op_there)
       (gives_plain (final_ticket f w o g.op results) (plain_new f w (final_ticket f w o g.op results) (λ i n e. cc) refl (λ uuids plan e. cc)) blobs back)
-  gives o (GivenRestore index number uuid) g blobs back =
+  gives none o (GivenRestore index number uuid) g blobs back =
       subst (λ x. IsFree f (record (taken_restore w o index number x) { blobs = blobs })) (sym g.ready.there)
       (subst (λ x. IsFree f (record (taken_restore_shard w o g.r x) { blobs = blobs })) (sym g.found)
       (beside (shard_handed w o g.r g.s).restores (shard_handed w o g.r g.s).readers w.next_op (suc w.next_ticket) blobs back.were w.caller (tests_was f w l blobs back)))
-  gives o (GivenClone index number source base) g blobs back = absurd g
-  gives o (GivenDelete uuids) g blobs back = absurd g
-  gives o GivenCleanup g blobs back = absurd g
-  gives o GivenDrop g blobs back = dropping (fin.get w.ops o)
+  gives none o (GivenClone index number source base) g blobs back = absurd g
+  gives none o (GivenDelete uuids) g blobs back = absurd (nothing w.deletes o g.0 none g.1.there)
+  gives none o GivenCleanup g blobs back = absurd g
+  gives none o GivenDrop g blobs back = dropping (fin.get w.ops o)
     where
       dropping : (found : Option Op) → IsFree f (record (taken_by f w o GivenDrop found) { blobs = blobs })
       dropping None = gives_plain (plain_ticket w o Drop) (plain_new f w (plain_ticket w o Drop) (λ i n e. cc) refl (λ uuids plan e. cc)) blobs back
@@ -348,7 +350,7 @@ module _ (f : Formats) (w : World) (shelf : List Shelved) (law : Law f w shelf) 
 
 -- ---- each answer, where the image is told
 
-module _ (f : Formats) (size : ℕ) (w : World) (shelf : List Shelved) (law : Law f w shelf) (l : IsFree f w) where
+module _ (f : Formats) (size : ℕ) (w : World) (shelf : List Shelved) (law : Law f w shelf) (l : IsFree f w) (none_open : w.deletes ≡ fin.empty) where
   commits : (k : ℕ) (name : BlobName) (image : Option Image) (c : Commits f w k name) → Told image (Adds f w name c.bytes) → (i : Image) → image ≡ Some i → IsFree f (after f w (moment k (CommitStep name) WasDone image))
   commits k name None c adds i told = absurd (none_some i told)
   commits k name (Some x) c adds i told =
@@ -455,7 +457,7 @@ module _ (f : Formats) (size : ℕ) (w : World) (shelf : List Shelved) (law : La
   free_by : (who : ℕ) (step : Step) (reply : Reply) (image : Option Image) → reply ≢ Refused DepotFault → (i : Image) → image ≡ Some i → Allows f size w who step reply image → IsFree f (after f w (moment who step reply image))
   free_by who step reply image calm i told (allowed.Accepting name indices time o im acc same) = asks f w shelf law l name indices time (blobs_in im w.blobs) (at_same f w im same)
   free_by who step reply image calm i told (allowed.GivingNothing im none same) = still im same
-  free_by who step reply image calm i told (allowed.Giving k o unit im is lowest g same) = gives f w shelf law l o unit g (blobs_in im w.blobs) (at_same f w im same)
+  free_by who step reply image calm i told (allowed.Giving k o unit im is lowest g same) = gives f w shelf law l none_open o unit g (blobs_in im w.blobs) (at_same f w im same)
   free_by who step reply image calm i told (allowed.Drawing k n first im d same) = draws f w shelf law l k n d.may.t d.may.out.there (blobs_in im w.blobs) (at_same f w im same)
   free_by who step reply image calm i told (allowed.Beginning k name im c same) = still im same
   free_by who step reply image calm i told (allowed.BeginningLatest k im c same) = still im same
@@ -480,6 +482,7 @@ module _ (f : Formats) (size : ℕ) (w : World) (shelf : List Shelved) (law : La
   free_by who step reply image calm i told (allowed.AskingRestore name place rep im h same) = asks_restore name place rep im h same
   free_by who step reply image calm i told (allowed.Reading k read rep im h same) = reads k read rep im calm h same
   free_by who step reply image calm i told (allowed.Verifying read rep im h) = verifies read rep im calm i told h
+  free_by who step reply image calm i told (allowed.Pruning k prune rep im h) = let d = prune_has_delete f w k prune rep im h in absurd (l.no_deletes d.k d.t d.uuids d.plan d.there d.work)
   free_by who step reply image calm i told (allowed.Cleaning c d x im recorded there clean same) = anew im same no_caller refl refl
   free_by who step reply image calm i told (allowed.Used name indices time uuid im clear is same) = anew im same no_caller refl refl
   free_by who step reply image calm i told (allowed.Full name indices time im clear unused full same) = anew im same no_caller refl refl
@@ -503,8 +506,8 @@ module _ (f : Formats) (size : ℕ) (w : World) (shelf : List Shelved) (law : La
   free_by who step reply image calm i told (allowed.DropFails k im c same) = absurd (calm refl)
   free_by who step reply image calm i told (allowed.ElectFails im room same) = absurd (calm refl)
 
-pub step_free : (f : Formats) (size : ℕ) (w : World) (shelf : List Shelved) → Law f w shelf → IsFree f w → (m : Moment) → m.entry.reply ≢ Refused DepotFault → (i : Image) → m.image ≡ Some i → Allowed f size w m → IsFree f (after f w m)
-step_free f size w shelf law l m calm i told a = elim a.answered [
-  | inl alive ↦ free_by f size w shelf law l m.entry.who m.entry.step m.entry.reply m.image calm i told alive.1
+pub step_free : (f : Formats) (size : ℕ) (w : World) (shelf : List Shelved) → Law f w shelf → IsFree f w → w.deletes ≡ fin.empty → (m : Moment) → m.entry.reply ≢ Refused DepotFault → (i : Image) → m.image ≡ Some i → Allowed f size w m → IsFree f (after f w m)
+step_free f size w shelf law l none m calm i told a = elim a.answered [
+  | inl alive ↦ free_by f size w shelf law l none m.entry.who m.entry.step m.entry.reply m.image calm i told alive.1
   | inr dead ↦ subst (IsFree f) (sym (deposed_stays f w m dead)) l
 ]

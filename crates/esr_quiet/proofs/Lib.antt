@@ -14,6 +14,9 @@ pub mod Restores
 pub mod Unasked
 pub mod Texted
 pub mod Verifications
+pub mod Rooted
+pub mod Agreed
+pub mod Checks
 pub mod Core
 pub mod FreeFrame
 pub mod FreeNames

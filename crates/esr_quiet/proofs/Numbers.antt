@@ -1,17 +1,18 @@
 -- Tickets are numbered from one on.
-use Rattle.std.proofs.Common.{◌≡◌, ℕ, zero, suc, ◌≤◌, Bool, true, false, List, [], ◌∷◌, Option, Some, None, refl, sym, ap, ◌∙◌, arith}
+use Rattle.std.proofs.Common.{◌≡◌, ℕ, zero, suc, ◌≤◌, Bool, true, false, List, [], ◌∷◌, Option, Some, None, refl, sym, ap, ◌∙◌, arith, nat_cmp, subst, inl, inr}
 use Rattle.std.specs.Prelude.{if◌then◌else◌}
 use Rattle.std.specs.FinMap as fin
 use Rattle.esr_model.specs.Names.{BlobName}
 use Rattle.esr_model.specs.Values.{Bytes, ShardResult, Formats}
 use Rattle.esr_model.specs.Image.{Image}
-use Rattle.esr_core.specs.World.{World, Op, ShardWork, Drop, Swap, Ticket, ReadState, Restored, NotRestored, RestoreShard, Restoring, Reader, swap, record_of}
+use Rattle.esr_core.specs.World.{World, Op, ShardWork, Drop, Swap, Ticket, ReadState, Restored, NotRestored, RestoreShard, Restoring, Reader, swap, record_of, Deleting}
 use Rattle.esr_core.specs.Restores.{restore_shard}
 use Rattle.esr_core.specs.Steps.{noting, shard_ticket, final_ticket}
 use Rattle.esr_core.specs.Turns.{plain_ticket}
-use Rattle.esr_core.specs.Entry.{Asked, Snapshot, Clone, DeleteSnapshots, Restore, Cleanup, Given, GivenShard, GivenFinalize, GivenDrop, GivenRestore, Read, ReadBlob, RestoredShard, CheckedAll, DrawTest, CommitTest, ReadFails, Step, AskStep, TakeStep, DrawStep, BeginStep, CommitStep, LatestStep, FetchStep, RaiseStep, SettleStep, DoneStep, FailedStep, FinishStep, DroppedStep, ElectStep, ReadStep, DepotFault, Reply, Gave, DrawnFrom, WasDone, WasThere, WasFetched, HasEnded, Refused, AcceptedRestore, Moment}
+use Rattle.esr_core.specs.Entry.{Asked, Snapshot, Clone, DeleteSnapshots, Restore, Cleanup, Given, GivenShard, GivenFinalize, GivenDrop, GivenRestore, Read, ReadBlob, RestoredShard, CheckedAll, DrawTest, CommitTest, ReadFails, Step, AskStep, TakeStep, DrawStep, BeginStep, CommitStep, LatestStep, FetchStep, RaiseStep, SettleStep, DoneStep, FailedStep, FinishStep, DroppedStep, ElectStep, ReadStep, DepotFault, Reply, Gave, DrawnFrom, WasDone, WasThere, WasFetched, HasEnded, Refused, AcceptedRestore, Moment, GivenDelete, PruneStep}
 use Rattle.esr_core.specs.After.{asked, taken_shard, taken_restore_shard, taken_restore, taken_by, read_told, shard_over, read_over, read_step, read_by, test_left, shard_of, with_given, committing, told_blob, fetching, settled_by, settled_of, done_by, done_of, is_stale, failed_by, failed_of, dropped_of, done_step, has_text, fallen, is_latest, faulted, answered, after}
 use Rattle.esr_core.specs.History.{world_from}
+use Rattle.esr_core.proofs.PruneFrames.{PruneStays, prune_stays, prune_fault_stays}
 use Rattle.esr_quiet.proofs.Maps.{get_other, some_none}
 
 -- no ticket has the number 0, nor will the next one
@@ -59,6 +60,7 @@ numbered_taken f w o (GivenFinalize info results) (Some op) n = record { next = 
 numbered_taken f w o (GivenFinalize info results) None n = n
 numbered_taken f w o GivenDrop op n = record { next = later w n; none = more_numbered w (plain_ticket w o Drop) n }
 numbered_taken f w o (GivenRestore index number uuid) op n = numbered_restore w o index number (fin.get w.restores o) n
+numbered_taken f w o (GivenDelete uuids) op n = record { next = later w n; none = more_numbered w (plain_ticket w o (Deleting uuids None)) n }
 numbered_taken f w o unit op n = n
 
 numbered_settled_by : (f : Formats) (w : World) (k : ℕ) (t : Ticket) (s : Option Swap) (g : Option ℕ) → fin.get w.tickets k ≡ Some t → Numbered w → Numbered (settled_by f w k t s g)
@@ -126,6 +128,17 @@ numbered_read_by f w (suc k) read reply image n = numbered_read f w (suc k) read
 
 -- ---- all steps
 
+-- a step of a delete's ticket
+numbered_prune : (w new : World) (k : ℕ) → PruneStays w new k → Numbered w → Numbered new
+numbered_prune w new k h n =
+    record {
+      next = subst (λ (x : ℕ). 1 ≤ x) (sym h.next_ticket) n.next;
+      none = elim h.tickets [
+        | inl same ↦ ap (λ (m : fin.FinMap nat_cmp Ticket). fin.get m 0) same ∙ n.none
+        | inr a ↦ ap (λ (m : fin.FinMap nat_cmp Ticket). fin.get m 0) a.is ∙ put_numbered w k a.t a.v n a.there
+      ];
+    }
+
 numbered_step : (f : Formats) (w : World) (k : ℕ) (step : Step) (reply : Reply) (image : Option Image) → Numbered w → Numbered (done_step f w k step reply image)
 numbered_step f w k (AskStep (Snapshot name indices moment)) reply image n = numbered_asked w (Snapshot name indices moment) n
 numbered_step f w k (AskStep (Restore name place)) (AcceptedRestore o uuid indices) image n = record { next = n.next; none = n.none }
@@ -147,6 +160,7 @@ numbered_step f w k FinishStep reply image n = numbered_change w k (λ t. record
 numbered_step f w k DroppedStep reply image n = numbered_dropped w k (fin.get w.tickets k) refl n
 numbered_step f w k ElectStep reply image n = record { next = n.next; none = n.none }
 numbered_step f w k (ReadStep read) reply image n = numbered_read_by f w k read reply image n
+numbered_step f w k (PruneStep prune) reply image n = numbered_prune w _ k (prune_stays f w k prune reply image) n
 numbered_step f w k step reply image n = n
 
 -- ---- a step that failed
@@ -168,6 +182,7 @@ numbered_fault : (f : Formats) (w : World) (k : ℕ) (step : Step) (image : Opti
 numbered_fault f w k LatestStep image n = numbered_tried w k n
 numbered_fault f w k (BeginStep name) image n = numbered_either _ w (is_latest name) (numbered_tried w k n) n
 numbered_fault f w k (ReadStep (CommitTest name)) image n = numbered_left w name (fin.get w.blobs (f.names.text name)) (told_blob f image name) n
+numbered_fault f w k (PruneStep prune) image n = numbered_prune w _ k (prune_fault_stays f w k prune image) n
 numbered_fault f w k (AskStep (Snapshot name indices moment)) image n = numbered_fallen f w _ image n (numbered_step f w k (AskStep (Snapshot name indices moment)) HasEnded image n)
 numbered_fault f w k (AskStep (Clone source name indices moment)) image n = numbered_fallen f w w image n n
 numbered_fault f w k (AskStep (DeleteSnapshots names)) image n = numbered_fallen f w w image n n

@@ -1,5 +1,5 @@
 -- A step leaves all tickets but its own; a take leaves all but the one that it gives.
-use Rattle.std.proofs.Common.{◌≡◌, ◌≢◌, ℕ, zero, suc, Bool, true, false, List, [], ◌∷◌, ◌++◌, Option, Some, None, refl, sym, ap, ◌∙◌, subst, inl, inr}
+use Rattle.std.proofs.Common.{◌≡◌, ◌≢◌, ℕ, zero, suc, Bool, true, false, List, [], ◌∷◌, ◌++◌, Option, Some, None, refl, sym, ap, ◌∙◌, subst, inl, inr, nat_cmp}
 use Rattle.std.specs.Prelude.{if◌then◌else◌}
 use Rattle.std.specs.FinMap as fin
 use Rattle.esr_model.specs.Names.{BlobName}
@@ -8,11 +8,12 @@ use Rattle.esr_model.specs.Image.{Image}
 use Rattle.esr_core.specs.World.{World, Op, ShardWork, Swap, Ticket, ReadState, Restored, NotRestored, RestoreShard, Restoring, Reader, swap, record_of}
 use Rattle.esr_core.specs.Restores.{restore_shard}
 use Rattle.esr_core.specs.Steps.{noting}
-use Rattle.esr_core.specs.Entry.{Asked, Snapshot, Clone, DeleteSnapshots, Restore, Cleanup, Given, GivenShard, GivenFinalize, GivenDrop, GivenRestore, Read, ReadBlob, RestoredShard, CheckedAll, DrawTest, CommitTest, ReadFails, Step, AskStep, TakeStep, DrawStep, BeginStep, CommitStep, LatestStep, FetchStep, RaiseStep, SettleStep, DoneStep, FailedStep, FinishStep, DroppedStep, ElectStep, ReadStep, DeposedAt, DepotFault, Reply, Gave, DrawnFrom, WasDone, WasThere, WasFetched, HasEnded, Refused, AcceptedRestore, Moment}
+use Rattle.esr_core.specs.Entry.{Asked, Snapshot, Clone, DeleteSnapshots, Restore, Cleanup, Given, GivenShard, GivenFinalize, GivenDrop, GivenRestore, Read, ReadBlob, RestoredShard, CheckedAll, DrawTest, CommitTest, ReadFails, Step, AskStep, TakeStep, DrawStep, BeginStep, CommitStep, LatestStep, FetchStep, RaiseStep, SettleStep, DoneStep, FailedStep, FinishStep, DroppedStep, ElectStep, ReadStep, DeposedAt, DepotFault, Reply, Gave, DrawnFrom, WasDone, WasThere, WasFetched, HasEnded, Refused, AcceptedRestore, Moment, GivenDelete, Prune, PruneStep}
 use Rattle.esr_core.specs.After.{asked, taken_shard, taken_restore_shard, taken_restore, taken_by, read_told, shard_over, read_over, read_step, read_by, test_left, shard_of, with_given, committing, told_blob, fetching, settled_by, settled_of, done_by, done_of, is_stale, failed_by, failed_of, dropped_of, done_step, has_text, fallen, is_latest, faulted, answered, after}
 use Rattle.esr_core.specs.Allowed as allowed
-use Rattle.esr_core.specs.Allowed.{RestoreAllows, OpeningRestore, ReadAllows, ReadFound, VerifyAllows, DrawingTest, Allows, Allowed}
+use Rattle.esr_core.specs.Allowed.{RestoreAllows, OpeningRestore, ReadAllows, ReadFound, VerifyAllows, DrawingTest, Allows, Allowed, PruneAllows}
 use Rattle.esr_core.specs.History.{world_from, IsLegal}
+use Rattle.esr_core.proofs.PruneFrames.{PruneStays, prune_stays, prune_fault_stays}
 use Rattle.esr_desk.specs.Start.{Start, Legal, formats_of, or_no_ticket, ticket_of}
 use Rattle.esr_desk.specs.Grew.{AllOf}
 use Rattle.esr_quiet.proofs.Maps.{get_other}
@@ -57,6 +58,7 @@ others_taken f w o (GivenFinalize info results) (Some op) q apart = get_other w.
 others_taken f w o (GivenFinalize info results) None q apart = refl
 others_taken f w o GivenDrop op q apart = get_other w.tickets w.next_ticket _ q apart
 others_taken f w o (GivenRestore index number uuid) op q apart = others_restore w o index number (fin.get w.restores o) q
+others_taken f w o (GivenDelete uuids) op q apart = get_other w.tickets w.next_ticket _ q apart
 others_taken f w o unit op q apart = refl
 
 others_settled_by : (f : Formats) (w : World) (k : ℕ) (t : Ticket) (s : Option Swap) (n : Option ℕ) (q : ℕ) → q ≢ k → held (settled_by f w k t s n) q ≡ held w q
@@ -123,6 +125,13 @@ others_read_by f w (suc k) read reply image q = others_read f w (suc k) read rep
 
 -- ---- all steps
 
+-- a step of a delete's ticket
+others_prune : (w new : World) (k q : ℕ) → PruneStays w new k → q ≢ k → held new q ≡ held w q
+others_prune w new k q h apart = elim h.tickets [
+  | inl same ↦ ap (λ (m : fin.FinMap nat_cmp Ticket). fin.get m q) same
+  | inr a ↦ ap (λ (m : fin.FinMap nat_cmp Ticket). fin.get m q) a.is ∙ get_other w.tickets k a.v q apart
+]
+
 others_step : (f : Formats) (w : World) (k : ℕ) (step : Step) (reply : Reply) (image : Option Image) (q : ℕ) → q ≢ k → GivesNone reply → held (done_step f w k step reply image) q ≡ held w q
 others_step f w k (AskStep (Snapshot name indices moment)) reply image q apart none = others_asked w (Snapshot name indices moment) q
 others_step f w k (AskStep (Restore name place)) (AcceptedRestore o uuid indices) image q apart none = refl
@@ -140,6 +149,7 @@ others_step f w k FinishStep reply image q apart none = others_change w k (λ t.
 others_step f w k DroppedStep reply image q apart none = others_dropped w k (fin.get w.tickets k) q apart
 others_step f w k ElectStep reply image q apart none = refl
 others_step f w k (ReadStep read) reply image q apart none = others_read_by f w k read reply image q
+others_step f w k (PruneStep prune) reply image q apart none = others_prune w _ k q (prune_stays f w k prune reply image) apart
 others_step f w k step reply image q apart none = refl
 
 -- ---- a step that failed
@@ -159,6 +169,7 @@ others_fault : (f : Formats) (w : World) (k : ℕ) (step : Step) (image : Option
 others_fault f w k LatestStep image q apart = others_tried w k q apart
 others_fault f w k (BeginStep name) image q apart = others_either w _ w (is_latest name) q (others_tried w k q apart) refl
 others_fault f w k (ReadStep (CommitTest name)) image q apart = others_left w name (fin.get w.blobs (f.names.text name)) (told_blob f image name) q
+others_fault f w k (PruneStep prune) image q apart = others_prune w _ k q (prune_fault_stays f w k prune image) apart
 others_fault f w k (AskStep (Snapshot name indices moment)) image q apart = others_fallen f w _ image q (others_step f w k (AskStep (Snapshot name indices moment)) HasEnded image q apart ended_none)
 others_fault f w k (AskStep (Clone source name indices moment)) image q apart = others_fallen f w w image q refl
 others_fault f w k (AskStep (DeleteSnapshots names)) image q apart = others_fallen f w w image q refl
@@ -197,11 +208,16 @@ gift_verify : (f : Formats) (w : World) (read : Read) (reply : Reply) (image : O
 gift_verify f w read reply image (DrawingTest im idle fits same) = tt
 gift_verify f w read reply image a = tt
 
+gift_prune : (f : Formats) (w : World) (who : ℕ) (prune : Prune) (reply : Reply) (image : Option Image) → PruneAllows f w who prune reply image → IsGift w who reply
+gift_prune f w who prune reply image (allowed.FetchingShard k name im g found) = tt
+gift_prune f w who prune reply image a = tt
+
 gift : (f : Formats) (size : ℕ) (w : World) (who : ℕ) (step : Step) (reply : Reply) (image : Option Image) → Allows f size w who step reply image → IsGift w who reply
 gift f size w who step reply image (allowed.Giving k o unit im is lowest g same) = (refl, is)
 gift f size w who step reply image (allowed.AskingRestore name place rep im a same) = gift_restore f w name rep im a
 gift f size w who step reply image (allowed.Reading k read rep im a same) = gift_read f w k read rep im a
 gift f size w who step reply image (allowed.Verifying read rep im a) = gift_verify f w read rep im a
+gift f size w who step reply image (allowed.Pruning k prune rep im a) = gift_prune f w k prune rep im a
 gift f size w who step reply image a = tt
 
 pub given_by : (f : Formats) (size : ℕ) (w : World) (m : Moment) → Allowed f size w m → (ticket op : ℕ) (unit : Given) → m.entry.reply ≡ Gave ticket op unit → (m.entry.who ≡ 0) × (ticket ≡ w.next_ticket)

@@ -1,6 +1,6 @@
 -- What no step breaks where no call fails and nobody is elected: no record swap has failed, no delete is open, each ticket is
 -- of the present term, and the shards of open ops and of tickets are steady.
-use Rattle.std.proofs.Common.{◌≡◌, ◌≢◌, ◌⊎◌, ℕ, zero, suc, ◌+◌, ◌<◌, Bool, true, false, List, [], ◌∷◌, ◌++◌, Option, Some, None, map, refl, sym, ap, ◌∙◌, subst, inl, inr, arith, nat_cmp}
+use Rattle.std.proofs.Common.{◌≡◌, ◌≢◌, ◌⊎◌, ℕ, zero, suc, ◌+◌, ◌<◌, Bool, true, false, List, [], ◌∷◌, ◌++◌, Option, Some, None, map, refl, sym, ap, ◌∙◌, subst, inl, inr, arith, nat_cmp, true≢false}
 use Rattle.std.specs.Prelude.{if◌then◌else◌, ◌==◌, ◌&&◌}
 use Rattle.std.specs.FinMap.{FinMap}
 use Rattle.std.specs.FinMap as fin
@@ -12,9 +12,12 @@ use Rattle.esr_core.specs.World.{World, Op, ShardWork, ShardState, Pending, Out,
 use Rattle.esr_core.specs.Restores.{restore_shard}
 use Rattle.esr_core.specs.Steps.{noting, given, shard_ticket, final_ticket}
 use Rattle.esr_core.specs.Turns.{fails, fails_by}
-use Rattle.esr_core.specs.Entry.{AskedIndex, Asked, Snapshot, Restore, Given, GivenShard, GivenFinalize, GivenDrop, GivenRestore, Read, ReadBlob, RestoredShard, CheckedAll, DrawTest, CommitTest, ReadFails, Step, AskStep, TakeStep, DrawStep, CommitStep, LatestStep, FetchStep, RaiseStep, SettleStep, DoneStep, FailedStep, FinishStep, DroppedStep, ElectStep, ReadStep, DepotFault, Reply, Gave, DrawnFrom, WasDone, WasThere, WasFetched, Refused, AcceptedRestore, Moment}
+use Rattle.esr_core.specs.Entry.{AskedIndex, Asked, Snapshot, Restore, Given, GivenShard, GivenFinalize, GivenDrop, GivenRestore, Read, ReadBlob, RestoredShard, CheckedAll, DrawTest, CommitTest, ReadFails, Step, AskStep, TakeStep, DrawStep, CommitStep, LatestStep, FetchStep, RaiseStep, SettleStep, DoneStep, FailedStep, FinishStep, DroppedStep, ElectStep, ReadStep, DepotFault, Reply, Gave, DrawnFrom, WasDone, WasThere, WasFetched, Refused, AcceptedRestore, Moment, GivenDelete, Prune, PruneStep}
 use Rattle.esr_core.specs.After.{asked, asked_op, known_id, ref_by, next_by, refs_from, pending_shards, all_pending, taken_shard, taken_restore_shard, taken_restore, taken_by, read_told, shard_over, read_over, read_step, read_by, shard_of, with_given, committing, told_blob, fetching, settled_by, settled_of, done_by, done_of, is_stale, failed_by, failed_of, dropped_of, done_step, answered, after}
-use Rattle.esr_core.specs.History.{world_from}
+use Rattle.esr_core.specs.Allowed as allowed
+use Rattle.esr_core.specs.Allowed.{PruneAllows, Allows, Allowed}
+use Rattle.esr_core.specs.History.{world_from, IsLegal}
+use Rattle.esr_core.proofs.PruneFrames.{prune_has_delete}
 use Rattle.esr_desk.specs.Start.{Start}
 use Rattle.esr_quiet.specs.Asked.{IsSteady, AreSteady}
 use Rattle.esr_quiet.specs.Smooth.{AreCalm, AreUnelected}
@@ -224,21 +227,22 @@ module _ (s : Start) where
   quiet_restore w q o index number None = q
   quiet_restore w q o index number (Some r) = quiet_restore_shard w q o r (restore_shard r.shards index number)
 
-  quiet_taken : (f : Formats) (w : World) → IsQuiet s w → (o : ℕ) (unit : Given) (op : Option Op) → fin.get w.ops o ≡ op → IsQuiet s (taken_by f w o unit op)
-  quiet_taken f w q o (GivenShard index number base) (Some op) there = quiet_shard w q o op base there (shard_of op.shards index number) (λ z e. found_in op.shards index number z e)
-  quiet_taken f w q o (GivenShard index number base) None there = q
-  quiet_taken f w q o (GivenFinalize info results) (Some op) there =
+  quiet_taken : (f : Formats) (w : World) → IsQuiet s w → (o : ℕ) (unit : Given) (op : Option Op) → fin.get w.ops o ≡ op → ((uuids : List ℕ) → unit ≡ GivenDelete uuids → ⊥) → IsQuiet s (taken_by f w o unit op)
+  quiet_taken f w q o (GivenShard index number base) (Some op) there none = quiet_shard w q o op base there (shard_of op.shards index number) (λ z e. found_in op.shards index number z e)
+  quiet_taken f w q o (GivenShard index number base) None there none = q
+  quiet_taken f w q o (GivenFinalize info results) (Some op) there none =
       record {
         present = q.present;
         no_deletes = q.no_deletes;
         ops = q.ops;
         tickets = put_fine s w.term w.tickets w.next_ticket (final_ticket f w o op results) (record { present = refl; no_delete = λ uuids plan e. final_delete _ _ _ uuids plan e; steady = λ i n e. absurd (final_shard _ _ _ i n e) }) q.tickets;
       }
-  quiet_taken f w q o (GivenFinalize info results) None there = q
-  quiet_taken f w q o GivenDrop op there =
+  quiet_taken f w q o (GivenFinalize info results) None there none = q
+  quiet_taken f w q o GivenDrop op there none =
       record { present = q.present; no_deletes = q.no_deletes; ops = q.ops; tickets = put_fine s w.term w.tickets w.next_ticket _ (record { present = refl; no_delete = drop_delete; steady = λ i n e. absurd (drop_shard i n e) }) q.tickets }
-  quiet_taken f w q o (GivenRestore index number uuid) op there = quiet_restore w q o index number (fin.get w.restores o)
-  quiet_taken f w q o unit op there = q
+  quiet_taken f w q o (GivenRestore index number uuid) op there none = quiet_restore w q o index number (fin.get w.restores o)
+  quiet_taken f w q o (GivenDelete uuids) op there none = absurd (none uuids refl)
+  quiet_taken f w q o unit op there none = q
 
   quiet_drawn : (w : World) → IsQuiet s w → (k n : ℕ) (o : Option Ticket) → fin.get w.tickets k ≡ o → IsQuiet s (record (with_given w k (λ t. record t { first = w.next_id; drawn = n }) o) { next_id = w.next_id + n })
   quiet_drawn w q k n o there = let x = quiet_change w q k (λ t. record t { first = w.next_id; drawn = n }) (λ t h. h) o there in record { present = x.present; no_deletes = x.no_deletes; ops = x.ops; tickets = x.tickets }
@@ -335,15 +339,17 @@ module _ (s : Start) where
   quiet_read_by f w q zero read reply image = q
   quiet_read_by f w q (suc k) read reply image = quiet_read f w q (suc k) read reply image
 
-  -- what is asked is steady, and nobody is elected
-  record Suits (step : Step) : Type 0 where
+  -- what is asked is steady, nobody is elected, and no delete is given or worked
+  record Suits (step : Step) (reply : Reply) : Type 0 where
     steady : (name : Bytes) (indices : List AskedIndex) (moment : ℕ) → step ≡ AskStep (Snapshot name indices moment) → IsSteady s indices
     unelected : step ≢ ElectStep
+    unpruned : (prune : Prune) → step ≡ PruneStep prune → ⊥
+    undeleted : (ticket op : ℕ) (uuids : List ℕ) → reply ≡ Gave ticket op (GivenDelete uuids) → ⊥
 
-  quiet_step : (f : Formats) (w : World) → IsQuiet s w → (k : ℕ) (step : Step) (reply : Reply) (image : Option Image) → Suits step → IsQuiet s (done_step f w k step reply image)
+  quiet_step : (f : Formats) (w : World) → IsQuiet s w → (k : ℕ) (step : Step) (reply : Reply) (image : Option Image) → Suits step reply → IsQuiet s (done_step f w k step reply image)
   quiet_step f w q k (AskStep (Snapshot name indices moment)) reply image h = quiet_asked w q (Snapshot name indices moment) h.steady
   quiet_step f w q k (AskStep (Restore name place)) (AcceptedRestore o uuid indices) image h = quiet_same w _ q refl refl refl refl refl
-  quiet_step f w q k TakeStep (Gave ticket op unit) image h = quiet_taken f w q op unit (fin.get w.ops op) refl
+  quiet_step f w q k TakeStep (Gave ticket op unit) image h = quiet_taken f w q op unit (fin.get w.ops op) refl (λ uuids e. h.undeleted ticket op uuids (ap (λ (x : Given). Gave ticket op x) e))
   quiet_step f w q k (DrawStep n) reply image h = quiet_drawn w q k n (fin.get w.tickets k) refl
   quiet_step f w q k (CommitStep name) WasDone image h = quiet_change w q k (committing name (told_blob f image name)) (fine_committing w.term name (told_blob f image name)) (fin.get w.tickets k) refl
   quiet_step f w q k (CommitStep name) WasThere image h = quiet_change w q k (λ t. noting t name) (λ t x. x) (fin.get w.tickets k) refl
@@ -357,22 +363,54 @@ module _ (s : Start) where
   quiet_step f w q k DroppedStep reply image h = quiet_dropped w q k (fin.get w.tickets k) refl
   quiet_step f w q k ElectStep reply image h = absurd (h.unelected refl)
   quiet_step f w q k (ReadStep read) reply image h = quiet_read_by f w q k read reply image
+  quiet_step f w q k (PruneStep prune) reply image h = absurd (h.unpruned prune refl)
   quiet_step f w q k step reply image h = q
 
-  quiet_answered : (f : Formats) (w : World) → IsQuiet s w → (k : ℕ) (step : Step) (reply : Reply) (image : Option Image) → Suits step → reply ≢ Refused DepotFault → IsQuiet s (answered f w k step reply image)
+  quiet_answered : (f : Formats) (w : World) → IsQuiet s w → (k : ℕ) (step : Step) (reply : Reply) (image : Option Image) → Suits step reply → reply ≢ Refused DepotFault → IsQuiet s (answered f w k step reply image)
   quiet_answered f w q k step (Refused DepotFault) image h calm = absurd (calm refl)
   quiet_answered f w q k step (Refused refusal) image h calm = q
   quiet_answered f w q k step reply image h calm = quiet_step f w q k step reply image h
 
-  quiet_after : (f : Formats) (w : World) → IsQuiet s w → (m : Moment) → Suits m.entry.step → m.entry.reply ≢ Refused DepotFault → IsQuiet s (after f w m)
+  quiet_after : (f : Formats) (w : World) → IsQuiet s w → (m : Moment) → Suits m.entry.step m.entry.reply → m.entry.reply ≢ Refused DepotFault → IsQuiet s (after f w m)
   quiet_after f w q m h calm = let x = quiet_answered f w q m.entry.who m.entry.step m.entry.reply m.image h calm in record { present = x.present; no_deletes = x.no_deletes; ops = x.ops; tickets = x.tickets }
 
   -- ---- histories
 
-  pub quiet_history : (f : Formats) (log : List Moment) (w : World) → IsQuiet s w → AreSteady s log → AreCalm log → AreUnelected log → IsQuiet s (world_from f w log)
-  quiet_history f [] w q steady calm unelected = q
-  quiet_history f (m ∷ log) w q steady calm unelected =
-      quiet_history f log (after f w m) (quiet_after f w q m (record { steady = λ name indices moment e. steady m name indices moment (inl refl) e; unelected = unelected m (inl refl) }) (calm m (inl refl)))
+  -- in such a world no delete is given or worked
+  pruned_none : (f : Formats) (w : World) → IsQuiet s w → (who : ℕ) (prune : Prune) (reply : Reply) (image : Option Image) → PruneAllows f w who prune reply image → ⊥
+  pruned_none f w q who prune reply image a = let d = prune_has_delete f w who prune reply image a in (q.tickets d.k d.t d.there).no_delete d.uuids d.plan d.work
+
+  abbrev NoDelete : Step → Reply → Type 0
+  NoDelete step reply = ((prune : Prune) → step ≡ PruneStep prune → ⊥) × ((ticket op : ℕ) (uuids : List ℕ) → reply ≡ Gave ticket op (GivenDelete uuids) → ⊥)
+
+  no_prune : (f : Formats) (size : ℕ) (w : World) → IsQuiet s w → (who : ℕ) (prune : Prune) (reply : Reply) (image : Option Image) → Allows f size w who (PruneStep prune) reply image → ⊥
+  no_prune f size w q who prune reply image (allowed.Pruning k p rep im h) = pruned_none f w q k p rep im h
+
+  no_gift : (f : Formats) (size : ℕ) (w : World) → IsQuiet s w → (who : ℕ) (step : Step) (ticket op : ℕ) (uuids : List ℕ) (image : Option Image) → Allows f size w who step (Gave ticket op (GivenDelete uuids)) image → ⊥
+  no_gift f size w q who step ticket op uuids image (allowed.Giving k o unit im is lowest g same) = nothing w.deletes o g.0 q.no_deletes g.1.there
+  no_gift f size w q who step ticket op uuids image (allowed.AskingRestore name place rep im h same) = elim h [ ]
+  no_gift f size w q who step ticket op uuids image (allowed.Reading k read rep im h same) = elim h [ ]
+  no_gift f size w q who step ticket op uuids image (allowed.Verifying read rep im h) = elim h [ ]
+  no_gift f size w q who step ticket op uuids image (allowed.Pruning k prune rep im h) = elim h [ ]
+
+  by_allows : (f : Formats) (size : ℕ) (w : World) → IsQuiet s w → (who : ℕ) (step : Step) (reply : Reply) (image : Option Image) → Allows f size w who step reply image → NoDelete step reply
+  by_allows f size w q who step reply image a = (
+    λ prune e. no_prune f size w q who prune reply image (subst (λ (x : Step). Allows f size w who x reply image) e a),
+    λ ticket op uuids e. no_gift f size w q who step ticket op uuids image (subst (λ (x : Reply). Allows f size w who step x image) e a),
+  )
+
+  by_allowed : (f : Formats) (size : ℕ) (w : World) → IsQuiet s w → (m : Moment) → Allowed f size w m → NoDelete m.entry.step m.entry.reply
+  by_allowed f size w q m a = elim a.answered [
+    | inl alive ↦ by_allows f size w q m.entry.who m.entry.step m.entry.reply m.image alive.1
+    | inr dead ↦ absurd (true≢false (sym dead.deposed ∙ q.present))
+  ]
+
+  pub quiet_history : (f : Formats) (size : ℕ) (log : List Moment) (w : World) → IsQuiet s w → IsLegal f size w log → AreSteady s log → AreCalm log → AreUnelected log → IsQuiet s (world_from f w log)
+  quiet_history f size [] w q legal steady calm unelected = q
+  quiet_history f size (m ∷ log) w q legal steady calm unelected =
+      let none = by_allowed f size w q m legal.0 in
+      quiet_history f size log (after f w m)
+      (quiet_after f w q m (record { steady = λ name indices moment e. steady m name indices moment (inl refl) e; unelected = unelected m (inl refl); unpruned = none.0; undeleted = none.1 }) (calm m (inl refl))) legal.1
       (λ n name indices moment h. steady n name indices moment (inr h)) (λ n h. calm n (inr h)) (λ n h. unelected n (inr h))
 
   none_open : AreSteadyOps s fin.empty

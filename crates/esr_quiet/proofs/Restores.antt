@@ -4,13 +4,13 @@ use Rattle.std.specs.Prelude.{length}
 use Rattle.std.specs.List.{concat}
 use Rattle.std.specs.FinMap as fin
 use Rattle.esr_model.specs.Names.{BlobName, ShardSnap}
-use Rattle.esr_model.specs.Values.{Bytes, Has, FileEntry, ShardSnapshot, RootData, ClusterRecord, Kind, Formats}
+use Rattle.esr_model.specs.Values.{Bytes, Has, FileEntry, ShardSnapshot, RootData, ClusterRecord, Formats}
 use Rattle.esr_model.specs.Shelf.{Shelved}
 use Rattle.esr_model.specs.Parts.{part_names}
 use Rattle.esr_model.specs.Image.{Blobs, Image, Reads, FileStands}
 use Rattle.esr_core.specs.World.{World, Reader, HeldIn, Opened, OpenedEmpty, OpenedRecord, opened, no_record, no_root}
 use Rattle.esr_core.specs.Restores.{IsReading, WasRead}
-use Rattle.esr_core.specs.Entry.{Why, OfDepot, OfSource, OfChange, OfDamage, OfTaken, OfIdsSpent, OfGenerationsSpent, OfTarget, OfPrint, OfDisagreement, Read, ReadBlob, ReadFails, Step, ReadStep, Reply, WasAbsent, HasEnded, Moment}
+use Rattle.esr_core.specs.Entry.{Reason, Why, OfDepot, OfSource, OfChange, OfAbsence, OfUnreadable, OfAhead, OfTaken, OfIdsSpent, OfGenerationsSpent, OfTarget, OfPrint, OfDisagreement, Read, ReadBlob, ReadFails, Step, ReadStep, Reply, WasAbsent, HasEnded, Moment}
 use Rattle.esr_core.specs.Allowed as allowed
 use Rattle.esr_core.specs.Allowed.{Told, MayRead, Fetcher, ByReader, ByCheck, ByVerify, ReadAllows, ReadMissing, ReaderFailing, CheckFailing, VerifyAllows, VerifyFailing, Allows, Allowed}
 use Rattle.esr_core.specs.History.{world_from, IsLegal, AllKnown, AreTold, AreHonest}
@@ -20,8 +20,7 @@ use Rattle.esr_core.specs.Restored.{IsServed}
 use Rattle.esr_core.proofs.Reading.{reads_one, held_one}
 use Rattle.esr_core.proofs.TurningIds.{pairs_has}
 use Rattle.esr_core.proofs.Frames.{AllPairs-map}
-use Rattle.esr_formats.specs.Formats.{formats}
-use Rattle.esr_formats.specs.Shards.{shard_snap_kind}
+use Rattle.esr_formats.specs.Reasons.{unreadable, unreadable_reads_not}
 use Rattle.esr_desk.specs.declared.fault.FailedObject.TheVariants as objects
 use Rattle.esr_desk.specs.declared.fault.Fault.{Fault}
 use Rattle.esr_desk.specs.declared.fault.By.{By}
@@ -29,7 +28,7 @@ use Rattle.esr_desk.specs.declared.fault.By.TheVariants as by
 use Rattle.esr_desk.specs.Start.{Start, formats_of, world_of}
 use Rattle.esr_desk.specs.Readers.{or_no_reader, reader_of}
 use Rattle.esr_reading.specs.Parts.{sized_parts, IsFront, AreFronts, AreExact}
-use Rattle.esr_reading.specs.Shown.{Counts, HadFault, WasMissing, DepotShown, TargetShown, ReadShown, IsDamaged, HasReadFile, IsMisprinted, IsMiscut, IsShown}
+use Rattle.esr_reading.specs.Shown.{Counts, HadFault, HadFetch, DepotShown, TargetShown, ReadShown, WasUnreadable, HasReadFile, IsMisprinted, IsMiscut, IsShown}
 use Rattle.esr_quiet.specs.Caused.{AreReadCaused}
 use Rattle.esr_quiet.specs.Smooth.{IsSmooth, NoneUnrestored}
 use Rattle.esr_quiet.specs.Prefixes.{Prefixes}
@@ -167,10 +166,6 @@ module _ (laws : ReadCoreLaws) where
 
 -- ---- each cause
 
-snap_is : (s : Start) → (formats_of s).shard_snap ≡ shard_snap_kind
-unfolding formats
-snap_is s = refl
-
 read_shown : {S F H T : Type 0} (b : By S F H T) (shown : Type 0) → ReadShown b shown → shown
 read_shown (by.Object object) shown h = absurd h
 read_shown by.Entry shown h = absurd h
@@ -206,18 +201,18 @@ module _ (s : Start) (log : List Moment) (smooth : IsSmooth s log) (all_serve : 
       let at = misses_at (formats_of s) s.part_size (world_of s front) m name (quiet_at s log smooth front (m ∷ rest) is).present (legal_at s log smooth front rest m is) step reply told.0 told.1 some in
       is_there (formats_of s) (world_of s front) (all_serve front (m ∷ rest) is) m.entry.who at.q at.reading name told.0 at.may at.none
 
-  missing : (front back : List Moment) → log ≡ front ++ back → (who : ℕ) → 1 ≤ who → (name : BlobName) → WasMissing front who name → ⊥
+  missing : (front back : List Moment) → log ≡ front ++ back → (who : ℕ) → 1 ≤ who → (name : BlobName) → HadFetch front who name WasAbsent → ⊥
   missing front back is who some name h =
       found h.front (h.back ++ back) h.moment (is ∙ ap (λ (l : List Moment). l ++ back) h.is ∙ append_assoc h.front (h.moment ∷ h.back) back) name h.step h.reply (subst (λ (k : ℕ). 1 ≤ k) (sym h.of) some)
 
   -- and reads
-  damage : (front back : List Moment) → log ≡ front ++ back → (who : ℕ) → 1 ≤ who → IsReading (world_of s front) who (reader_of s front who) → (name : BlobName) → IsDamaged s front who name → ⊥
-  damage front back is who some reading name (inl h) = missing front back is who some name h
-  damage front back is who some reading name (inr h) =
+  unread : (front back : List Moment) → log ≡ front ++ back → (who : ℕ) → IsReading (world_of s front) who (reader_of s front who) → (name : BlobName) (reason : Reason) → WasUnreadable s front who name reason → ⊥
+  unread front back is who reading name reason (had, (name_is, bytes, read, refuses)) =
       let q : Reader = reader_of s front who in
-      does_read (formats_of s) (world_of s front) (all_serve front back is) who q reading h.1.0
-      (subst (λ (n : BlobName). WasRead q.read n h.1.0) h.0 (h.1.1 smooth.tells))
-      (ap (λ (kind : Kind ShardSnapshot). kind.read h.1.0) (snap_is s) ∙ h.1.2)
+      let snap : BlobName = ShardSnap q.index q.number q.uuid in
+      does_read (formats_of s) (world_of s front) (all_serve front back is) who q reading bytes
+      (subst (λ (n : BlobName). WasRead q.read n bytes) name_is (read smooth.tells))
+      (unreadable_reads_not s.known s.told snap bytes reason (subst (λ (n : BlobName). unreadable n bytes ≡ Some reason) name_is refuses))
 
   -- of each file all was read
   file_of : (front back : List Moment) → log ≡ front ++ back → (who : ℕ) → IsReading (world_of s front) who (reader_of s front who) → (name : BlobName) (fronts : List Bytes) (h : HasReadFile s (reader_of s front who) name fronts)
@@ -240,7 +235,9 @@ module _ (s : Start) (log : List Moment) (smooth : IsSmooth s log) (all_serve : 
   shows : {S F H T : Type 0} (c : Counts F T) (front back : List Moment) → log ≡ front ++ back → (who : ℕ) → 1 ≤ who → IsReading (world_of s front) who (reader_of s front who) → (why : Why) (b : By S F H T) → IsShown c s front who why b → ⊥
   shows c front back is who some reading OfDepot b h = depot c front back who is b h
   shows c front back is who some reading OfTarget b h = target_of c (reader_of s front who) b h
-  shows c front back is who some reading (OfDamage name) b h = damage front back is who some reading name (read_shown b _ h)
+  shows c front back is who some reading (OfAbsence name) b h = missing front back is who some name (read_shown b _ h)
+  shows c front back is who some reading (OfUnreadable name reason) b h = unread front back is who reading name reason (read_shown b _ h)
+  shows c front back is who some reading (OfAhead name) b h = h
   shows c front back is who some reading (OfPrint name stated_len stated_digest found_len found_digest) b h = printed front back is who reading name stated_len stated_digest found_len found_digest (read_shown b _ h)
   shows c front back is who some reading (OfDisagreement name other) b h = uncut front back is who reading name other (read_shown b _ h)
   shows c front back is who some reading OfSource b h = h

@@ -9,6 +9,7 @@ use Rattle.esr_core.specs.Steps.{IsOut}
 use Rattle.esr_core.specs.Entry.{Asked, Snapshot, Restore, Read, CommitTest, Step, AskStep, CommitStep, ReadStep, NameTaken, Reply, Refused, DepotFault, Moment}
 use Rattle.esr_core.specs.Allowed as allowed
 use Rattle.esr_core.specs.Allowed.{Told, Commits, IsMetadata, IsOwnTest, RestoreAllows, OpeningRestore, NotListed, NamedByDelete, FullOfRestores, ReadAllows, ReadFound, ReadMissing, ReadFault, RestoringShard, ReaderFailing, CheckingAll, CheckFailing, VerifyAllows, DrawingTest, TestSpent, BeginningTest, BeginTestFails, CommittingTest, TestTaken, CommitTestFails, RemovingTests, RemoveTestsFails, VerifyingAll, VerifyFailing, Allows, Allowed}
+use Rattle.esr_core.proofs.PruneFrames.{prune_has_delete}
 use Rattle.esr_desk.specs.Start.{Start, formats_of, world_of, or_no_ticket}
 use Rattle.esr_quiet.specs.Free.{Free}
 use Rattle.esr_quiet.specs.Smooth.{IsSpent, IsSmooth}
@@ -106,6 +107,7 @@ module _ (s : Start) (f : Formats) (size : ℕ) (w : World) (q : IsQuiet s w) (f
   ruled who step reply image i told calm unspent new new_test (allowed.AskingRestore name place rep im h same) = asks_restore name place rep im h
   ruled who step reply image i told calm unspent new new_test (allowed.Reading k read rep im h same) = reads k read rep im calm h
   ruled who step reply image i told calm unspent new new_test (allowed.Verifying read rep im h) = verifies read rep im i told calm unspent new_test h
+  ruled who step reply image i told calm unspent new new_test (allowed.Pruning k prune rep im h) = let d = prune_has_delete f w k prune rep im h in absurd ((q.tickets d.k d.t d.there).no_delete d.uuids d.plan d.work)
   ruled who step reply image i told calm unspent new new_test (allowed.Cleaning command d x im recorded there clean same) = absurd (nothing w.deletes d x q.no_deletes there)
   ruled who step reply image i told calm unspent new new_test (allowed.Used name indices moment uuid im clear is same) = ((Snapshot name indices moment, refl), tt)
   ruled who step reply image i told calm unspent new new_test (allowed.Full name indices moment im clear unused full same) = ((Snapshot name indices moment, refl), tt)

@@ -6,15 +6,16 @@ use Rattle.std.specs.FinMap as fin
 use Rattle.esr_model.specs.Names.{BlobName}
 use Rattle.esr_model.specs.Values.{Bytes, Has, ShardResult, Formats}
 use Rattle.esr_model.specs.Image.{Image}
-use Rattle.esr_core.specs.World.{World, Op, ShardWork, Drop, Swap, Ticket, ReadState, Restored, NotRestored, RestoreShard, Restoring, Reader, swap, record_of}
+use Rattle.esr_core.specs.World.{World, Op, ShardWork, Drop, Swap, Ticket, ReadState, Restored, NotRestored, RestoreShard, Restoring, Reader, swap, record_of, Deleting}
 use Rattle.esr_core.specs.Restores.{restore_shard}
 use Rattle.esr_core.specs.Steps.{noting, shard_ticket, final_ticket}
 use Rattle.esr_core.specs.Turns.{plain_ticket}
-use Rattle.esr_core.specs.Entry.{Asked, Snapshot, Clone, DeleteSnapshots, Restore, Cleanup, Given, GivenShard, GivenFinalize, GivenDrop, GivenRestore, Read, ReadBlob, RestoredShard, CheckedAll, DrawTest, CommitTest, ReadFails, Step, AskStep, TakeStep, DrawStep, BeginStep, CommitStep, LatestStep, FetchStep, RaiseStep, SettleStep, DoneStep, FailedStep, FinishStep, DroppedStep, ElectStep, ReadStep, DeposedAt, StaleTerm, DepotFault, Reply, Gave, DrawnFrom, WasDone, WasThere, WasFetched, HasEnded, Refused, AcceptedRestore, Moment}
+use Rattle.esr_core.specs.Entry.{Asked, Snapshot, Clone, DeleteSnapshots, Restore, Cleanup, Given, GivenShard, GivenFinalize, GivenDrop, GivenRestore, Read, ReadBlob, RestoredShard, CheckedAll, DrawTest, CommitTest, ReadFails, Step, AskStep, TakeStep, DrawStep, BeginStep, CommitStep, LatestStep, FetchStep, RaiseStep, SettleStep, DoneStep, FailedStep, FinishStep, DroppedStep, ElectStep, ReadStep, DeposedAt, StaleTerm, DepotFault, Reply, Gave, DrawnFrom, WasDone, WasThere, WasFetched, HasEnded, Refused, AcceptedRestore, Moment, GivenDelete, Prune, PruneStep}
 use Rattle.esr_core.specs.After.{asked, taken_shard, taken_restore_shard, taken_restore, taken_by, read_told, shard_over, read_over, read_step, read_by, test_left, shard_of, with_given, committing, told_blob, fetching, settled_by, settled_of, done_by, done_of, is_stale, failed_by, failed_of, dropped_of, done_step, has_text, fallen, is_latest, faulted, answered, after}
 use Rattle.esr_core.specs.Allowed as allowed
-use Rattle.esr_core.specs.Allowed.{RestoreAllows, OpeningRestore, NotListed, NamedByDelete, FullOfRestores, ReadAllows, ReadFound, ReadMissing, ReadFault, RestoringShard, ReaderFailing, CheckingAll, CheckFailing, VerifyAllows, DrawingTest, TestSpent, BeginningTest, BeginTestFails, CommittingTest, TestTaken, CommitTestFails, RemovingTests, RemoveTestsFails, VerifyingAll, VerifyFailing, Allows, Allowed}
+use Rattle.esr_core.specs.Allowed.{PruneAllows, RestoreAllows, OpeningRestore, NotListed, NamedByDelete, FullOfRestores, ReadAllows, ReadFound, ReadMissing, ReadFault, RestoringShard, ReaderFailing, CheckingAll, CheckFailing, VerifyAllows, DrawingTest, TestSpent, BeginningTest, BeginTestFails, CommittingTest, TestTaken, CommitTestFails, RemovingTests, RemoveTestsFails, VerifyingAll, VerifyFailing, Allows, Allowed}
 use Rattle.esr_core.specs.History.{world_from}
+use Rattle.esr_core.proofs.PruneFrames.{PruneStays, prune_stays, prune_fault_stays}
 use Rattle.esr_desk.specs.Start.{Start, formats_of, world_of, Legal}
 use Rattle.esr_quiet.specs.Smooth.{AreUnelected}
 use Rattle.esr_quiet.specs.Numbers.{HasNoTickets}
@@ -61,6 +62,7 @@ present_taken f w o (GivenFinalize info results) (Some op) h = put w w.next_tick
 present_taken f w o (GivenFinalize info results) None h = h
 present_taken f w o GivenDrop op h = put w w.next_ticket (plain_ticket w o Drop) refl h
 present_taken f w o (GivenRestore index number uuid) op h = present_restore w o index number (fin.get w.restores o) h
+present_taken f w o (GivenDelete uuids) op h = put w w.next_ticket (plain_ticket w o (Deleting uuids None)) refl h
 present_taken f w o unit op h = h
 
 present_settled_by : (f : Formats) (w : World) (k : ℕ) (t : Ticket) (s : Option Swap) (g : Option ℕ) → fin.get w.tickets k ≡ Some t → ArePresent w → ArePresent (settled_by f w k t s g)
@@ -128,6 +130,13 @@ present_read_by f w (suc k) read reply image h = present_read f w (suc k) read r
 
 -- ---- all steps but an election
 
+-- a step of a delete's ticket
+present_prune : (w new : World) (k : ℕ) → PruneStays w new k → ArePresent w → ArePresent new
+present_prune w new k p h j u there = elim p.tickets [
+  | inl same ↦ h j u (ap (λ (m : FinMap nat_cmp Ticket). fin.get m j) (sym same) ∙ there) ∙ sym p.term
+  | inr a ↦ put w k a.v (a.term ∙ h k a.t a.there) h j u (ap (λ (m : FinMap nat_cmp Ticket). fin.get m j) (sym a.is) ∙ there) ∙ sym p.term
+]
+
 present_step : (f : Formats) (w : World) (k : ℕ) (step : Step) (reply : Reply) (image : Option Image) → step ≢ ElectStep → ArePresent w → ArePresent (done_step f w k step reply image)
 present_step f w k (AskStep (Snapshot name indices moment)) reply image none h = present_asked w (Snapshot name indices moment) h
 present_step f w k (AskStep (Restore name place)) (AcceptedRestore o uuid indices) image none h = h
@@ -153,6 +162,7 @@ present_step f w k FinishStep reply image none h = present_change w k (λ t. rec
 present_step f w k DroppedStep reply image none h = present_dropped w k (fin.get w.tickets k) refl h
 present_step f w k ElectStep reply image none h = absurd (none refl)
 present_step f w k (ReadStep read) reply image none h = present_read_by f w k read reply image h
+present_step f w k (PruneStep prune) reply image none h = present_prune w _ k (prune_stays f w k prune reply image) h
 present_step f w k step reply image none h = h
 
 -- ---- a step that failed
@@ -172,6 +182,7 @@ present_fault : (f : Formats) (w : World) (k : ℕ) (step : Step) (image : Optio
 present_fault f w k LatestStep image none h = present_tried w k h
 present_fault f w k (BeginStep name) image none h = present_either _ w (is_latest name) (present_tried w k h) h
 present_fault f w k (ReadStep (CommitTest name)) image none h = present_left w name (fin.get w.blobs (f.names.text name)) (told_blob f image name) h
+present_fault f w k (PruneStep prune) image none h = present_prune w _ k (prune_fault_stays f w k prune image) h
 present_fault f w k (AskStep (Snapshot name indices moment)) image none h = present_fallen f w _ image h (present_step f w k (AskStep (Snapshot name indices moment)) HasEnded image none h)
 present_fault f w k (AskStep (Clone source name indices moment)) image none h = present_fallen f w w image h h
 present_fault f w k (AskStep (DeleteSnapshots names)) image none h = present_fallen f w w image h h
@@ -228,6 +239,10 @@ verifies_now f w read reply image (RemoveTestsFails names im may left) = tt
 verifies_now f w read reply image (VerifyingAll im done same) = tt
 verifies_now f w read reply image (VerifyFailing why im begun same) = tt
 
+prunes_now : (f : Formats) (w : World) → ArePresent w → (who : ℕ) (prune : Prune) (reply : Reply) (image : Option Image) → PruneAllows f w who prune reply image → NotStale reply
+prunes_now f w h who prune reply image (allowed.SettleDeleteStale k im s apart same) = apart (h k s.t s.may.out.there)
+prunes_now f w h who prune reply image a = tt
+
 allowed_now : (f : Formats) (size : ℕ) (w : World) → ArePresent w → (who : ℕ) (step : Step) (reply : Reply) (image : Option Image) → Allows f size w who step reply image → NotStale reply
 allowed_now f size w h who step reply image (allowed.RaiseStale k im may apart same) = apart (h k may.t may.out.there)
 allowed_now f size w h who step reply image (allowed.SettleStale k n t swapped im may apart same) = apart (h k t may.out.there)
@@ -235,6 +250,7 @@ allowed_now f size w h who step reply image (allowed.DropStale k im may apart sa
 allowed_now f size w h who step reply image (allowed.AskingRestore name place rep im a same) = restores_now f w name rep im a
 allowed_now f size w h who step reply image (allowed.Reading k read rep im a same) = reads_now f w k read rep im a
 allowed_now f size w h who step reply image (allowed.Verifying read rep im a) = verifies_now f w read rep im a
+allowed_now f size w h who step reply image (allowed.Pruning k prune rep im a) = prunes_now f w h k prune rep im a
 allowed_now f size w h who step reply image a = tt
 
 stale_deposed : (own now place : ℕ) → Refused (StaleTerm own now) ≡ Refused (DeposedAt place) → ⊥

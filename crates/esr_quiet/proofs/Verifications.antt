@@ -1,11 +1,11 @@
 -- No verification fails where each world of the history is lawful and free.
-use Rattle.std.proofs.Common.{◌≡◌, ℕ, true≢false, List, ◌∷◌, ◌++◌, append_assoc, Some, refl, sym, ap, ◌∙◌, subst, inl, inr}
+use Rattle.std.proofs.Common.{◌≡◌, ℕ, true≢false, List, ◌∷◌, ◌++◌, append_assoc, Some, refl, sym, ap, ◌∙◌, subst}
 use Rattle.std.specs.Prelude.{length}
 use Rattle.esr_model.specs.Names.{BlobName}
 use Rattle.esr_model.specs.Values.{Bytes, Has, Formats}
 use Rattle.esr_core.specs.World.{World, Caller}
 use Rattle.esr_core.specs.Restores.{IsTestOf, WasRead}
-use Rattle.esr_core.specs.Entry.{Why, OfDepot, OfSource, OfChange, OfDamage, OfTaken, OfIdsSpent, OfGenerationsSpent, OfTarget, OfPrint, OfDisagreement, ReadBlob, Step, ReadStep, NameTaken, Reply, WasAbsent, DepotFault, Refused, Moment}
+use Rattle.esr_core.specs.Entry.{Why, OfDepot, OfSource, OfChange, OfAbsence, OfUnreadable, OfAhead, OfTaken, OfIdsSpent, OfGenerationsSpent, OfTarget, OfPrint, OfDisagreement, ReadBlob, Step, ReadStep, NameTaken, Reply, WasAbsent, DepotFault, Refused, Moment}
 use Rattle.esr_core.specs.Allowed.{MayVerify}
 use Rattle.esr_names.specs.IdText.{id_text}
 use Rattle.esr_desk.specs.declared.fault.FailedObject.TheVariants as objects
@@ -14,7 +14,7 @@ use Rattle.esr_desk.specs.declared.fault.By.{By}
 use Rattle.esr_desk.specs.declared.fault.By.TheVariants as by
 use Rattle.esr_desk.specs.Start.{Start, formats_of, world_of}
 use Rattle.esr_checking.specs.Caller.{caller_of}
-use Rattle.esr_checking.specs.Shown.{Counts, HadReply, HadNoId, HadFault, DepotShown, IsAbsent, IsDamaged, IsMisprinted, IsShown}
+use Rattle.esr_checking.specs.Shown.{Counts, HadReply, HadNoId, HadFault, DepotShown, IsAbsent, IsOther, IsMisprinted, IsShown}
 use Rattle.esr_quiet.specs.Caused.{AreVerifyCaused}
 use Rattle.esr_quiet.specs.Smooth.{IsSpent, IsSmooth, NoneUnverified}
 use Rattle.esr_quiet.specs.Prefixes.{Prefixes}
@@ -95,9 +95,8 @@ module _ (s : Start) (log : List Moment) (smooth : IsSmooth s log) (prefixes : P
       let one : text.0 ≡ id = some_same text.0 id (sym text.1 ∙ drawn) in
       text.3 ∙ ap id_text one
 
-  damage : (front back : List Moment) → log ≡ front ++ back → (name : BlobName) → IsDamaged s front (caller_of s front) name → ⊥
-  damage front back is name (inl h) = absent front back is name h
-  damage front back is name (inr h) = h.differ (text_of front back is h.id name h.bytes h.drawn h.committed (h.read smooth.tells))
+  other : (front back : List Moment) → log ≡ front ++ back → (name : BlobName) → IsOther s (caller_of s front) name → ⊥
+  other front back is name h = h.differ (text_of front back is h.id name h.bytes h.drawn h.committed (h.read smooth.tells))
 
   printed : (front back : List Moment) → log ≡ front ++ back → (name : BlobName) (stated_len : ℕ) (stated_digest : Bytes) (found_len : ℕ) (found_digest : Bytes) → IsMisprinted s (caller_of s front) name stated_len stated_digest found_len found_digest → ⊥
   printed front back is name stated_len stated_digest found_len found_digest h =
@@ -117,9 +116,11 @@ module _ (s : Start) (log : List Moment) (smooth : IsSmooth s log) (prefixes : P
       smooth.unspent h.draw (subst (λ (l : List Moment). Has l h.draw) (sym is) (has_front front back h.draw (subst (λ (l : List Moment). Has l h.draw) (sym h.is) (has_at h.front h.back h.draw)))) (subst IsSpent (sym h.refused) tt)
 
   -- no cause is shown
-  shows : {S F H T : Type 0} (c : Counts S F) (front back : List Moment) → log ≡ front ++ back → (why : Why) (b : By S F H T) → IsShown c s front (caller_of s front) why b → ⊥
+  pub shows : {S F H T : Type 0} (c : Counts S F) (front back : List Moment) → log ≡ front ++ back → (why : Why) (b : By S F H T) → IsShown c s front (caller_of s front) why b → ⊥
   shows c front back is OfDepot b h = depot c front back (caller_of s front) is b h
-  shows c front back is (OfDamage name) b h = damage front back is name (read_shown b _ h)
+  shows c front back is (OfAbsence name) b h = absent front back is name (read_shown b _ h)
+  shows c front back is (OfUnreadable name reason) b h = other front back is name (read_shown b _ h).0
+  shows c front back is (OfAhead name) b h = h
   shows c front back is (OfPrint name stated_len stated_digest found_len found_digest) b h = printed front back is name stated_len stated_digest found_len found_digest (read_shown b _ h)
   shows c front back is (OfTaken name) b h = let x = step_shown b _ h in untaken front back is (caller_of s front) x.0 name x.1
   shows c front back is (OfIdsSpent next) b h = unspent front back is (caller_of s front) next (step_shown b _ h)

@@ -1,4 +1,4 @@
--- The failures of units, restores and verifications in a history have causes.
+-- The failures of units, restores, verifications and checks in a history have causes.
 use Rattle.std.specs.Prelude.{ℕ, List}
 use Rattle.esr_core.specs.Entry.{Why, Moment}
 use Rattle.esr_desk.specs.declared.fault.Fault.{Fault}
@@ -7,7 +7,7 @@ use Rattle.esr_desk.specs.Shown.{Counts, IsReport, IsShownAt}
 use Rattle.esr_reading.specs.Shown as reading
 use Rattle.esr_reading.specs.Reports.{IsReadReport, IsReadShownAt}
 use Rattle.esr_checking.specs.Shown as checking
-use Rattle.esr_checking.specs.Reports.{IsVerifyReport, IsVerifyShownAt}
+use Rattle.esr_checking.specs.Reports.{IsVerifyReport, IsVerifyShownAt, IsEndShownAt}
 
 -- the cause of each failure that is told was shown when it was told
 abbrev pub AreCaused : {S F H T : Type 0} → Counts S F H T → Start → List Moment → List (Fault S F H T) → Type 0
@@ -20,3 +20,7 @@ AreReadCaused c s log faults = (place who : ℕ) (why : Why) (report : IsReadRep
 -- and of each verification that failed
 abbrev pub AreVerifyCaused : {S F H T : Type 0} → checking.Counts S F → Start → List Moment → List (Fault S F H T) → Type 0
 AreVerifyCaused c s log faults = (place : ℕ) (why : Why) (report : IsVerifyReport log place why) → IsVerifyShownAt c s report.front place why faults
+
+-- and of each verification or check that failed
+abbrev pub AreEndsCaused : {S F H T : Type 0} → checking.Counts S F → Start → List Moment → List (Fault S F H T) → Type 0
+AreEndsCaused c s log faults = (place : ℕ) (why : Why) (end : IsVerifyReport log place why) → IsEndShownAt c s end.front place why faults

@@ -11,7 +11,7 @@ ghost use Rattle.esr_desk.specs.Shown.{Counts};
 ghost use Rattle.esr_desk.specs.Grew.{AllOf};
 ghost use Rattle.esr_reading.specs.Shown as reading;
 ghost use Rattle.esr_checking.specs.Shown as checking;
-ghost use Rattle.esr_quiet.specs.Caused.{AreCaused, AreReadCaused, AreVerifyCaused};
+ghost use Rattle.esr_quiet.specs.Caused.{AreCaused, AreReadCaused, AreVerifyCaused, AreEndsCaused};
 ghost use Rattle.esr_quiet.specs.Smooth.{IsSmooth, NoneFailed, NoneUnrestored, NoneUnverified, NoneAsked};
 ghost use Rattle.esr_quiet.specs.Refusals.{AreByRule};
 ghost use Rattle.esr_quiet.specs.Prefixes.{Prefixes};
@@ -46,6 +46,16 @@ pub fn no_verification_fails<S, F, H, T>()
     ensures { (c : checking.Counts S F) (s : Start) (log : List Moment) (faults : List (Fault S F H T)) → IsSmooth s log → AreVerifyCaused c s log faults → NoneUnverified log }
 {
     each_world_is_free();
+}
+
+/// Nor does a check: the safe root stands, so each blob that it reaches is there and reads, and no two disagree.
+pub fn no_check_fails<S, F, H, T>()
+    ensures { (c : checking.Counts S F) (s : Start) (log : List Moment) (faults : List (Fault S F H T)) → IsSmooth s log → AreEndsCaused c s log faults → NoneUnverified log }
+{
+    each_world_is_free();
+    esr_core::opened_restores_are_lawful();
+    esr_core::each_history_keeps_restores();
+    esr_core::each_reader_is_served();
 }
 
 /// And no step is refused but that of a command, by a rule: so no name is ever taken.

@@ -24,7 +24,7 @@ use Rattle.esr_formats.specs.Shards.{entry_of, snap_list_of, shard_index_of}
 use Rattle.esr_model.specs.Values.{Has, IsOneEach, RootSnap, RootIndex, FileEntry, SnapList}
 use Rattle.esr_reach.specs.Names.{AreOnce}
 use Rattle.esr_reach.specs.Members.{has_right, has_map, in_map, has_left, all_has, once_distinct}
-use Rattle.esr_reach.specs.Held.{held_of, held_at, IsApart, AreApart}
+use Rattle.esr_reach.specs.Held.{held_of, held_at, IsApart, AreWhole, AreApart}
 use Rattle.esr_reach.specs.Reached.{IsSingle}
 
 -- ---- roots
@@ -131,6 +131,18 @@ held_apart (x ∷ es) rule i k v e =
           let own = some_is (shard_index_of x.1) v (sym (ap (λ (b : Bool). cond b (Some (shard_index_of x.1)) rest) here) ∙ e) in
           subst IsApart own (shard_apart x.1 rule.0)
       | inr there ↦ held_apart es rule.1 i k v (sym (ap (λ (b : Bool). cond b (Some (shard_index_of x.1)) rest) there) ∙ e)
+    ]
+
+pub held_whole : (es : List (ShardId × IndexValue)) → AreIndexed es → AreWhole (map held_of es)
+held_whole [] rule i k v e = absurd (cc)
+held_whole (x ∷ es) rule i k v e =
+    let rest = held_at (map held_of es) i k in
+    let test = i == x.0.index.number && k == x.0.number in
+    elim (cases_Bool test) [
+      | inl here ↦
+          let own = some_is (shard_index_of x.1) v (sym (ap (λ (b : Bool). cond b (Some (shard_index_of x.1)) rest) here) ∙ e) in
+          (x.1, rule.0, sym own)
+      | inr there ↦ held_whole es rule.1 i k v (sym (ap (λ (b : Bool). cond b (Some (shard_index_of x.1)) rest) there) ∙ e)
     ]
 
 pub indexed_insert : (cmp : ShardId → ShardId → Ordering) (es : List (ShardId × IndexValue)) (k : ShardId) (v : IndexValue) → AreIndexed es → IsShardIndex v → AreIndexed (insert_entry cmp es k v)

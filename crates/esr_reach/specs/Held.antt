@@ -1,7 +1,7 @@
 -- Shard indices that are held, as they were read.
 use Rattle.std.specs.Prelude.{◌≡◌, ℕ, ◌==◌, ◌&&◌, if◌then◌else◌, List, [], ◌∷◌, map, Option, Some, None}
 use Rattle.esr_names.specs.declared.blob.ShardId.{ShardId}
-use Rattle.esr_shardidx.specs.Indices.{IndexValue}
+use Rattle.esr_shardidx.specs.Indices.{IndexValue, IsShardIndex}
 use Rattle.esr_formats.specs.Shards.{shard_index_of}
 use Rattle.esr_model.specs.Values.{ShardFiles}
 use Rattle.esr_reach.specs.Names.{AreOnce}
@@ -24,6 +24,10 @@ held_at (h ∷ hs) index shard = if index == h.index && shard == h.shard then So
 -- what is held for this shard is now this, and for any other what was held
 abbrev pub Holds : List HeldShard → List HeldShard → ℕ → ℕ → ShardFiles → Type 0
 Holds old new index shard files = (i k : ℕ) → held_at new i k ≡ (if index == i && shard == k then Some files else held_at old i k)
+
+-- each that is held is an index as the code makes them
+abbrev pub AreWhole : List HeldShard → Type 0
+AreWhole held = (index shard : ℕ) (v : ShardFiles) → held_at held index shard ≡ Some v → (w : IndexValue) × IsShardIndex w × (v ≡ shard_index_of w)
 
 -- no file and no snapshot of a shard stands twice
 pub record IsApart (v : ShardFiles) : Type 0 where

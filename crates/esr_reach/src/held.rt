@@ -3,7 +3,7 @@ ghost use Rattle.std.specs.Prelude.{◌≡◌, ◌↔◌, [], IsTrue, OnOk, OnEr
 ghost use Rattle.std.specs.Option.{option_copied};
 ghost use Rattle.esr_formats.specs.Roots.{root_of, root_index_of};
 ghost use Rattle.esr_formats.specs.Shards.{shard_index_of};
-ghost use Rattle.esr_reach.specs.Held.{held_at, Holds, AreApart};
+ghost use Rattle.esr_reach.specs.Held.{held_at, Holds, AreWhole, AreApart};
 ghost use Rattle.esr_reach.specs.Reading.{HasEach, HasShards};
 
 use esr_names::ShardId;
@@ -58,6 +58,14 @@ impl ShardIndices {
     {
         self.by_shard.get(&shard)
     }
+
+    /// Each keeps the rules of shard indices.
+    pub fn whole(&self)
+        ensures { AreWhole self.now }
+    {
+        let _ = &self.by_shard;
+    }
+
     /// No file and no snapshot of a shard stands twice.
     pub(crate) fn rule(&self)
         ensures { AreApart self.now }

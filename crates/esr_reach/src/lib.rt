@@ -7,4 +7,4 @@ mod reached;
 
 pub use doomed::doomed_by_delete;
 pub use held::ShardIndices;
-pub use reached::{Names, reach};
+pub use reached::{Names, listed_uuids, push_parts, reach};

@@ -26,7 +26,7 @@ use std::collections::BTreeSet;
 pub type Names = Seq<BlobName>;
 
 /// The numbers of the uuids of the snapshots.
-fn listed_uuids(alloc: Global, snaps: &[RootSnap]) -> Result<BTreeSet<u128>, AllocError>
+pub fn listed_uuids(alloc: Global, snaps: &[RootSnap]) -> Result<BTreeSet<u128>, AllocError>
     ensures { IfOk result (λ uuids. contains nat_cmp uuids ≡ is_listed (map root_snap_of snaps.now)) }
 {
     let mut uuids = BTreeSet::new(alloc);
@@ -75,7 +75,7 @@ fn push_lists(
 }
 
 /// Appends the parts of a file.
-fn push_parts(names: &mut Names, shard: ShardId, entry: &FileEntry) -> Result<(), AllocError>
+pub fn push_parts(names: &mut Names, shard: ShardId, entry: &FileEntry) -> Result<(), AllocError>
     requires { IsEntry entry.now }
     ensures { IfOk result (λ _. Pushed names.old names.new (part_names shard.index.number shard.number (entry_of entry.now))) }
 {

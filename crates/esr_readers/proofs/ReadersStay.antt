@@ -228,6 +228,7 @@ gives_it : (f : Formats) (size : ℕ) (w : World) (who : ℕ) (step : Step) (k o
 gives_it f size w who step k o index number uuid image (allowed.Giving j p unit im is lowest g same) = record { step_is = refl; k_is = is; gives = g }
 gives_it f size w who step k o index number uuid image (allowed.AskingRestore name place rep im h same) = absurd (restore_gives h refl)
 gives_it f size w who step k o index number uuid image (allowed.Verifying read rep im h) = elim h [ ]
+gives_it f size w who step k o index number uuid image (allowed.Pruning j prune rep im h) = elim h [ ]
 gives_it f size w who step k o index number uuid image (allowed.Reading j read rep im h same) = elim h [ ]
 
 no_refusal : {k o : ℕ} {unit : Given} (place : ℕ) → Gave k o unit ≡ Refused (DeposedAt place) → ⊥
@@ -267,6 +268,7 @@ accepts_restore (OpeningRestore o uuid indices im acc) = acc
 accepts_it : (f : Formats) (size : ℕ) (w : World) (who : ℕ) (step : Step) (o uuid : ℕ) (indices : List IndexRef) (image : Option Image) → Allows f size w who step (AcceptedRestore o uuid indices) image → AcceptsIt f w step o uuid indices image
 accepts_it f size w who step o uuid indices image (allowed.AskingRestore name place rep im h same) = record { name = name; place = place; step_is = refl; accepts = accepts_restore h }
 accepts_it f size w who step o uuid indices image (allowed.Verifying read rep im h) = elim h [ ]
+accepts_it f size w who step o uuid indices image (allowed.Pruning j prune rep im h) = elim h [ ]
 accepts_it f size w who step o uuid indices image (allowed.Reading j read rep im h same) = elim h [ ]
 
 unrefused : {o uuid : ℕ} {indices : List IndexRef} (place : ℕ) → AcceptedRestore o uuid indices ≡ Refused (DeposedAt place) → ⊥

@@ -1,13 +1,13 @@
 -- What shows why a shard wasn't restored.
-use Rattle.std.specs.Prelude.{◌≡◌, ◌⊎◌, ◌<◌, ℕ, Bool, true, false, List, ◌∷◌, ◌++◌, length, None}
+use Rattle.std.specs.Prelude.{◌≡◌, ◌<◌, ℕ, Bool, true, false, List, ◌∷◌, ◌++◌, length, Some}
 use Rattle.std.specs.List.{concat}
 use Rattle.esr_model.specs.Names.{BlobName, File, ShardSnap}
 use Rattle.esr_model.specs.Values.{Bytes, Has, FileEntry, ShardSnapshot}
 use Rattle.esr_model.specs.Image.{Reads}
 use Rattle.esr_core.specs.World.{Reader}
 use Rattle.esr_core.specs.Restores.{WasRead}
-use Rattle.esr_core.specs.Entry.{Why, OfDepot, OfSource, OfChange, OfDamage, OfTaken, OfIdsSpent, OfGenerationsSpent, OfTarget, OfPrint, OfDisagreement, ReadStep, ReadBlob, WasAbsent, Refused, DepotFault, Moment}
-use Rattle.esr_formats.specs.Shards.{shard_snap_kind}
+use Rattle.esr_core.specs.Entry.{Reason, Why, OfDepot, OfSource, OfChange, OfAbsence, OfUnreadable, OfAhead, OfTaken, OfIdsSpent, OfGenerationsSpent, OfTarget, OfPrint, OfDisagreement, ReadStep, ReadBlob, Reply, WasFetched, WasAbsent, Refused, DepotFault, Moment}
+use Rattle.esr_formats.specs.Reasons.{unreadable}
 use Rattle.esr_source.specs.declared.address.Address.{Address}
 use Rattle.esr_desk.specs.declared.fault.FailedObject.TheVariants as objects
 use Rattle.esr_desk.specs.declared.fault.By.{By}
@@ -34,15 +34,15 @@ pub record HadFault (log : List Moment) (who : ℕ) : Type 0 where
   pub step : moment.entry.step ≡ ReadStep (ReadBlob name)
   pub reply : moment.entry.reply ≡ Refused DepotFault
 
--- a fetch of the ticket found no blob of this name
-pub record WasMissing (log : List Moment) (who : ℕ) (name : BlobName) : Type 0 where
+-- a fetch of this blob by the ticket was answered so
+pub record HadFetch (log : List Moment) (who : ℕ) (name : BlobName) (answer : Reply) : Type 0 where
   pub front : List Moment
   pub moment : Moment
   pub back : List Moment
   pub is : log ≡ front ++ moment ∷ back
   pub of : moment.entry.who ≡ who
   pub step : moment.entry.step ≡ ReadStep (ReadBlob name)
-  pub reply : moment.entry.reply ≡ WasAbsent
+  pub reply : moment.entry.reply ≡ answer
 
 -- the address is that of the ticket's shard
 pub record IsOf (q : Reader) (address : Address) : Type 0 where
@@ -74,12 +74,14 @@ ReadShown (by.Object object) shown = ⊥
 ReadShown by.Entry shown = ⊥
 ReadShown by.Nothing shown = shown
 
--- the blob was absent; or it is that of the shard's snapshot, and its bytes, which were read where the container tells, are none
-abbrev pub IsDamaged : Start → List Moment → ℕ → BlobName → Type 0
-IsDamaged s log who name =
-    let q : Reader = reader_of s log who in
-    WasMissing log who name
-    ⊎ ((name ≡ ShardSnap q.index q.number q.uuid) × ((bytes : Bytes) × (s.tells ≡ true → WasRead q.read name bytes) × (shard_snap_kind.read bytes ≡ None)))
+-- these bytes, which the ticket has read where the container tells, are of the shard's snapshot and don't read: this is the first reason
+abbrev pub IsNoSnap : Start → Reader → BlobName → Reason → Type 0
+IsNoSnap s q name reason =
+    (name ≡ ShardSnap q.index q.number q.uuid) × (bytes : Bytes) × (s.tells ≡ true → WasRead q.read name bytes) × (unreadable name bytes ≡ Some reason)
+
+-- the snapshot of the shard was there, and doesn't read
+abbrev pub WasUnreadable : Start → List Moment → ℕ → BlobName → Reason → Type 0
+WasUnreadable s log who name reason = HadFetch log who name WasFetched × IsNoSnap s (reader_of s log who) name reason
 
 -- The snapshot of the shard lists the file, whose blob without a part number has this name, and this was read of its parts.
 pub record HasReadFile (s : Start) (q : Reader) (name : BlobName) (fronts : List Bytes) : Type 0 where
@@ -109,16 +111,19 @@ pub record IsMiscut (s : Start) (q : Reader) (name other : BlobName) : Type 0 wh
   pub digest_is : (formats_of s).digest (concat fronts) ≡ file.e.digest
   pub cut : AreExact q.index q.number file.e fronts → ⊥
 
--- By its cause: an object that failed, or a step; or what was read is absent or no snapshot of a shard, or isn't what that states.
+-- By its cause: an object that failed, or a step; or a blob was absent; or the snapshot of the shard doesn't read, for this reason; or
+-- what was read isn't what that states.
 abbrev pub IsShown : {S F H T : Type 0} → Counts F T → Start → List Moment → ℕ → Why → By S F H T → Type 0
 IsShown c s log who OfDepot b = DepotShown c s log who b
 IsShown c s log who OfTarget b = TargetShown c s (reader_of s log who) b
-IsShown c s log who (OfDamage name) b = ReadShown b (IsDamaged s log who name)
+IsShown c s log who (OfAbsence name) b = ReadShown b (HadFetch log who name WasAbsent)
+IsShown c s log who (OfUnreadable name reason) b = ReadShown b (WasUnreadable s log who name reason)
 IsShown c s log who (OfPrint name stated_len stated_digest found_len found_digest) b = ReadShown b (IsMisprinted s (reader_of s log who) name stated_len stated_digest found_len found_digest)
 IsShown c s log who (OfDisagreement name other) b = ReadShown b (IsMiscut s (reader_of s log who) name other)
 -- these are of snapshots
 IsShown c s log who OfSource b = ⊥
 IsShown c s log who (OfChange first_len first_digest second_len second_digest) b = ⊥
+IsShown c s log who (OfAhead name) b = ⊥
 IsShown c s log who (OfTaken name) b = ⊥
 IsShown c s log who (OfIdsSpent next) b = ⊥
 IsShown c s log who (OfGenerationsSpent pending) b = ⊥

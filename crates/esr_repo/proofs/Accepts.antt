@@ -49,19 +49,12 @@ spent_refused s log command next askable h = absurd askable
 pub asked_in : (w : World) (plan : Plan) (root : Root) (term next : ℕ) → IsPlanOf w plan → root_of root ≡ w.root → term ≡ w.term → next ≡ w.next_id → IsAskedIn plan (root_of root) term next w
 asked_in w plan root term next plan_is root_is term_is next_is = record { plan = plan_is; root_is = sym root_is; term_is = sym term_is; next_is = sym next_is }
 
-asked_deletes : (w : World) (command : Asked) → (asked w command).deletes ≡ w.deletes
-asked_deletes w (Snapshot name indices moment) = refl
-asked_deletes w command = refl
-
-pub accepted_deletes : (w : World) (command : Asked) (p : Plan) (accepted : CodeAccepted) → w.deletes ≡ fin.empty → IsAccepted w command p accepted → p.deletes ≡ fin.empty
-accepted_deletes w command p accepted none is = is.plan.deletes ∙ asked_deletes w command ∙ none
-
 pub accepted_fits : (w : World) (command : Asked) (p : Plan) (accepted : CodeAccepted) → w.term < 2 ^ 63 → IsAccepted w command p accepted → w.next_id + accepted.drawn < 2 ^ 128
 accepted_fits w command p accepted most is = omega (arith, is.fits)
 
 pub may_ask : (s : Start) (log : List Moment) (command : Asked) (cluster : Record) (p : Plan) (accepted : CodeAccepted) (next : ℕ) → Tracked (world_of s log) → IsAskable command → MayAccept (world_of s log) (name_asked command) → IsAccepted (world_of s log) command p accepted
     → (cluster_of cluster).ledger ≡ ledger_of (world_of s log) → map op_of cluster.ops ≡ record_ops p.ops p.deletes → next ≡ (world_of s log).next_id + accepted.drawn
-    → MaySwap s log 0 (AskStep command) (Accepted accepted.op) cluster None None (Some p) next
+    → MaySwap s log 0 (AskStep command) (Accepted accepted.op) cluster None None None (Some p) next
 may_ask s log (Snapshot name indices moment) cluster p accepted next tracked askable may is ledger ops next_is =
     let fits = subst (λ (n : ℕ). (world_of s log).next_id + n < first_id (suc (world_of s log).term)) is.drawn is.fits in
     record {

@@ -8,12 +8,12 @@ use Rattle.esr_depot.specs.Image.{Image as Held}
 use Rattle.esr_depot.specs.Look.{Look}
 use Rattle.esr_desk.specs.Start.{Start}
 use Rattle.esr_opening.specs.Opening.{Kept}
-use Rattle.esr_repo.specs.Repo.{NoDeleting, AreTests, IsRepo}
+use Rattle.esr_repo.specs.Repo.{AreTests, IsRepo}
 use Rattle.esr_repo.specs.Begun.{IsBegun}
 
 -- no ticket was given
-no_deleting : (w : World) → w.tickets ≡ fin.empty → NoDeleting w
-no_deleting w none k t uuids plan there work = never t (sym (fin.get-empty nat_cmp k) ∙ ap (λ (m : FinMap nat_cmp Ticket). fin.get m k) (sym none) ∙ there)
+no_ticket : (w : World) → w.tickets ≡ fin.empty → (k : ℕ) (t : Ticket) → fin.get w.tickets k ≡ Some t → ⊥
+no_ticket w none k t there = never t (sym (fin.get-empty nat_cmp k) ∙ ap (λ (m : FinMap nat_cmp Ticket). fin.get m k) (sym none) ∙ there)
   where
     never : (t : Ticket) → None ≡ Some t → ⊥
     never t q = cc
@@ -36,8 +36,9 @@ begun_repo l s clock past k b =
             record_back = b.order.record_back;
             tracked = b.order.tracked;
             ranked = b.order.ranked;
-            no_deletes = b.order.no_deletes;
-            no_deleting = no_deleting s.world b.no_tickets;
+            no_cleanups = b.order.no_cleanups;
+            pruning = λ k t uuids plan there work. absurd (no_ticket s.world b.no_tickets k t there);
+            gone = λ uuid a. absurd (no_ticket s.world b.no_tickets a.k a.t a.there);
             read_tracked = b.read_tracked;
             tests = no_tests s.world b.uncalled;
             few_ops = omega arith;

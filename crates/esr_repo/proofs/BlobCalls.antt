@@ -11,7 +11,7 @@ use Rattle.esr_model.specs.Values.{Bytes, ReadsBack, Formats}
 use Rattle.esr_model.specs.Image.{Blobs, Image}
 use Rattle.esr_core.specs.World.{World, Ticket, Reader, record_of}
 use Rattle.esr_core.specs.Steps.{noting}
-use Rattle.esr_core.specs.Entry.{ReadBlob, BeginTest, CommitTest, Step, Reply, BeginStep, CommitStep, LatestStep, FetchStep, ReadStep, WasBegun, WasDone, WasThere, WasReplaced, WasFetched, WasAbsent, Refused, DepotFault, NameTaken, Entry, Moment}
+use Rattle.esr_core.specs.Entry.{ReadBlob, BeginTest, CommitTest, FetchShard, Step, Reply, BeginStep, CommitStep, LatestStep, FetchStep, ReadStep, PruneStep, WasBegun, WasDone, WasThere, WasReplaced, WasFetched, WasAbsent, Refused, DepotFault, NameTaken, Entry, Moment}
 use Rattle.esr_core.specs.After.{with_given, change, told_blob, committing, fetching, read_told, swaps_record, is_latest, tried, test_left, faulted, answered, blobs_in, after}
 use Rattle.esr_core.specs.Allowed.{Allows, Told, IsMetadata, Allowed}
 use Rattle.esr_core.specs.Left.{Leaves}
@@ -245,16 +245,19 @@ idles_uncommitted f w k step name image h = absurd h
 
 fetch_no_swap : (step : Step) (name : BlobName) → IsFetch step name → swaps_record step ≡ false
 fetch_no_swap (FetchStep it) name h = refl
+fetch_no_swap (PruneStep (FetchShard it)) name h = refl
 fetch_no_swap (ReadStep (ReadBlob it)) name h = refl
 fetch_no_swap step name h = absurd h
 
 fetch_asks : (step : Step) (name : BlobName) → IsFetch step name → asks_container step ≡ true
 fetch_asks (FetchStep it) name h = refl
+fetch_asks (PruneStep (FetchShard it)) name h = refl
 fetch_asks (ReadStep (ReadBlob it)) name h = refl
 fetch_asks step name h = absurd h
 
 fetch_leaves : (step : Step) (name : BlobName) (reply : Reply) → IsFetch step name → LeavesInfos step reply
 fetch_leaves (FetchStep it) name reply h = tt
+fetch_leaves (PruneStep (FetchShard it)) name reply h = tt
 fetch_leaves (ReadStep (ReadBlob it)) name reply h = tt
 fetch_leaves step name reply h = absurd h
 
@@ -277,18 +280,21 @@ idles_told w k name (Some bytes) (Some q) there =
 
 idles_fetched : (f : Formats) (w : World) (k : ℕ) (step : Step) (name : BlobName) (image : Option Image) → IsFetch step name → Idles w (answered f w k step WasFetched image)
 idles_fetched f w k (FetchStep it) name image h = idles_change w k (fetching it (told_blob f image it)) (seat_fetching it (told_blob f image it))
+idles_fetched f w k (PruneStep (FetchShard it)) name image h = idles_change w k (fetching it (told_blob f image it)) (seat_fetching it (told_blob f image it))
 idles_fetched f w zero (ReadStep (ReadBlob it)) name image h = idles_same w
 idles_fetched f w (suc k) (ReadStep (ReadBlob it)) name image h = idles_told w (suc k) it (told_blob f image it) (fin.get w.readers (suc k)) refl
 idles_fetched f w k step name image h = absurd h
 
 idles_absent : (f : Formats) (w : World) (k : ℕ) (step : Step) (name : BlobName) (image : Option Image) → IsFetch step name → Idles w (answered f w k step WasAbsent image)
 idles_absent f w k (FetchStep it) name image h = idles_same w
+idles_absent f w k (PruneStep (FetchShard it)) name image h = idles_same w
 idles_absent f w zero (ReadStep (ReadBlob it)) name image h = idles_same w
 idles_absent f w (suc k) (ReadStep (ReadBlob it)) name image h = idles_same w
 idles_absent f w k step name image h = absurd h
 
 idles_unfetched : (f : Formats) (w : World) (k : ℕ) (step : Step) (name : BlobName) (image : Option Image) → IsFetch step name → Idles w (faulted f w k step image)
 idles_unfetched f w k (FetchStep it) name image h = idles_same w
+idles_unfetched f w k (PruneStep (FetchShard it)) name image h = idles_same w
 idles_unfetched f w k (ReadStep (ReadBlob it)) name image h = idles_same w
 idles_unfetched f w k step name image h = absurd h
 
@@ -469,7 +475,7 @@ module _ {old : Look} {s : Start} {clock : ℕ} {es : List Entry} {k : Kept} {d 
               plan = plan_aside w (blobs_in (image_now new) (world_of s seen).blobs) w.deposed (after (formats_of s) (world_of s seen) here).caller k.plan (idles.plan k.plan kept.1.plan);
               next = kept.1.next ∙ sym idles.next;
             },
-            infos_over s (world_of s seen) here k.infos steady.tracked steady.tests c.allowed leaves kept.2,
+            infos_over s (world_of s seen) here k.infos steady.tracked steady.tests steady.gone c.allowed leaves kept.2,
           ))
           (λ place n. absurd (some_none place (sym n ∙ kept.0))))
 

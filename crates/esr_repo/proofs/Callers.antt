@@ -19,14 +19,14 @@ use Rattle.esr_checking.specs.Caller.{caller_of, drawn_by}
 use Rattle.esr_repo.specs.Repo.{IsTest, AreTests}
 use Rattle.esr_repo.specs.Next.{Added, AddedOr, Did}
 use Rattle.esr_repo.specs.Grown.{added_world}
-use Rattle.esr_repo.proofs.Frames.{frame_answered}
+use Rattle.esr_repo.proofs.Frames.{caller_stays}
 
 -- ---- the world's caller
 
 -- it is told by the moment alone
 pub caller_goes : (f : Formats) (w : World) (m : Moment) → (after f w m).caller ≡ caller_after f w.caller m.entry.who m.entry.step m.entry.reply m.image
 caller_goes f w m =
-    ap (λ (c : Caller). caller_after f c m.entry.who m.entry.step m.entry.reply m.image) (frame_answered f w m.entry.who m.entry.step m.entry.reply m.image).caller
+    ap (λ (c : Caller). caller_after f c m.entry.who m.entry.step m.entry.reply m.image) (caller_stays f w m.entry.who m.entry.step m.entry.reply m.image)
 
 pub added_caller : (s : Start) (old new : List Moment) (who : ℕ) (step : Step) (reply : Reply) (a : Added s old new who step reply)
     → caller_of s new ≡ caller_after (formats_of s) (caller_of s old) who step reply a.image

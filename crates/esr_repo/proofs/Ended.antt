@@ -10,12 +10,11 @@ use Rattle.esr_core.specs.Entry.{Why, FailedStep, FinishStep, HasEnded, Moment}
 use Rattle.esr_core.specs.Ready.{IsShard, IsMaster}
 use Rattle.esr_core.specs.Steps.{with_ticket}
 use Rattle.esr_core.specs.After.{change, is_stale, failed_by, failed_of}
-use Rattle.esr_core.specs.Allowed.{Failing, Finishing}
+use Rattle.esr_core.specs.Allowed.{Finishes, Failing, Finishing}
 use Rattle.esr_core.specs.Tracked.{Tracked}
 use Rattle.esr_progress.specs.Plan.{Plan, IsPlanOf}
 use Rattle.esr_desk.specs.Conditions.{CanFail, CanFinish}
 use Rattle.esr_desk.specs.Start.{Start, world_of, or_no_ticket, ticket_of}
-use Rattle.esr_repo.specs.Repo.{NoDeleting}
 use Rattle.esr_repo.specs.Next.{Added}
 use Rattle.esr_repo.specs.May.{MayNote}
 use Rattle.esr_repo.specs.Grown.{out_is, put_there, added_ticket, changed_ticket}
@@ -32,10 +31,15 @@ may_finish s old log k plan p next e before plan_is goes next_is =
     let can : CanFinish (ticket_of s log k) = subst (λ (l : List Moment). CanFinish (ticket_of s l k)) (sym e) before in
     record {
       plain = refl;
-      allows = λ image tells same. Finishing k image (record { t = ticket_of s log k; out = out_is s log k can.out; no_shard = can.no_shard; done = inl can.settled }) same;
+      allows = λ image tells same. Finishing k image (finishes can) same;
       plan_is = λ image q h. goes (world_of s log) plan_is;
       next_is = λ image. next_is ∙ sym (next_given (world_of s log) k ended);
     }
+  where
+    finishes : CanFinish (ticket_of s log k) → Finishes (world_of s log) k
+    finishes can =
+        let out = out_is s log k can.out in
+        record { t = ticket_of s log k; out = out; no_shard = can.no_shard; done = inl can.settled; unpruned = λ uuids made work. absurd (can.unpruned uuids made work) }
 
 pub finished_ticket : (s : Start) (old mid new : List Moment) (k : ℕ) → mid ≡ old → CanFinish (ticket_of s old k) → Added s mid new k FinishStep HasEnded → ticket_of s new k ≡ record (ticket_of s old k) { out = false }
 finished_ticket s old mid new k e can a =
@@ -55,8 +59,8 @@ no_unit : IsShard Drop ⊎ IsMaster Drop → ⊥
 no_unit (inl h) = h
 no_unit (inr h) = h
 
-op_of : (w : World) (k : ℕ) (t : Ticket) → Tracked w → NoDeleting w → fin.get w.tickets k ≡ Some t → CanFail t → OpOf w t
-op_of w k t tracked no_deleting there can = go t.work refl can.unit
+op_of : (w : World) (k : ℕ) (t : Ticket) → Tracked w → fin.get w.tickets k ≡ Some t → CanFail t → OpOf w t
+op_of w k t tracked there can = go t.work refl can.unit
   where
     present : (info : SnapInfo) (results : List ShardResult) (made : Shelved) → t.work ≡ Finalize info results made → (b : Bool) → (t.term == w.term) ≡ b → OpOf w t
     present info results made is true e =
@@ -74,7 +78,7 @@ op_of w k t tracked no_deleting there can = go t.work refl can.unit
     go : (work : Work) → t.work ≡ work → IsShard work ⊎ IsMaster work → OpOf w t
     go (Shard index number) is unit = let shard = tracked.shards k t index number there can.out is in (shard.op, λ counts. shard.op_there)
     go (Finalize info results made) is unit = present info results made is (t.term == w.term) refl
-    go (Deleting uuids plan) is unit = absurd (no_deleting k t uuids plan there is)
+    go (Deleting uuids plan) is unit = absurd (can.unpruned uuids plan is)
     go Drop is unit = absurd (no_unit unit)
 
 next_failed : (w : World) (k : ℕ) (o : Option Ticket) → (failed_of w k o).next_id ≡ w.next_id
@@ -89,13 +93,13 @@ next_failed w k (Some t) = go (is_stale w t t.work)
     go true = refl
     go false = by_op (fin.get w.ops t.op)
 
-pub may_fail : (s : Start) (old log : List Moment) (k : ℕ) (why : Why) (plan p : Plan) (term next : ℕ) → log ≡ old → CanFail (ticket_of s old k) → Tracked (world_of s log) → NoDeleting (world_of s log) → IsPlanOf (world_of s log) plan
+pub may_fail : (s : Start) (old log : List Moment) (k : ℕ) (why : Why) (plan p : Plan) (term next : ℕ) → log ≡ old → CanFail (ticket_of s old k) → Tracked (world_of s log) → IsPlanOf (world_of s log) plan
     → term ≡ (world_of s log).term → ((w : World) → IsPlanOf w plan → w.term ≡ term → IsPlanOf (failed_of w k (fin.get w.tickets k)) p) → next ≡ (world_of s log).next_id
     → MayNote s log k (FailedStep why) HasEnded (Some p) next
-may_fail s old log k why plan p term next e before tracked no_deleting plan_is term_is goes next_is =
+may_fail s old log k why plan p term next e before tracked plan_is term_is goes next_is =
     let can : CanFail (ticket_of s log k) = subst (λ (l : List Moment). CanFail (ticket_of s l k)) (sym e) before in
     let out = out_is s log k can.out in
-    let op = op_of (world_of s log) k (ticket_of s log k) tracked no_deleting out.there can in
+    let op = op_of (world_of s log) k (ticket_of s log k) tracked out.there can in
     record {
       plain = refl;
       allows = λ image tells same. Failing k why image (record { t = ticket_of s log k; out = out; unsettled = can.unsettled; unit = can.unit; op = op.0; op_there = op.1 }) same;
@@ -117,8 +121,8 @@ counts_now w t unit fresh = go t.work unit fresh
     go (Deleting uuids plan) u f = inr (same (t.term == w.term) refl f)
     go Drop u f = absurd (no_unit u)
 
-failed_puts : (w : World) (k : ℕ) (t : Ticket) → Tracked w → NoDeleting w → fin.get w.tickets k ≡ Some t → CanFail t → or_no_ticket (fin.get (failed_of w k (Some t)).tickets k) ≡ ended t
-failed_puts w k t tracked no_deleting there can = go (is_stale w t t.work) refl
+failed_puts : (w : World) (k : ℕ) (t : Ticket) → Tracked w → fin.get w.tickets k ≡ Some t → CanFail t → or_no_ticket (fin.get (failed_of w k (Some t)).tickets k) ≡ ended t
+failed_puts w k t tracked there can = go (is_stale w t t.work) refl
   where
     puts : or_no_ticket (fin.get (fin.insert w.tickets k (ended t)) k) ≡ ended t
     puts = ap or_no_ticket (put_there w.tickets k (ended t))
@@ -126,14 +130,14 @@ failed_puts w k t tracked no_deleting there can = go (is_stale w t t.work) refl
     go : (b : Bool) → is_stale w t t.work ≡ b → or_no_ticket (fin.get (if b then with_ticket w k (ended t) else failed_by w k t (fin.get w.ops t.op)).tickets k) ≡ ended t
     go true e = puts
     go false e =
-        let op = op_of w k t tracked no_deleting there can in
+        let op = op_of w k t tracked there can in
         ap (λ (o : Option Op). or_no_ticket (fin.get (failed_by w k t o).tickets k)) (op.1 (counts_now w t can.unit e)) ∙ puts
 
-pub failed_ticket : (s : Start) (old mid new : List Moment) (k : ℕ) (why : Why) → mid ≡ old → CanFail (ticket_of s old k) → Tracked (world_of s mid) → NoDeleting (world_of s mid) → Added s mid new k (FailedStep why) HasEnded → ticket_of s new k ≡ record (ticket_of s old k) { out = false }
-failed_ticket s old mid new k why e before tracked no_deleting a =
+pub failed_ticket : (s : Start) (old mid new : List Moment) (k : ℕ) (why : Why) → mid ≡ old → CanFail (ticket_of s old k) → Tracked (world_of s mid) → Added s mid new k (FailedStep why) HasEnded → ticket_of s new k ≡ record (ticket_of s old k) { out = false }
+failed_ticket s old mid new k why e before tracked a =
     let can : CanFail (ticket_of s mid k) = subst (λ (l : List Moment). CanFail (ticket_of s l k)) (sym e) before in
     let there = (out_is s mid k can.out).there in
     added_ticket s mid new k (FailedStep why) HasEnded a k
     ∙ ap (λ (o : Option Ticket). or_no_ticket (fin.get (failed_of (world_of s mid) k o).tickets k)) there
-    ∙ failed_puts (world_of s mid) k (ticket_of s mid k) tracked no_deleting there can
+    ∙ failed_puts (world_of s mid) k (ticket_of s mid k) tracked there can
     ∙ ap (λ (log : List Moment). ended (ticket_of s log k)) e

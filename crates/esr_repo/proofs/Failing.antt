@@ -5,9 +5,9 @@ use Rattle.std.proofs.lemmas.List.Sums.{sum_by_push}
 use Rattle.esr_model.specs.Values.{Bytes, Formats}
 use Rattle.esr_model.specs.Image.{Image}
 use Rattle.esr_core.specs.World.{World}
-use Rattle.esr_core.specs.Entry.{Read, Step, Reply, Refused, DeposedAt, DepotFault, Entry, Moment}
+use Rattle.esr_core.specs.Entry.{Read, Prune, Step, Reply, Refused, DeposedAt, DepotFault, Entry, Moment}
 use Rattle.esr_core.specs.After.{swaps_record}
-use Rattle.esr_core.specs.Allowed.{RestoreAllows, VerifyAllows, ReadAllows, Allows}
+use Rattle.esr_core.specs.Allowed.{RestoreAllows, VerifyAllows, ReadAllows, PruneAllows, Allows}
 use Rattle.esr_core.specs.Allowed as allowed
 use Rattle.esr_depot.specs.declared.error.CallError.{CallError}
 use Rattle.esr_depot.specs.declared.error.CallError.TheVariants.{Failed}
@@ -101,10 +101,14 @@ verify_never f w read place image h = elim h [ ]
 read_never : (f : Formats) (w : World) (who : ℕ) (read : Read) (place : ℕ) (image : Option Image) → ReadAllows f w who read (Refused (DeposedAt place)) image → ⊥
 read_never f w who read place image h = elim h [ ]
 
+prune_never : (f : Formats) (w : World) (who : ℕ) (prune : Prune) (place : ℕ) (image : Option Image) → PruneAllows f w who prune (Refused (DeposedAt place)) image → ⊥
+prune_never f w who prune place image h = elim h [ ]
+
 never_deposed : (f : Formats) (part_size : ℕ) (w : World) (who : ℕ) (step : Step) (place : ℕ) (image : Option Image) → Allows f part_size w who step (Refused (DeposedAt place)) image → ⊥
 never_deposed f part_size w who step place image (allowed.AskingRestore name target reply im h same) = restore_never f w name place image h
 never_deposed f part_size w who step place image (allowed.Verifying read reply im h) = verify_never f w read place image h
 never_deposed f part_size w who step place image (allowed.Reading k read reply im h same) = read_never f w who read place image h
+never_deposed f part_size w who step place image (allowed.Pruning k prune reply im h) = prune_never f w who prune place image h
 
 -- a step without a call of the container
 pub noted_none : {s : Start} {log : List Moment} {who : ℕ} {step : Step} {reply : Reply} {plan : Option Plan} {next : ℕ} → MayNote s log who step reply plan next → tells_none reply ≡ true

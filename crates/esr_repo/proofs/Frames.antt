@@ -1,30 +1,27 @@
--- What no step changes, and what a step without a record swap leaves.
-use Rattle.std.proofs.Common.{◌≡◌, ℕ, suc, ◌+◌, ◌≤◌, Bool, true, false, cond, zero, List, Option, Some, None, refl, sym, ap, ◌∙◌, arith, nat_cmp}
+-- What each step leaves of the deletes and their tickets, of the uuids of open ops and of the numbers, and what a step without a record swap leaves.
+use Rattle.std.proofs.Common.{◌≡◌, ℕ, suc, ◌+◌, ◌<◌, ◌≤◌, Bool, true, false, zero, List, ◌∷◌, ◌++◌, map, Option, Some, None, refl, arith}
 use Rattle.std.specs.Prelude.{if◌then◌else◌}
-use Rattle.std.specs.Ordering.{eq_by_cmp}
-use Rattle.std.specs.Cmp.{nat_cmp_total}
-use Rattle.std.specs.FinMap.{FinMap, nat_cmp-IsAntisymmetric}
 use Rattle.std.specs.FinMap as fin
 use Rattle.esr_model.specs.Names.{BlobName}
-use Rattle.esr_model.specs.Values.{Bytes, ShardResult, Formats}
+use Rattle.esr_model.specs.Values.{Bytes, SnapInfo, ShardResult, Formats}
+use Rattle.esr_model.specs.Shelf.{Shelved}
 use Rattle.esr_model.specs.Image.{Image}
-use Rattle.esr_core.specs.World.{World, Op, ShardWork, Deleting, Shard, Drop, Swap, Ticket, ReadState, Restored, NotRestored, RestoreShard, Restoring, Reader, swap, record_of}
+use Rattle.esr_model.specs.Kept.{first_id}
+use Rattle.esr_model.specs.Delete.{PrunedShard, kept_count}
+use Rattle.esr_core.specs.World.{World, Op, Deletion, ShardWork, Done, Finalize, Deleting, Shard, Drop, Swap, Ticket, ReadState, Restored, NotRestored, RestoreShard, Restoring, Reader, swap, marked, info_of, shelved_of, record_of}
 use Rattle.esr_core.specs.Restores.{restore_shard}
-use Rattle.esr_core.specs.Steps.{with_ticket, noting}
-use Rattle.esr_core.specs.Entry.{Asked, Snapshot, Clone, DeleteSnapshots, Restore, Cleanup, Given, GivenShard, GivenFinalize, GivenDrop, GivenRestore, Read, ReadBlob, RestoredShard, CheckedAll, DrawTest, CommitTest, ReadFails, Step, AskStep, TakeStep, DrawStep, BeginStep, CommitStep, LatestStep, FetchStep, RaiseStep, SettleStep, DoneStep, FailedStep, FinishStep, DroppedStep, ElectStep, ReadStep, DepotFault, Reply, AcceptedRestore, DrawnFrom, Gave, WasDone, WasThere, WasFetched, HasEnded, Refused, Moment}
-use Rattle.esr_core.specs.After.{asked, taken_shard, taken_restore_shard, taken_restore, taken_by, shard_of, with_given, committing, told_blob, fetching, settled_by, settled_of, done_by, done_of, is_stale, failed_by, failed_of, dropped_of, read_told, shard_over, read_over, read_step, read_by, done_step, swaps_record, has_text, fallen, is_latest, test_left, faulted, answered, stepped}
+use Rattle.esr_core.specs.Pruning.{planned}
+use Rattle.esr_core.specs.Ids.{InTerm}
+use Rattle.esr_core.specs.Steps.{with_ticket, noting, given, completing, shard_ticket, final_ticket}
+use Rattle.esr_core.specs.Turns.{plain_ticket, fails}
+use Rattle.esr_core.specs.Entry.{Asked, Snapshot, Clone, DeleteSnapshots, Restore, Cleanup, Given, GivenShard, GivenFinalize, GivenDrop, GivenRestore, GivenDelete, Read, ReadBlob, RestoredShard, CheckedAll, DrawTest, CommitTest, ReadFails, Prune, FetchShard, PlanShards, SettlePruned, RemoveDoomed, EndDelete, DeleteFails, Step, AskStep, TakeStep, DrawStep, BeginStep, CommitStep, LatestStep, FetchStep, RaiseStep, SettleStep, DoneStep, FailedStep, FinishStep, DroppedStep, ElectStep, ReadStep, PruneStep, DepotFault, Reply, AcceptedRestore, DrawnFrom, Gave, WasDone, WasThere, WasFetched, HasEnded, Refused, Moment}
+use Rattle.esr_core.specs.After.{asked_op, new_names, asked, taken_shard, taken_restore_shard, taken_restore, taken_by, shard_of, with_given, committing, told_blob, fetching, settled_by, settled_of, done_by, done_of, is_stale, failed_by, failed_of, dropped_of, delete_settled_by, delete_settled, delete_failed_by, delete_failed, prune_step, read_told, shard_over, read_over, read_step, read_by, done_step, swaps_record, has_text, fallen, is_latest, test_left, faulted, answered, stepped}
+use Rattle.esr_core.specs.Allowed.{NoCleanup}
 use Rattle.esr_repo.specs.Log.{asks_container, calls}
-use Rattle.esr_repo.specs.Repo.{NoDeleting}
-
-some_same : {A : Type 0} (x y : A) → Some x ≡ Some y → x ≡ y
-some_same x y e = cc
+use Rattle.esr_repo.proofs.Coming.{DeletesCome, come_same, come_again, come_settled, come_plain, come_given, come_planned, OpsCome, ops_same, ops_put, ops_new, ops_less, clean_less, clean_put}
 
 swaps : true ≡ false → ⊥
 swaps e = cc
-
-same_either : {A : Type 0} (b : Bool) (x : A) → cond b x x ≡ x
-same_either true x = refl
-same_either false x = refl
 
 le_next : (n : ℕ) → n ≤ suc n
 le_next n = omega arith
@@ -32,50 +29,64 @@ le_next n = omega arith
 le_same : (n : ℕ) → n ≤ n
 le_same n = omega arith
 
--- nothing is taken from a map that has nothing
-removed_none : {X : Type 0} (m : FinMap nat_cmp X) (k : ℕ) → m ≡ fin.empty → fin.remove m k ≡ fin.empty
-removed_none m k e = fin.same_map nat_cmp_total nat_cmp-IsAntisymmetric (fin.remove m k) fin.empty (λ q.
-    fin.get-remove nat_cmp_total m k q
-    ∙ ap (λ v. cond (eq_by_cmp nat_cmp q k) None v) (ap (λ n. fin.get n q) e ∙ fin.get-empty nat_cmp q)
-    ∙ same_either (eq_by_cmp nat_cmp q k) None
-    ∙ sym (fin.get-empty nat_cmp q))
+le_more : (n m : ℕ) → n ≤ n + m
+le_more n m = omega arith
 
 -- ---- every step
 
--- what no step breaks
-pub record Frame (w new : World) : Type 0 where
-  pub deletes : w.deletes ≡ fin.empty → new.deletes ≡ fin.empty
-  pub no_deleting : NoDeleting w → NoDeleting new
+-- who settles by the step
+abbrev pub settler : Step → ℕ → Option ℕ
+settler SettleStep who = Some who
+settler (PruneStep SettlePruned) who = Some who
+settler step who = None
+
+-- what a step keeps, and where what it leaves comes from
+pub record Frame (settles : Option ℕ) (w new : World) : Type 0 where
+  pub deletes : NoCleanup w → NoCleanup new
+  pub come : DeletesCome settles w.tickets new.tickets
+  pub uuids : OpsCome w.ops new.ops w.next_id
+  pub next : InTerm w → w.next_id ≤ new.next_id
   pub ops : new.next_op ≤ suc w.next_op
   pub tickets : new.next_ticket ≤ suc w.next_ticket
   -- what who 0 has done is told by the moment
   pub caller : new.caller ≡ w.caller
 
-frame_same : (w : World) → Frame w w
-frame_same w = record { deletes = λ e. e; no_deleting = λ h. h; ops = le_next w.next_op; tickets = le_next w.next_ticket; caller = refl }
+frame_same : (b : Option ℕ) (w : World) → Frame b w w
+frame_same b w = record { deletes = λ h. h; come = come_same b w.tickets; uuids = ops_same w.ops w.next_id; next = λ t. le_same w.next_id; ops = le_next w.next_op; tickets = le_next w.next_ticket; caller = refl }
 
-abbrev NoneOf : FinMap nat_cmp Ticket → Type 0
-NoneOf tickets = (k : ℕ) (t : Ticket) (uuids : List ℕ) (plan : Option Swap) → fin.get tickets k ≡ Some t → t.work ≡ Deleting uuids plan → ⊥
+-- a ticket is put
+frame_put : (b : Option ℕ) (w : World) (k : ℕ) (v : Ticket) → DeletesCome b w.tickets (fin.insert w.tickets k v) → Frame b w (with_ticket w k v)
+frame_put b w k v come = record { deletes = λ h. h; come = come; uuids = ops_same w.ops w.next_id; next = λ t. le_same w.next_id; ops = le_next w.next_op; tickets = le_next w.next_ticket; caller = refl }
 
--- a ticket that is not of a delete is put
-put_plain : (tickets : FinMap nat_cmp Ticket) (k : ℕ) (v : Ticket) → NoneOf tickets → ((uuids : List ℕ) (plan : Option Swap) → v.work ≡ Deleting uuids plan → ⊥) → NoneOf (fin.insert tickets k v)
-put_plain tickets k v none plain q t uuids plan there work = go (eq_by_cmp nat_cmp q k) (sym (fin.get-insert nat_cmp_total tickets k v q) ∙ there)
-  where
-    go : (b : Bool) → cond b (Some v) (fin.get tickets q) ≡ Some t → ⊥
-    go true e = plain uuids plan (ap (λ (x : Ticket). x.work) (some_same v t e) ∙ work)
-    go false e = none q t uuids plan e work
+-- the work, the root and the settle of a ticket stay
+abbrev StaysSo : Ticket → Ticket → Type 0
+StaysSo t v = (v.work ≡ t.work) × (v.root ≡ t.root) × (v.settled ≡ t.settled)
 
--- a ticket given anew, with its work
-put_again : (tickets : FinMap nat_cmp Ticket) (k : ℕ) (t v : Ticket) → fin.get tickets k ≡ Some t → v.work ≡ t.work → NoneOf tickets → NoneOf (fin.insert tickets k v)
-put_again tickets k t v there same none = put_plain tickets k v none (λ uuids plan e. none k t uuids plan there (sym same ∙ e))
+frame_again : (w : World) (k : ℕ) (t v : Ticket) → fin.get w.tickets k ≡ Some t → StaysSo t v → Frame None w (with_ticket w k v)
+frame_again w k t v there same = frame_put None w k v (come_again None w.tickets k t v there same.0 same.1 same.2)
 
-frame_change : (w : World) (k : ℕ) (g : Ticket → Ticket) (o : Option Ticket) → fin.get w.tickets k ≡ o → ((t : Ticket) → (g t).work ≡ t.work) → Frame w (with_given w k g o)
-frame_change w k g None there same = frame_same w
-frame_change w k g (Some t) there same = record { deletes = λ e. e; no_deleting = put_again w.tickets k t (g t) there (same t); ops = le_next w.next_op; tickets = le_next w.next_ticket; caller = refl }
+frame_change : (w : World) (k : ℕ) (g : Ticket → Ticket) (o : Option Ticket) → fin.get w.tickets k ≡ o → ((t : Ticket) → StaysSo t (g t)) → Frame None w (with_given w k g o)
+frame_change w k g None there same = frame_same None w
+frame_change w k g (Some t) there same = frame_again w k t (g t) there (same t)
 
-frame_asked : (w : World) (command : Asked) → Frame w (asked w command)
-frame_asked w (Snapshot name indices moment) = record { deletes = λ e. e; no_deleting = λ h. h; ops = le_same (suc w.next_op); tickets = le_next w.next_ticket; caller = refl }
-frame_asked w command = frame_same w
+frame_asked : (w : World) (command : Asked) → Frame None w (asked w command)
+frame_asked w (Snapshot name indices moment) =
+    record {
+      deletes = λ h. h;
+      come = come_same None w.tickets;
+      uuids = ops_new w.ops w.next_op (asked_op w name indices moment) w.next_id refl;
+      next = λ t. le_more w.next_id (suc (new_names w indices));
+      ops = le_same (suc w.next_op);
+      tickets = le_next w.next_ticket;
+      caller = refl;
+    }
+frame_asked w command = frame_same None w
+
+-- ---- take
+
+-- a ticket more
+frame_given : (w : World) (v : Ticket) → DeletesCome None w.tickets (fin.insert w.tickets w.next_ticket v) → Frame None w (record w { tickets = fin.insert w.tickets w.next_ticket v; next_ticket = suc w.next_ticket })
+frame_given w v come = record { deletes = λ h. h; come = come; uuids = ops_same w.ops w.next_id; next = λ t. le_same w.next_id; ops = le_next w.next_op; tickets = le_same (suc w.next_ticket); caller = refl }
 
 shard_plain : (index number : ℕ) (uuids : List ℕ) (plan : Option Swap) → Shard index number ≡ Deleting uuids plan → ⊥
 shard_plain index number uuids plan e = cc
@@ -83,162 +94,296 @@ shard_plain index number uuids plan e = cc
 drop_plain : (uuids : List ℕ) (plan : Option Swap) → Drop ≡ Deleting uuids plan → ⊥
 drop_plain uuids plan e = cc
 
-frame_shard : (w : World) (o : ℕ) (op : Op) (base : Option ℕ) (s : Option ShardWork) → Frame w (taken_shard w o op base s)
-frame_shard w o op base None = frame_same w
-frame_shard w o op base (Some s) = record { deletes = λ e. e; no_deleting = λ h. put_plain w.tickets w.next_ticket _ h (shard_plain s.ref.id s.number); ops = le_next w.next_op; tickets = le_same (suc w.next_ticket); caller = refl }
+final_plain : (info : SnapInfo) (results : List ShardResult) (made : Shelved) (uuids : List ℕ) (plan : Option Swap) → Finalize info results made ≡ Deleting uuids plan → ⊥
+final_plain info results made uuids plan e = cc
 
-frame_restore_shard : (w : World) (o : ℕ) (r : Restoring) (s : Option RestoreShard) → Frame w (taken_restore_shard w o r s)
-frame_restore_shard w o r None = frame_same w
-frame_restore_shard w o r (Some s) = record { deletes = λ e. e; no_deleting = λ h. h; ops = le_next w.next_op; tickets = le_same (suc w.next_ticket); caller = refl }
+frame_shard : (w : World) (o : ℕ) (op : Op) (base : Option ℕ) (s : Option ShardWork) → fin.get w.ops o ≡ Some op → Frame None w (taken_shard w o op base s)
+frame_shard w o op base None there = frame_same None w
+frame_shard w o op base (Some s) there =
+    record {
+      deletes = λ h. h;
+      come = come_plain None w.tickets w.next_ticket (shard_ticket w o op s base) (shard_plain s.ref.id s.number);
+      uuids = ops_put w.ops o op (record op { shards = map (given w.next_ticket s.ref.id s.number) op.shards }) w.next_id there refl;
+      next = λ t. le_same w.next_id;
+      ops = le_next w.next_op;
+      tickets = le_same (suc w.next_ticket);
+      caller = refl;
+    }
 
-frame_restore : (w : World) (o index number : ℕ) (r : Option Restoring) → Frame w (taken_restore w o index number r)
-frame_restore w o index number None = frame_same w
+frame_restore_shard : (w : World) (o : ℕ) (r : Restoring) (s : Option RestoreShard) → Frame None w (taken_restore_shard w o r s)
+frame_restore_shard w o r None = frame_same None w
+frame_restore_shard w o r (Some s) = record { deletes = λ h. h; come = come_same None w.tickets; uuids = ops_same w.ops w.next_id; next = λ t. le_same w.next_id; ops = le_next w.next_op; tickets = le_same (suc w.next_ticket); caller = refl }
+
+frame_restore : (w : World) (o index number : ℕ) (r : Option Restoring) → Frame None w (taken_restore w o index number r)
+frame_restore w o index number None = frame_same None w
 frame_restore w o index number (Some r) = frame_restore_shard w o r (restore_shard r.shards index number)
 
-frame_taken : (f : Formats) (w : World) (o : ℕ) (unit : Given) (op : Option Op) → Frame w (taken_by f w o unit op)
-frame_taken f w o (GivenShard index number base) (Some op) = frame_shard w o op base (shard_of op.shards index number)
-frame_taken f w o (GivenShard index number base) None = frame_same w
-frame_taken f w o (GivenFinalize info results) (Some op) = record { deletes = λ e. e; no_deleting = λ h. put_plain w.tickets w.next_ticket _ h (λ uuids plan e. absurd (cc)); ops = le_next w.next_op; tickets = le_same (suc w.next_ticket); caller = refl }
-frame_taken f w o (GivenFinalize info results) None = frame_same w
-frame_taken f w o (GivenRestore index number uuid) op = frame_restore w o index number (fin.get w.restores o)
-frame_taken f w o GivenDrop op = record { deletes = λ e. e; no_deleting = λ h. put_plain w.tickets w.next_ticket _ h drop_plain; ops = le_next w.next_op; tickets = le_same (suc w.next_ticket); caller = refl }
-frame_taken f w o unit op = frame_same w
+frame_taken : (f : Formats) (w : World) (o : ℕ) (unit : Given) (op : Option Op) → fin.get w.ops o ≡ op → Frame None w (taken_by f w o unit op)
+frame_taken f w o (GivenShard index number base) (Some op) there = frame_shard w o op base (shard_of op.shards index number) there
+frame_taken f w o (GivenShard index number base) None there = frame_same None w
+frame_taken f w o (GivenFinalize info results) (Some op) there = frame_given w (final_ticket f w o op results) (come_plain None w.tickets w.next_ticket (final_ticket f w o op results) (final_plain (info_of op results) results (shelved_of f op)))
+frame_taken f w o (GivenFinalize info results) None there = frame_same None w
+frame_taken f w o (GivenRestore index number uuid) op there = frame_restore w o index number (fin.get w.restores o)
+frame_taken f w o GivenDrop op there = frame_given w (plain_ticket w o Drop) (come_plain None w.tickets w.next_ticket (plain_ticket w o Drop) drop_plain)
+frame_taken f w o (GivenDelete uuids) op there = frame_given w (plain_ticket w o (Deleting uuids None)) (come_given None w.tickets w.next_ticket (plain_ticket w o (Deleting uuids None)) uuids refl refl)
+frame_taken f w o unit op there = frame_same None w
 
-frame_drawn : (w : World) (k n : ℕ) (o : Option Ticket) → fin.get w.tickets k ≡ o → Frame w (record (with_given w k (λ t. record t { first = w.next_id; drawn = n }) o) { next_id = w.next_id + n })
-frame_drawn w k n None there = record { deletes = λ e. e; no_deleting = λ h. h; ops = le_next w.next_op; tickets = le_next w.next_ticket; caller = refl }
-frame_drawn w k n (Some t) there = record { deletes = λ e. e; no_deleting = put_again w.tickets k t _ there refl; ops = le_next w.next_op; tickets = le_next w.next_ticket; caller = refl }
+-- ---- steps of a ticket
 
-frame_raised : (w : World) (k : ℕ) (o : Option Ticket) → fin.get w.tickets k ≡ o → Frame w (record (with_given w k (λ t. record t { raised = Some w.pending }) o) { pending = suc w.pending })
-frame_raised w k None there = record { deletes = λ e. e; no_deleting = λ h. h; ops = le_next w.next_op; tickets = le_next w.next_ticket; caller = refl }
-frame_raised w k (Some t) there = record { deletes = λ e. e; no_deleting = put_again w.tickets k t _ there refl; ops = le_next w.next_op; tickets = le_next w.next_ticket; caller = refl }
+-- so many ids are drawn
+frame_drawn_by : (w new : World) (n : ℕ) → Frame None w new → Frame None w (record new { next_id = w.next_id + n })
+frame_drawn_by w new n h = record { deletes = h.deletes; come = h.come; uuids = h.uuids; next = λ t. le_more w.next_id n; ops = h.ops; tickets = h.tickets; caller = h.caller }
 
-frame_settled_by : (f : Formats) (w : World) (k : ℕ) (t : Ticket) → fin.get w.tickets k ≡ Some t → (s : Option Swap) (n : Option ℕ) → Frame w (settled_by f w k t s n)
-frame_settled_by f w k t there (Some s) (Some n) = record { deletes = removed_none w.deletes t.op; no_deleting = put_again w.tickets k t _ there refl; ops = le_next w.next_op; tickets = le_next w.next_ticket; caller = refl }
-frame_settled_by f w k t there (Some s) None = frame_same w
-frame_settled_by f w k t there None n = frame_same w
+frame_drawn : (w : World) (k n : ℕ) (o : Option Ticket) → fin.get w.tickets k ≡ o → Frame None w (record (with_given w k (λ t. record t { first = w.next_id; drawn = n }) o) { next_id = w.next_id + n })
+frame_drawn w k n o there = frame_drawn_by w (with_given w k (λ t. record t { first = w.next_id; drawn = n }) o) n (frame_change w k (λ t. record t { first = w.next_id; drawn = n }) o there (λ t. (refl, refl, refl)))
 
-frame_settled : (f : Formats) (w : World) (k : ℕ) (o : Option Ticket) → fin.get w.tickets k ≡ o → Frame w (settled_of f w k o)
-frame_settled f w k None there = frame_same w
+frame_raised : (w : World) (k : ℕ) (o : Option Ticket) → fin.get w.tickets k ≡ o → Frame None w (record (with_given w k (λ t. record t { raised = Some w.pending }) o) { pending = suc w.pending })
+frame_raised w k o there =
+    let h = frame_change w k (λ t. record t { raised = Some w.pending }) o there (λ t. (refl, refl, refl)) in
+    record { deletes = h.deletes; come = h.come; uuids = h.uuids; next = h.next; ops = h.ops; tickets = h.tickets; caller = h.caller }
+
+frame_settled_by : (f : Formats) (w : World) (k : ℕ) (t : Ticket) → fin.get w.tickets k ≡ Some t → (s : Option Swap) (n : Option ℕ) → Frame (Some k) w (settled_by f w k t s n)
+frame_settled_by f w k t there (Some s) (Some n) =
+    record {
+      deletes = clean_less w.deletes t.op;
+      come = come_settled w.tickets k t (record t { settled = true }) there refl refl;
+      uuids = ops_less w.ops t.op w.next_id;
+      next = λ h. le_same w.next_id;
+      ops = le_next w.next_op;
+      tickets = le_next w.next_ticket;
+      caller = refl;
+    }
+frame_settled_by f w k t there (Some s) None = frame_same (Some k) w
+frame_settled_by f w k t there None n = frame_same (Some k) w
+
+pub frame_settled : (f : Formats) (w : World) (k : ℕ) (o : Option Ticket) → fin.get w.tickets k ≡ o → Frame (Some k) w (settled_of f w k o)
+frame_settled f w k None there = frame_same (Some k) w
 frame_settled f w k (Some t) there = frame_settled_by f w k t there (swap f t) t.raised
 
-frame_done_by : (w : World) (k : ℕ) (r : ShardResult) (t : Ticket) → fin.get w.tickets k ≡ Some t → (op : Option Op) → Frame w (done_by w k r t op)
-frame_done_by w k r t there None = frame_same w
-frame_done_by w k r t there (Some op) = record { deletes = λ e. e; no_deleting = put_again w.tickets k t _ there refl; ops = le_next w.next_op; tickets = le_next w.next_ticket; caller = refl }
+-- an op and its ticket
+frame_op : (w : World) (k : ℕ) (t v : Ticket) (op new : Op) (completed : List ℕ) → fin.get w.tickets k ≡ Some t → StaysSo t v → fin.get w.ops t.op ≡ Some op → new.uuid ≡ op.uuid
+    → Frame None w (record w { ops = fin.insert w.ops t.op new; tickets = fin.insert w.tickets k v; completed = completed })
+frame_op w k t v op new completed there same op_there uuid =
+    record {
+      deletes = λ h. h;
+      come = come_again None w.tickets k t v there same.0 same.1 same.2;
+      uuids = ops_put w.ops t.op op new w.next_id op_there uuid;
+      next = λ h. le_same w.next_id;
+      ops = le_next w.next_op;
+      tickets = le_next w.next_ticket;
+      caller = refl;
+    }
 
-frame_done : (w : World) (k : ℕ) (r : ShardResult) (o : Option Ticket) → fin.get w.tickets k ≡ o → Frame w (done_of w k r o)
-frame_done w k r None there = frame_same w
-frame_done w k r (Some t) there = frame_done_by w k r t there (fin.get w.ops t.op)
+frame_done_by : (w : World) (k : ℕ) (r : ShardResult) (t : Ticket) → fin.get w.tickets k ≡ Some t → (op : Option Op) → fin.get w.ops t.op ≡ op → Frame None w (done_by w k r t op)
+frame_done_by w k r t there None is = frame_same None w
+frame_done_by w k r t there (Some op) is =
+    let shards : List ShardWork = map (marked k (Done r)) op.shards in
+    frame_op w k t (record t { out = false }) op (record op { shards = shards }) (completing w.completed t.op shards) there (refl, refl, refl) is refl
 
-frame_failed_by : (w : World) (k : ℕ) (t : Ticket) → fin.get w.tickets k ≡ Some t → (op : Option Op) → Frame w (failed_by w k t op)
-frame_failed_by w k t there None = frame_same w
-frame_failed_by w k t there (Some op) = record { deletes = λ e. e; no_deleting = put_again w.tickets k t _ there refl; ops = le_next w.next_op; tickets = le_next w.next_ticket; caller = refl }
+frame_done : (w : World) (k : ℕ) (r : ShardResult) (o : Option Ticket) → fin.get w.tickets k ≡ o → Frame None w (done_of w k r o)
+frame_done w k r None there = frame_same None w
+frame_done w k r (Some t) there = frame_done_by w k r t there (fin.get w.ops t.op) refl
 
-frame_ended : (w : World) (k : ℕ) (t : Ticket) → fin.get w.tickets k ≡ Some t → Frame w (with_ticket w k (record t { out = false }))
-frame_ended w k t there = record { deletes = λ e. e; no_deleting = put_again w.tickets k t _ there refl; ops = le_next w.next_op; tickets = le_next w.next_ticket; caller = refl }
+frame_failed_by : (w : World) (k : ℕ) (t : Ticket) → fin.get w.tickets k ≡ Some t → (op : Option Op) → fin.get w.ops t.op ≡ op → Frame None w (failed_by w k t op)
+frame_failed_by w k t there None is = frame_same None w
+frame_failed_by w k t there (Some op) is = frame_op w k t (record t { out = false }) op (record op { shards = map (fails k) op.shards; failed = true }) w.completed there (refl, refl, refl) is refl
 
-frame_either : (w a b : World) (first : Bool) → Frame w a → Frame w b → Frame w (if first then a else b)
-frame_either w a b true p q = p
-frame_either w a b false p q = q
+frame_ended : (w : World) (k : ℕ) (t : Ticket) → fin.get w.tickets k ≡ Some t → Frame None w (with_ticket w k (record t { out = false }))
+frame_ended w k t there = frame_again w k t (record t { out = false }) there (refl, refl, refl)
 
-frame_failed : (w : World) (k : ℕ) (o : Option Ticket) → fin.get w.tickets k ≡ o → Frame w (failed_of w k o)
-frame_failed w k None there = frame_same w
-frame_failed w k (Some t) there = frame_either w (with_ticket w k (record t { out = false })) (failed_by w k t (fin.get w.ops t.op)) (is_stale w t t.work) (frame_ended w k t there) (frame_failed_by w k t there (fin.get w.ops t.op))
+frame_either : (s : Option ℕ) (w a b : World) (first : Bool) → Frame s w a → Frame s w b → Frame s w (if first then a else b)
+frame_either s w a b true p q = p
+frame_either s w a b false p q = q
 
-frame_dropped : (w : World) (k : ℕ) (o : Option Ticket) → fin.get w.tickets k ≡ o → Frame w (dropped_of w k o)
-frame_dropped w k None there = frame_same w
-frame_dropped w k (Some t) there = record { deletes = removed_none w.deletes t.op; no_deleting = put_again w.tickets k t _ there refl; ops = le_next w.next_op; tickets = le_next w.next_ticket; caller = refl }
+frame_failed : (w : World) (k : ℕ) (o : Option Ticket) → fin.get w.tickets k ≡ o → Frame None w (failed_of w k o)
+frame_failed w k None there = frame_same None w
+frame_failed w k (Some t) there = frame_either None w (with_ticket w k (record t { out = false })) (failed_by w k t (fin.get w.ops t.op)) (is_stale w t t.work) (frame_ended w k t there) (frame_failed_by w k t there (fin.get w.ops t.op) refl)
 
-committing_work : (name : BlobName) (o : Option Bytes) (t : Ticket) → (committing name o t).work ≡ t.work
-committing_work name None t = refl
-committing_work name (Some bytes) t = refl
+frame_dropped : (w : World) (k : ℕ) (o : Option Ticket) → fin.get w.tickets k ≡ o → Frame None w (dropped_of w k o)
+frame_dropped w k None there = frame_same None w
+frame_dropped w k (Some t) there =
+    record {
+      deletes = clean_less w.deletes t.op;
+      come = come_again None w.tickets k t (record t { out = false }) there refl refl refl;
+      uuids = ops_less w.ops t.op w.next_id;
+      next = λ h. le_same w.next_id;
+      ops = le_next w.next_op;
+      tickets = le_next w.next_ticket;
+      caller = refl;
+    }
 
-fetching_work : (name : BlobName) (o : Option Bytes) (t : Ticket) → (fetching name o t).work ≡ t.work
-fetching_work name None t = refl
-fetching_work name (Some bytes) t = refl
+committing_stays : (name : BlobName) (o : Option Bytes) (t : Ticket) → StaysSo t (committing name o t)
+committing_stays name None t = (refl, refl, refl)
+committing_stays name (Some bytes) t = (refl, refl, refl)
 
-frame_told : (w : World) (k : ℕ) (name : BlobName) (bytes : Option Bytes) (q : Option Reader) → Frame w (read_told w k name bytes q)
-frame_told w k name bytes None = frame_same w
-frame_told w k name None (Some q) = frame_same w
-frame_told w k name (Some bytes) (Some q) = record { deletes = λ e. e; no_deleting = λ h. h; ops = le_next w.next_op; tickets = le_next w.next_ticket; caller = refl }
+fetching_stays : (name : BlobName) (o : Option Bytes) (t : Ticket) → StaysSo t (fetching name o t)
+fetching_stays name None t = (refl, refl, refl)
+fetching_stays name (Some bytes) t = (refl, refl, refl)
 
-frame_shard_over : (w : World) (k : ℕ) (state : ReadState) (q : Reader) (r : Option Restoring) → Frame w (shard_over w k state q r)
-frame_shard_over w k state q None = frame_same w
-frame_shard_over w k state q (Some r) = record { deletes = λ e. e; no_deleting = λ h. h; ops = le_next w.next_op; tickets = le_next w.next_ticket; caller = refl }
+-- ---- steps of a delete's ticket
 
-frame_over : (w : World) (k : ℕ) (state : ReadState) (q : Option Reader) → Frame w (read_over w k state q)
-frame_over w k state None = frame_same w
+frame_planned : (f : Formats) (w : World) (k : ℕ) (shards : List PrunedShard) (o : Option Ticket) → fin.get w.tickets k ≡ o → Frame None w (with_given w k (planned f shards w.next_id) o)
+frame_planned f w k shards None there = frame_same None w
+frame_planned f w k shards (Some t) there = frame_put None w k (planned f shards w.next_id t) (come_planned f None w.tickets k t shards w.next_id there)
+
+frame_pruned_by : (f : Formats) (w : World) (k : ℕ) (t : Ticket) → fin.get w.tickets k ≡ Some t → (s : Option Swap) (n : Option ℕ) → Frame (Some k) w (delete_settled_by f w k t s n)
+frame_pruned_by f w k t there (Some s) (Some n) =
+    record {
+      deletes = clean_less w.deletes t.op;
+      come = come_settled w.tickets k t (record t { settled = true }) there refl refl;
+      uuids = ops_less w.ops t.op w.next_id;
+      next = λ h. le_same w.next_id;
+      ops = le_next w.next_op;
+      tickets = le_next w.next_ticket;
+      caller = refl;
+    }
+frame_pruned_by f w k t there (Some s) None = frame_same (Some k) w
+frame_pruned_by f w k t there None n = frame_same (Some k) w
+
+pub frame_pruned : (f : Formats) (w : World) (k : ℕ) (o : Option Ticket) → fin.get w.tickets k ≡ o → Frame (Some k) w (delete_settled f w k o)
+frame_pruned f w k None there = frame_same (Some k) w
+frame_pruned f w k (Some t) there = frame_pruned_by f w k t there (swap f t) t.raised
+
+frame_unpruned_by : (w : World) (k : ℕ) (t : Ticket) → fin.get w.tickets k ≡ Some t → (x : Option Deletion) → fin.get w.deletes t.op ≡ x → Frame None w (delete_failed_by w k t x)
+frame_unpruned_by w k t there None is = frame_same None w
+frame_unpruned_by w k t there (Some x) is =
+    record {
+      deletes = clean_put w.deletes t.op x (record x { failed = true }) is refl;
+      come = come_again None w.tickets k t (record t { out = false }) there refl refl refl;
+      uuids = ops_same w.ops w.next_id;
+      next = λ h. le_same w.next_id;
+      ops = le_next w.next_op;
+      tickets = le_next w.next_ticket;
+      caller = refl;
+    }
+
+frame_unpruned : (w : World) (k : ℕ) (o : Option Ticket) → fin.get w.tickets k ≡ o → Frame None w (delete_failed w k o)
+frame_unpruned w k None there = frame_same None w
+frame_unpruned w k (Some t) there = frame_either None w (with_ticket w k (record t { out = false })) (delete_failed_by w k t (fin.get w.deletes t.op)) (is_stale w t t.work) (frame_ended w k t there) (frame_unpruned_by w k t there (fin.get w.deletes t.op) refl)
+
+frame_removed : (w : World) (removed : List BlobName) → Frame None w (record w { removed = removed })
+frame_removed w removed = record { deletes = λ h. h; come = come_same None w.tickets; uuids = ops_same w.ops w.next_id; next = λ t. le_same w.next_id; ops = le_next w.next_op; tickets = le_next w.next_ticket; caller = refl }
+
+frame_prune : (f : Formats) (w : World) (k : ℕ) (prune : Prune) (reply : Reply) (image : Option Image) → Frame (settler (PruneStep prune) k) w (prune_step f w k prune reply image)
+frame_prune f w k (FetchShard name) WasFetched image = frame_change w k (fetching name (told_blob f image name)) (fin.get w.tickets k) refl (fetching_stays name (told_blob f image name))
+frame_prune f w k (FetchShard name) reply image = frame_same None w
+frame_prune f w k (PlanShards shards) reply image =
+    frame_drawn_by w (with_given w k (planned f shards w.next_id) (fin.get w.tickets k)) (kept_count shards) (frame_planned f w k shards (fin.get w.tickets k) refl)
+frame_prune f w k SettlePruned reply image = frame_pruned f w k (fin.get w.tickets k) refl
+frame_prune f w k (RemoveDoomed names) reply image = frame_removed w (names ++ w.removed)
+frame_prune f w k EndDelete reply image = frame_change w k (λ t. record t { out = false }) (fin.get w.tickets k) refl (λ t. (refl, refl, refl))
+frame_prune f w k (DeleteFails why) reply image = frame_unpruned w k (fin.get w.tickets k) refl
+
+-- ---- steps that read
+
+frame_told : (w : World) (k : ℕ) (name : BlobName) (bytes : Option Bytes) (q : Option Reader) → Frame None w (read_told w k name bytes q)
+frame_told w k name bytes None = frame_same None w
+frame_told w k name None (Some q) = frame_same None w
+frame_told w k name (Some bytes) (Some q) = record { deletes = λ h. h; come = come_same None w.tickets; uuids = ops_same w.ops w.next_id; next = λ t. le_same w.next_id; ops = le_next w.next_op; tickets = le_next w.next_ticket; caller = refl }
+
+frame_shard_over : (w : World) (k : ℕ) (state : ReadState) (q : Reader) (r : Option Restoring) → Frame None w (shard_over w k state q r)
+frame_shard_over w k state q None = frame_same None w
+frame_shard_over w k state q (Some r) = record { deletes = λ h. h; come = come_same None w.tickets; uuids = ops_same w.ops w.next_id; next = λ t. le_same w.next_id; ops = le_next w.next_op; tickets = le_next w.next_ticket; caller = refl }
+
+frame_over : (w : World) (k : ℕ) (state : ReadState) (q : Option Reader) → Frame None w (read_over w k state q)
+frame_over w k state None = frame_same None w
 frame_over w k state (Some q) = frame_shard_over w k state q (fin.get w.restores q.op)
 
-frame_reading : (f : Formats) (w : World) (k : ℕ) (read : Read) (reply : Reply) (image : Option Image) → Frame w (read_step f w k read reply image)
+frame_reading : (f : Formats) (w : World) (k : ℕ) (read : Read) (reply : Reply) (image : Option Image) → Frame None w (read_step f w k read reply image)
 frame_reading f w k (ReadBlob name) WasFetched image = frame_told w k name (told_blob f image name) (fin.get w.readers k)
-frame_reading f w k (ReadBlob name) reply image = frame_same w
+frame_reading f w k (ReadBlob name) reply image = frame_same None w
 frame_reading f w k (RestoredShard files bytes) reply image = frame_over w k (Restored files bytes) (fin.get w.readers k)
-frame_reading f w k (CheckedAll snapshots blobs) reply image = frame_same w
+frame_reading f w k (CheckedAll snapshots blobs) reply image = frame_same None w
 frame_reading f w k (ReadFails why) reply image = frame_over w k (NotRestored why) (fin.get w.readers k)
-frame_reading f w k read reply image = frame_same w
+frame_reading f w k read reply image = frame_same None w
+
+-- the names that may be removed
+frame_doomed : (w : World) (doomed : List BlobName) → Frame None w (record w { doomed = doomed })
+frame_doomed w doomed = record { deletes = λ h. h; come = come_same None w.tickets; uuids = ops_same w.ops w.next_id; next = λ t. le_same w.next_id; ops = le_next w.next_op; tickets = le_next w.next_ticket; caller = refl }
 
 -- who 0 has no ticket
-frame_read : (f : Formats) (w : World) (k : ℕ) (read : Read) (reply : Reply) (image : Option Image) → Frame w (read_by f w k read reply image)
-frame_read f w zero DrawTest (DrawnFrom first) image = record { deletes = λ e. e; no_deleting = λ h. h; ops = le_next w.next_op; tickets = le_next w.next_ticket; caller = refl }
-frame_read f w zero (CommitTest name) WasDone image = record { deletes = λ e. e; no_deleting = λ h. h; ops = le_next w.next_op; tickets = le_next w.next_ticket; caller = refl }
-frame_read f w zero read reply image = frame_same w
+frame_read : (f : Formats) (w : World) (k : ℕ) (read : Read) (reply : Reply) (image : Option Image) → Frame None w (read_by f w k read reply image)
+frame_read f w zero DrawTest (DrawnFrom first) image = record { deletes = λ h. h; come = come_same None w.tickets; uuids = ops_same w.ops w.next_id; next = λ t. le_next w.next_id; ops = le_next w.next_op; tickets = le_next w.next_ticket; caller = refl }
+frame_read f w zero (CommitTest name) WasDone image = frame_doomed w (name ∷ w.doomed)
+frame_read f w zero read reply image = frame_same None w
 frame_read f w (suc k) read reply image = frame_reading f w (suc k) read reply image
 
-frame_step : (f : Formats) (w : World) (k : ℕ) (step : Step) (reply : Reply) (image : Option Image) → Frame w (done_step f w k step reply image)
+-- ---- all steps
+
+later_term : (a b : ℕ) → a < b → a ≤ b
+later_term a b lt = omega (arith, lt)
+
+frame_step : (f : Formats) (w : World) (k : ℕ) (step : Step) (reply : Reply) (image : Option Image) → Frame (settler step k) w (done_step f w k step reply image)
 frame_step f w k (AskStep (Snapshot name indices moment)) reply image = frame_asked w (Snapshot name indices moment)
-frame_step f w k (AskStep (Restore name place)) (AcceptedRestore o uuid indices) image = record { deletes = λ e. e; no_deleting = λ h. h; ops = le_same (suc w.next_op); tickets = le_next w.next_ticket; caller = refl }
-frame_step f w k TakeStep (Gave ticket op unit) image = frame_taken f w op unit (fin.get w.ops op)
+frame_step f w k (AskStep (Restore name place)) (AcceptedRestore o uuid indices) image =
+    record { deletes = λ h. h; come = come_same None w.tickets; uuids = ops_same w.ops w.next_id; next = λ t. le_same w.next_id; ops = le_same (suc w.next_op); tickets = le_next w.next_ticket; caller = refl }
+frame_step f w k TakeStep (Gave ticket op unit) image = frame_taken f w op unit (fin.get w.ops op) refl
 frame_step f w k (DrawStep n) reply image = frame_drawn w k n (fin.get w.tickets k) refl
-frame_step f w k (CommitStep name) WasDone image = frame_change w k (committing name (told_blob f image name)) (fin.get w.tickets k) refl (committing_work name (told_blob f image name))
-frame_step f w k (CommitStep name) WasThere image = frame_change w k (λ t. noting t name) (fin.get w.tickets k) refl (λ t. refl)
-frame_step f w k LatestStep reply image = frame_change w k (λ t. record t { tried_latest = true }) (fin.get w.tickets k) refl (λ t. refl)
-frame_step f w k (FetchStep name) WasFetched image = frame_change w k (fetching name (told_blob f image name)) (fin.get w.tickets k) refl (fetching_work name (told_blob f image name))
+frame_step f w k (CommitStep name) WasDone image = frame_change w k (committing name (told_blob f image name)) (fin.get w.tickets k) refl (committing_stays name (told_blob f image name))
+frame_step f w k (CommitStep name) WasThere image = frame_change w k (λ t. noting t name) (fin.get w.tickets k) refl (λ t. (refl, refl, refl))
+frame_step f w k LatestStep reply image = frame_change w k (λ t. record t { tried_latest = true }) (fin.get w.tickets k) refl (λ t. (refl, refl, refl))
+frame_step f w k (FetchStep name) WasFetched image = frame_change w k (fetching name (told_blob f image name)) (fin.get w.tickets k) refl (fetching_stays name (told_blob f image name))
 frame_step f w k RaiseStep reply image = frame_raised w k (fin.get w.tickets k) refl
 frame_step f w k SettleStep reply image = frame_settled f w k (fin.get w.tickets k) refl
 frame_step f w k (DoneStep result) reply image = frame_done w k result (fin.get w.tickets k) refl
 frame_step f w k (FailedStep why) reply image = frame_failed w k (fin.get w.tickets k) refl
-frame_step f w k FinishStep reply image = frame_change w k (λ t. record t { out = false }) (fin.get w.tickets k) refl (λ t. refl)
+frame_step f w k FinishStep reply image = frame_change w k (λ t. record t { out = false }) (fin.get w.tickets k) refl (λ t. (refl, refl, refl))
 frame_step f w k DroppedStep reply image = frame_dropped w k (fin.get w.tickets k) refl
 frame_step f w k (ReadStep read) reply image = frame_read f w k read reply image
-frame_step f w k ElectStep reply image = record { deletes = λ e. e; no_deleting = λ h. h; ops = le_next w.next_op; tickets = le_next w.next_ticket; caller = refl }
-frame_step f w k step reply image = frame_same w
+frame_step f w k ElectStep reply image =
+    record { deletes = λ h. h; come = come_same None w.tickets; uuids = ops_same w.ops w.next_id; next = λ t. later_term w.next_id (first_id (suc w.term)) t.below; ops = le_next w.next_op; tickets = le_next w.next_ticket; caller = refl }
+frame_step f w k (PruneStep prune) reply image = frame_prune f w k prune reply image
+frame_step f w k step reply image = frame_same None w
 
-frame_tried : (w : World) (k : ℕ) → Frame w (with_given w k (λ t. record t { tried_latest = true }) (fin.get w.tickets k))
-frame_tried w k = frame_change w k (λ t. record t { tried_latest = true }) (fin.get w.tickets k) refl (λ t. refl)
+frame_tried : (w : World) (k : ℕ) → Frame None w (with_given w k (λ t. record t { tried_latest = true }) (fin.get w.tickets k))
+frame_tried w k = frame_change w k (λ t. record t { tried_latest = true }) (fin.get w.tickets k) refl (λ t. (refl, refl, refl))
 
-frame_fallen : (f : Formats) (w up : World) (image : Option Image) → Frame w up → Frame w (fallen f w up image)
-frame_fallen f w up image p =
-    let q = frame_either w up w (has_text image (f.cluster.text (record_of up))) p (frame_same w) in
-    record { deletes = q.deletes; no_deleting = q.no_deleting; ops = q.ops; tickets = q.tickets; caller = q.caller }
+frame_fallen : (s : Option ℕ) (f : Formats) (w up : World) (image : Option Image) → Frame s w up → Frame s w (fallen f w up image)
+frame_fallen s f w up image p =
+    let q = frame_either s w up w (has_text image (f.cluster.text (record_of up))) p (frame_same s w) in
+    record { deletes = q.deletes; come = q.come; uuids = q.uuids; next = q.next; ops = q.ops; tickets = q.tickets; caller = q.caller }
 
-frame_test : (w : World) (name : BlobName) (was now : Option Bytes) → Frame w (test_left w name was now)
-frame_test w name None (Some bytes) = record { deletes = λ e. e; no_deleting = λ h. h; ops = le_next w.next_op; tickets = le_next w.next_ticket; caller = refl }
-frame_test w name None None = frame_same w
-frame_test w name (Some was) now = frame_same w
+frame_test : (w : World) (name : BlobName) (was now : Option Bytes) → Frame None w (test_left w name was now)
+frame_test w name None (Some bytes) = frame_doomed w (name ∷ w.doomed)
+frame_test w name None None = frame_same None w
+frame_test w name (Some was) now = frame_same None w
 
-frame_fault : (f : Formats) (w : World) (k : ℕ) (step : Step) (image : Option Image) → Frame w (faulted f w k step image)
+frame_prune_fault : (f : Formats) (w : World) (k : ℕ) (prune : Prune) (image : Option Image) → Frame (settler (PruneStep prune) k) w (faulted f w k (PruneStep prune) image)
+frame_prune_fault f w k (FetchShard name) image = frame_same None w
+frame_prune_fault f w k (PlanShards shards) image = frame_same None w
+frame_prune_fault f w k SettlePruned image = frame_fallen (Some k) f w (delete_settled f w k (fin.get w.tickets k)) image (frame_pruned f w k (fin.get w.tickets k) refl)
+frame_prune_fault f w k (RemoveDoomed names) image = frame_removed w (names ++ w.removed)
+frame_prune_fault f w k EndDelete image = frame_same None w
+frame_prune_fault f w k (DeleteFails why) image = frame_same None w
+
+frame_fault : (f : Formats) (w : World) (k : ℕ) (step : Step) (image : Option Image) → Frame (settler step k) w (faulted f w k step image)
 frame_fault f w k LatestStep image = frame_tried w k
-frame_fault f w k (BeginStep name) image = frame_either w _ w (is_latest name) (frame_tried w k) (frame_same w)
-frame_fault f w k (AskStep (Snapshot name indices moment)) image = frame_fallen f w _ image (frame_step f w k (AskStep (Snapshot name indices moment)) HasEnded image)
-frame_fault f w k (AskStep (Clone source name indices moment)) image = frame_fallen f w w image (frame_same w)
-frame_fault f w k (AskStep (DeleteSnapshots names)) image = frame_fallen f w w image (frame_same w)
-frame_fault f w k (AskStep Cleanup) image = frame_fallen f w w image (frame_same w)
-frame_fault f w k RaiseStep image = frame_fallen f w _ image (frame_step f w k RaiseStep HasEnded image)
-frame_fault f w k SettleStep image = frame_fallen f w _ image (frame_step f w k SettleStep HasEnded image)
-frame_fault f w k DroppedStep image = frame_fallen f w _ image (frame_step f w k DroppedStep HasEnded image)
-frame_fault f w k ElectStep image = frame_fallen f w _ image (frame_step f w k ElectStep HasEnded image)
+frame_fault f w k (BeginStep name) image = frame_either None w _ w (is_latest name) (frame_tried w k) (frame_same None w)
+frame_fault f w k (AskStep (Snapshot name indices moment)) image = frame_fallen None f w _ image (frame_step f w k (AskStep (Snapshot name indices moment)) HasEnded image)
+frame_fault f w k (AskStep (Clone source name indices moment)) image = frame_fallen None f w w image (frame_same None w)
+frame_fault f w k (AskStep (DeleteSnapshots names)) image = frame_fallen None f w w image (frame_same None w)
+frame_fault f w k (AskStep Cleanup) image = frame_fallen None f w w image (frame_same None w)
+frame_fault f w k RaiseStep image = frame_fallen None f w _ image (frame_step f w k RaiseStep HasEnded image)
+frame_fault f w k SettleStep image = frame_fallen (Some k) f w _ image (frame_step f w k SettleStep HasEnded image)
+frame_fault f w k DroppedStep image = frame_fallen None f w _ image (frame_step f w k DroppedStep HasEnded image)
+frame_fault f w k ElectStep image = frame_fallen None f w _ image (frame_step f w k ElectStep HasEnded image)
 frame_fault f w k (ReadStep (CommitTest name)) image = frame_test w name (fin.get w.blobs (f.names.text name)) (told_blob f image name)
-frame_fault f w k step image = frame_same w
+frame_fault f w k (PruneStep prune) image = frame_prune_fault f w k prune image
+frame_fault f w k step image = frame_same None w
 
-pub frame_answered : (f : Formats) (w : World) (k : ℕ) (step : Step) (reply : Reply) (image : Option Image) → Frame w (answered f w k step reply image)
+pub frame_answered : (f : Formats) (w : World) (k : ℕ) (step : Step) (reply : Reply) (image : Option Image) → Frame (settler step k) w (answered f w k step reply image)
 frame_answered f w k step (Refused DepotFault) image = frame_fault f w k step image
-frame_answered f w k step (Refused refusal) image = frame_same w
+frame_answered f w k step (Refused refusal) image = frame_same (settler step k) w
 frame_answered f w k step reply image = frame_step f w k step reply image
 
-pub frame_after : (f : Formats) (w : World) (m : Moment) → Frame w (stepped f w m)
+pub frame_after : (f : Formats) (w : World) (m : Moment) → Frame (settler m.entry.step m.entry.who) w (stepped f w m)
 frame_after f w m =
     let q = frame_answered f w m.entry.who m.entry.step m.entry.reply m.image in
-    record { deletes = q.deletes; no_deleting = q.no_deleting; ops = q.ops; tickets = q.tickets; caller = q.caller }
+    record { deletes = q.deletes; come = q.come; uuids = q.uuids; next = q.next; ops = q.ops; tickets = q.tickets; caller = q.caller }
+
+-- what who 0 has done is told by the moment
+pub caller_stays : (f : Formats) (w : World) (k : ℕ) (step : Step) (reply : Reply) (image : Option Image) → (answered f w k step reply image).caller ≡ w.caller
+caller_stays f w k step reply image = (frame_answered f w k step reply image).caller
 
 -- ---- a step without a record swap
 
@@ -273,6 +418,7 @@ rests_taken f w o (GivenFinalize info results) (Some op) = record { root = refl;
 rests_taken f w o (GivenFinalize info results) None = rests_same w
 rests_taken f w o GivenDrop op = record { root = refl; deposed = refl }
 rests_taken f w o (GivenRestore index number uuid) op = rests_restore w o index number (fin.get w.restores o)
+rests_taken f w o (GivenDelete uuids) op = record { root = refl; deposed = refl }
 rests_taken f w o unit op = rests_same w
 
 rests_drawn : (w : World) (k n : ℕ) (g : Ticket → Ticket) (o : Option Ticket) → Rests w (record (with_given w k g o) { next_id = w.next_id + n })
@@ -298,6 +444,24 @@ rests_either w a b false p q = q
 rests_failed : (w : World) (k : ℕ) (o : Option Ticket) → Rests w (failed_of w k o)
 rests_failed w k None = rests_same w
 rests_failed w k (Some t) = rests_either w (with_ticket w k (record t { out = false })) (failed_by w k t (fin.get w.ops t.op)) (is_stale w t t.work) (record { root = refl; deposed = refl }) (rests_failed_by w k t (fin.get w.ops t.op))
+
+rests_delete_failed_by : (w : World) (k : ℕ) (t : Ticket) (x : Option Deletion) → Rests w (delete_failed_by w k t x)
+rests_delete_failed_by w k t None = rests_same w
+rests_delete_failed_by w k t (Some x) = record { root = refl; deposed = refl }
+
+rests_delete_failed : (w : World) (k : ℕ) (o : Option Ticket) → Rests w (delete_failed w k o)
+rests_delete_failed w k None = rests_same w
+rests_delete_failed w k (Some t) =
+    rests_either w (with_ticket w k (record t { out = false })) (delete_failed_by w k t (fin.get w.deletes t.op)) (is_stale w t t.work) (record { root = refl; deposed = refl }) (rests_delete_failed_by w k t (fin.get w.deletes t.op))
+
+pub rests_prune : (f : Formats) (w : World) (k : ℕ) (prune : Prune) (reply : Reply) (image : Option Image) → swaps_record (PruneStep prune) ≡ false → Rests w (prune_step f w k prune reply image)
+rests_prune f w k (FetchShard name) WasFetched image e = rests_change w k (fetching name (told_blob f image name)) (fin.get w.tickets k)
+rests_prune f w k (FetchShard name) reply image e = rests_same w
+rests_prune f w k (PlanShards shards) reply image e = rests_drawn w k (kept_count shards) (planned f shards w.next_id) (fin.get w.tickets k)
+rests_prune f w k SettlePruned reply image e = absurd (swaps e)
+rests_prune f w k (RemoveDoomed names) reply image e = record { root = refl; deposed = refl }
+rests_prune f w k EndDelete reply image e = rests_change w k (λ t. record t { out = false }) (fin.get w.tickets k)
+rests_prune f w k (DeleteFails why) reply image e = rests_delete_failed w k (fin.get w.tickets k)
 
 rests_told : (w : World) (k : ℕ) (name : BlobName) (bytes : Option Bytes) (q : Option Reader) → Rests w (read_told w k name bytes q)
 rests_told w k name bytes None = rests_same w
@@ -348,6 +512,7 @@ rests_step f w k (FetchStep name) WasFetched image e = rests_change w k (fetchin
 rests_step f w k (DoneStep result) reply image e = rests_done w k result (fin.get w.tickets k)
 rests_step f w k (FailedStep why) reply image e = rests_failed w k (fin.get w.tickets k)
 rests_step f w k FinishStep reply image e = rests_change w k (λ t. record t { out = false }) (fin.get w.tickets k)
+rests_step f w k (PruneStep prune) reply image e = rests_prune f w k prune reply image e
 rests_step f w k step reply image e = rests_same w
 
 rests_fault : (f : Formats) (w : World) (k : ℕ) (step : Step) (image : Option Image) → swaps_record step ≡ false → Rests w (faulted f w k step image)
@@ -362,6 +527,8 @@ rests_fault f w k RaiseStep image e = absurd (swaps e)
 rests_fault f w k SettleStep image e = absurd (swaps e)
 rests_fault f w k DroppedStep image e = absurd (swaps e)
 rests_fault f w k ElectStep image e = absurd (swaps e)
+rests_fault f w k (PruneStep SettlePruned) image e = absurd (swaps e)
+rests_fault f w k (PruneStep (RemoveDoomed names)) image e = record { root = refl; deposed = refl }
 rests_fault f w k step image e = rests_same w
 
 pub rests_answered : (f : Formats) (w : World) (k : ℕ) (step : Step) (reply : Reply) (image : Option Image) → swaps_record step ≡ false → Rests w (answered f w k step reply image)
@@ -380,6 +547,7 @@ no_swap RaiseStep e = e
 no_swap SettleStep e = e
 no_swap DroppedStep e = e
 no_swap ElectStep e = e
+no_swap (PruneStep SettlePruned) e = e
 no_swap step e = refl
 
 pub plain_is : (f : Formats) (w : World) (k : ℕ) (step : Step) (reply : Reply) (image : Option Image) → calls step reply ≡ false → IsPlain f w k step reply image

@@ -1,3 +1,4 @@
+pub mod Coming
 pub mod Frames
 pub mod Callers
 pub mod Logs
@@ -23,3 +24,8 @@ pub mod Restores
 pub mod Failing
 pub mod Calms
 pub mod InfosStay
+pub mod Gone
+pub mod DeleteTickets
+pub mod DeletePlans
+pub mod DeletedInfos
+pub mod DeleteMays

@@ -5,7 +5,7 @@ use Rattle.std.specs.FinMap as fin
 use Rattle.esr_model.specs.Values.{ReadsBack}
 use Rattle.esr_model.specs.Image.{Image}
 use Rattle.esr_core.specs.World.{World, record_of}
-use Rattle.esr_core.specs.Entry.{Step, SettleStep, Reply, Refused, Refusal, DeposedAt, DepotFault, Entry, Moment}
+use Rattle.esr_core.specs.Entry.{Step, SettleStep, SettlePruned, PruneStep, Reply, Refused, Refusal, DeposedAt, DepotFault, Entry, Moment}
 use Rattle.esr_core.specs.After.{answered, blobs_in, after}
 use Rattle.esr_core.specs.Allowed.{Allows, SameBlobs, IsDeposed, Allowed}
 use Rattle.esr_core.specs.Tracked.{Tracked}
@@ -15,7 +15,7 @@ use Rattle.esr_formats.specs.Clusters.{cluster_kind}
 use Rattle.esr_progress.specs.Plan.{Plan, IsPlanOf}
 use Rattle.esr_desk.specs.Start.{Start, formats_of, world_of, or_no_ticket, ticket_of}
 use Rattle.esr_repo.specs.Log.{asks_container, calls, log_of}
-use Rattle.esr_repo.specs.Repo.{Kept, AreTests, HasInfos, IsSteady, IsRepo}
+use Rattle.esr_repo.specs.Repo.{Kept, Gone, AreTests, HasInfos, IsSteady, IsRepo}
 use Rattle.esr_repo.specs.Next.{Added, IsLive}
 use Rattle.esr_repo.specs.May.{MayNote, MayRefuse}
 use Rattle.esr_repo.specs.Laws.{Laws}
@@ -46,6 +46,7 @@ swaps e = cc
 -- a step that doesn't ask the container settles nothing
 quiet_leaves : (step : Step) (reply : Reply) → asks_container step ≡ false → LeavesInfos step reply
 quiet_leaves SettleStep reply e = absurd (swaps e)
+quiet_leaves (PruneStep SettlePruned) reply e = absurd (swaps e)
 quiet_leaves step reply e = tt
 
 noted_leaves : (s : Start) (w : World) (who : ℕ) (step : Step) (reply : Reply) (image : Option Image) → calls step reply ≡ false → (answered (formats_of s) w who step reply image ≡ w) ⊎ LeavesInfos step reply
@@ -54,11 +55,11 @@ noted_leaves s w who step (Refused refusal) image e = inl refl
 noted_leaves s w who step reply image e = inr (quiet_leaves step reply e)
 
 -- the infos stay over a step without a call
-infos_noted : (s : Start) (w : World) (m : Moment) (infos : List Info) → Tracked w → AreTests w.caller → calls m.entry.step m.entry.reply ≡ false → SameBlobs w m.image → Allowed (formats_of s) s.part_size w m
+infos_noted : (s : Start) (w : World) (m : Moment) (infos : List Info) → Tracked w → AreTests w.caller → Gone w → calls m.entry.step m.entry.reply ≡ false → SameBlobs w m.image → Allowed (formats_of s) s.part_size w m
     → HasInfos s w infos → HasInfos s (after (formats_of s) w m) infos
-infos_noted s w m infos tracked tests plain same allowed h = elim (noted_leaves s w m.entry.who m.entry.step m.entry.reply m.image plain) [
+infos_noted s w m infos tracked tests gone plain same allowed h = elim (noted_leaves s w m.entry.who m.entry.step m.entry.reply m.image plain) [
   | inl e ↦ infos_aside s w (after (formats_of s) w m) infos (ap (λ (x : World). x.root) e) (ap (λ (x : World). x.tickets) e) (blobs_same w m.image same) h
-  | inr leaves ↦ infos_over s w m infos tracked tests allowed leaves h
+  | inr leaves ↦ infos_over s w m infos tracked tests gone allowed leaves h
 ]
 
 -- such a step is allowed where its answer is
@@ -136,7 +137,7 @@ module _ (laws : Laws) (l : Look) (s : Start) (clock : ℕ) (es mid es' : List E
             plan = plan_aside w (blobs_in (image_now l) (world_of s seen).blobs) w.deposed (after (formats_of s) (world_of s seen) entry_moment).caller new (subst (IsPlanOf w) (sym new_is) (may.plan_is (image_now l) k.plan now.1.plan));
             next = may.next_is (image_now l);
           },
-          infos_noted s (world_of s seen) entry_moment k.infos here.tracked here.tests may.plain (image_same s seen l here) note_allowed now.2,
+          infos_noted s (world_of s seen) entry_moment k.infos here.tracked here.tests here.gone may.plain (image_same s seen l here) note_allowed now.2,
         ))
         (λ place n. absurd (never place (sym n ∙ now.0)))
       where

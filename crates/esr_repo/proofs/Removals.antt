@@ -1,13 +1,15 @@
 -- Entries of a step that takes blobs away.
-use Rattle.std.proofs.Common.{◌≡◌, ℕ, zero, suc, ◌+◌, ◌<◌, List, [], ◌∷◌, ◌++◌, length, map, take, get_or, Option, Some, None, Ok, Err, refl, sym, ap, ◌∙◌, subst, inl, inr, arith}
+use Rattle.std.proofs.Common.{◌≡◌, ℕ, zero, suc, ◌+◌, ◌<◌, true, false, List, [], ◌∷◌, ◌++◌, length, map, take, get_or, Option, Some, None, Ok, Err, refl, sym, ap, ◌∙◌, subst, inl, inr, arith}
 use Rattle.std.proofs.lemmas.List.{take_more, map-append}
 use Rattle.std.specs.Prelude.{All, Contains, option_map, slice_index_or}
 use Rattle.std.specs.Cmp.Lexicographic.{nat_list_cmp_total}
 use Rattle.std.specs.FinMap as fin
 use Rattle.esr_model.specs.Names.{BlobName}
-use Rattle.esr_model.specs.Values.{Bytes, Has, ReadsBack}
+use Rattle.esr_model.specs.Values.{Bytes, Has, ReadsBack, Formats}
 use Rattle.esr_model.specs.Image.{Blobs, Image}
-use Rattle.esr_core.specs.Entry.{RemoveTests, Step, ReadStep, Reply, WasRemoved, Refused, DepotFault, Entry, Moment}
+use Rattle.esr_core.specs.Entry.{RemoveTests, RemoveDoomed, Step, ReadStep, PruneStep, Reply, WasRemoved, Refused, DepotFault, Entry, Moment}
+use Rattle.esr_core.specs.World.{World}
+use Rattle.esr_core.specs.After.{swaps_record, faulted, answered}
 use Rattle.esr_core.specs.Allowed.{Told}
 use Rattle.esr_core.specs.Left.{Leaves}
 use Rattle.esr_core.proofs.Maps.{get_left, get_stays, texts_same}
@@ -21,11 +23,12 @@ use Rattle.esr_depot.specs.Changes.{Removed, RemoveMay}
 use Rattle.esr_formats.specs.Names.{name_of, name_kind}
 use Rattle.esr_names.specs.declared.blob.BlobName.{BlobName as CodeName}
 use Rattle.esr_desk.specs.Start.{Start, formats_of, world_of}
-use Rattle.esr_repo.specs.Log.{image_of}
+use Rattle.esr_repo.specs.Log.{image_of, asks_container}
 use Rattle.esr_repo.specs.Repo.{Kept}
-use Rattle.esr_repo.specs.May.{IsLess, AreGone, MayRemove}
+use Rattle.esr_repo.specs.May.{IsLess, AreGone, IsRemoval, MayRemove}
 use Rattle.esr_repo.proofs.Logs.{image_now}
-use Rattle.esr_repo.proofs.BlobCalls.{Before, Pushed, Made, TextStays, told_of, names_text, named_of, idles_same, blobs_are, tell_of, allowed_is, call_is, call_made}
+use Rattle.esr_repo.proofs.InfosStay.{IsPlain as LeavesInfos}
+use Rattle.esr_repo.proofs.BlobCalls.{Before, Pushed, Made, Idles, TextStays, told_of, names_text, named_of, idles_same, blobs_are, tell_of, allowed_is, call_is, call_made}
 
 -- ---- lists
 
@@ -104,11 +107,42 @@ has_text (x ∷ names) name (inr h) = inr (has_text names name h)
 
 -- ---- the step
 
-module _ {old : Look} {s : Start} {clock : ℕ} {es : List Entry} {k : Kept} {d : Option ℕ} {seen : List Moment} (b : Before old s clock es k d seen) (new : Look)
-    (names : List BlobName) (m : MayRemove s seen names) (backs : (name : BlobName) → Has names name → ReadsBack name_kind name) (texts : List Bytes) (named : texts ≡ map name_kind.text names) where
-  abbrev step : Step
-  step = ReadStep (RemoveTests names)
+removal_no_swap : (step : Step) (names : List BlobName) → IsRemoval step names → swaps_record step ≡ false
+removal_no_swap (ReadStep (RemoveTests it)) names h = refl
+removal_no_swap (PruneStep (RemoveDoomed it)) names h = refl
+removal_no_swap step names h = absurd h
 
+removal_asks : (step : Step) (names : List BlobName) → IsRemoval step names → asks_container step ≡ true
+removal_asks (ReadStep (RemoveTests it)) names h = refl
+removal_asks (PruneStep (RemoveDoomed it)) names h = refl
+removal_asks step names h = absurd h
+
+removal_leaves : (step : Step) (names : List BlobName) (reply : Reply) → IsRemoval step names → LeavesInfos step reply
+removal_leaves (ReadStep (RemoveTests it)) names reply h = tt
+removal_leaves (PruneStep (RemoveDoomed it)) names reply h = tt
+removal_leaves step names reply h = absurd h
+
+-- the names that removals have named are in no plan
+idles_removed : (w : World) (removed : List BlobName) → Idles w (record w { removed = removed })
+idles_removed w removed =
+    record {
+      plan = λ p h. record { ops = h.ops; deletes = h.deletes; completed = h.completed; seats = h.seats; next_op = h.next_op; next_ticket = h.next_ticket; restores = h.restores; restore_count = h.restore_count; readers = h.readers };
+      next = refl;
+    }
+
+idles_gone : (f : Formats) (w : World) (k : ℕ) (step : Step) (names : List BlobName) (image : Option Image) → IsRemoval step names → Idles w (answered f w k step WasRemoved image)
+idles_gone f w zero (ReadStep (RemoveTests it)) names image h = idles_same w
+idles_gone f w (suc k) (ReadStep (RemoveTests it)) names image h = idles_same w
+idles_gone f w k (PruneStep (RemoveDoomed it)) names image h = idles_removed w (it ++ w.removed)
+idles_gone f w k step names image h = absurd h
+
+idles_ungone : (f : Formats) (w : World) (k : ℕ) (step : Step) (names : List BlobName) (image : Option Image) → IsRemoval step names → Idles w (faulted f w k step image)
+idles_ungone f w k (ReadStep (RemoveTests it)) names image h = idles_same w
+idles_ungone f w k (PruneStep (RemoveDoomed it)) names image h = idles_removed w (it ++ w.removed)
+idles_ungone f w k step names image h = absurd h
+
+module _ {old : Look} {s : Start} {clock : ℕ} {es : List Entry} {k : Kept} {d : Option ℕ} {seen : List Moment} (b : Before old s clock es k d seen) (new : Look)
+    (who : ℕ) (step : Step) (names : List BlobName) (m : MayRemove s seen who step names) (backs : (name : BlobName) → Has names name → ReadsBack name_kind name) (texts : List Bytes) (named : texts ≡ map name_kind.text names) where
   has_name : (name : BlobName) → Has names name → Has texts ((formats_of s).names.text name)
   has_name name has = subst (Has texts) (names_text s name) (subst (λ (xs : List Bytes). Has xs (name_kind.text name)) (sym named) (has_text names name has))
 
@@ -152,38 +186,30 @@ module _ {old : Look} {s : Start} {clock : ℕ} {es : List Entry} {k : Kept} {d 
   some_gone : (o : Option Held) → RemoveMay texts (now old) o → TextStays (now old) o × Told (option_map image_of o) (IsLess s seen names)
   some_gone o may = (text_less o may.0 may.2, told_of o (IsLess s seen names) (less o may.0 may.2 (among texts may.0 may.1)))
 
+  no_swap : swaps_record step ≡ false
+  no_swap = removal_no_swap step names m.is
+
+  abbrev By : Reply → Entry
+  By reply = record { who = who; step = step; reply = reply }
+
   -- a removal that is cut off
   remove_cut : (reply : Reply) (image : Option Image) (i : Held) → RemoveMay texts (now old) (Some i)
-      → Leaves (formats_of s) s.part_size (world_of s seen) (record { entry = record { who = 0; step = step; reply = reply }; image = image } ∷ []) (image_of i)
+      → Leaves (formats_of s) s.part_size (world_of s seen) (record { entry = By reply; image = image } ∷ []) (image_of i)
   remove_cut reply image i may =
       let left = some_gone (Some i) may in
-      inr (inl (allowed_is b (Some i) (record { who = 0; step = step; reply = Refused DepotFault }) refl left.0 (m.fails (Some (image_of i)) (tell_of b (Some i) left.0) left.1)))
+      inr (inl (allowed_is b (Some i) (By (Refused DepotFault)) no_swap left.0 (m.fails (Some (image_of i)) (tell_of b (Some i) left.0) left.1)))
 
-  remove_ok : (x : Unit {0}) → Called old new (λ _. Removed texts) (RemoveMay texts) (Ok x) → (mid es' : List Entry) → Pushed es mid es' (record { who = 0; step = step; reply = WasRemoved })
-      → Made old new s clock es es' k d seen (record { who = 0; step = step; reply = WasRemoved })
-  remove_ok x c mid es' p =
-      let e : Entry = record { who = 0; step = step; reply = WasRemoved } in
+  pub removed_ok : (x : Unit {0}) → Called old new (λ _. Removed texts) (RemoveMay texts) (Ok x) → (mid es' : List Entry) → Pushed es mid es' (By WasRemoved) → Made old new s clock es es' k d seen (By WasRemoved)
+  removed_ok x c mid es' p =
       let is : now new ≡ drop_known (now old) texts = c.done in
       let text = text_less (now new) texts is in
-      call_made b new e refl tt mid es' p
-      (call_is b new e refl (RemoveMay texts) (c.passed refl) refl text (m.removes (image_now new) (tell_of b (now new) text) (told_of (now new) (AreGone s seen names) (all_gone (now new) is))) (remove_cut WasRemoved (image_now new)))
-      (idles_same (world_of s seen))
+      call_made b new (By WasRemoved) no_swap (removal_leaves step names WasRemoved m.is) mid es' p
+      (call_is b new (By WasRemoved) no_swap (RemoveMay texts) (c.passed refl) (removal_asks step names m.is) text (m.removes (image_now new) (tell_of b (now new) text) (told_of (now new) (AreGone s seen names) (all_gone (now new) is))) (remove_cut WasRemoved (image_now new)))
+      (idles_gone (formats_of s) (world_of s seen) who step names (image_now new) m.is)
 
-  remove_fault : Called {T = Unit {0}} old new (λ _. Removed texts) (RemoveMay texts) (Err Failed) → (mid es' : List Entry) → Pushed es mid es' (record { who = 0; step = step; reply = Refused DepotFault })
-      → Made old new s clock es es' k d seen (record { who = 0; step = step; reply = Refused DepotFault })
-  remove_fault c mid es' p =
-      let e : Entry = record { who = 0; step = step; reply = Refused DepotFault } in
+  pub removed_fault : Called {T = Unit {0}} old new (λ _. Removed texts) (RemoveMay texts) (Err Failed) → (mid es' : List Entry) → Pushed es mid es' (By (Refused DepotFault)) → Made old new s clock es es' k d seen (By (Refused DepotFault))
+  removed_fault c mid es' p =
       let left = some_gone (now new) (c.failed refl) in
-      call_made b new e refl tt mid es' p
-      (call_is b new e refl (RemoveMay texts) (c.passed refl) refl left.0 (m.fails (image_now new) (tell_of b (now new) left.0) left.1) (remove_cut (Refused DepotFault) (image_now new)))
-      (idles_same (world_of s seen))
-
-  -- the same of a step that is told to be this one
-  abbrev By : Step → Reply → Entry
-  By it reply = record { who = 0; step = it; reply = reply }
-
-  pub removed_ok : (it : Step) → it ≡ step → (x : Unit {0}) → Called old new (λ _. Removed texts) (RemoveMay texts) (Ok x) → (mid es' : List Entry) → Pushed es mid es' (By it WasRemoved) → Made old new s clock es es' k d seen (By it WasRemoved)
-  removed_ok it is x c mid es' p = subst (λ (y : Step). Made old new s clock es es' k d seen (By y WasRemoved)) (sym is) (remove_ok x c mid es' (subst (λ (y : Step). Pushed es mid es' (By y WasRemoved)) is p))
-
-  pub removed_fault : (it : Step) → it ≡ step → Called {T = Unit {0}} old new (λ _. Removed texts) (RemoveMay texts) (Err Failed) → (mid es' : List Entry) → Pushed es mid es' (By it (Refused DepotFault)) → Made old new s clock es es' k d seen (By it (Refused DepotFault))
-  removed_fault it is c mid es' p = subst (λ (y : Step). Made old new s clock es es' k d seen (By y (Refused DepotFault))) (sym is) (remove_fault c mid es' (subst (λ (y : Step). Pushed es mid es' (By y (Refused DepotFault))) is p))
+      call_made b new (By (Refused DepotFault)) no_swap (removal_leaves step names (Refused DepotFault) m.is) mid es' p
+      (call_is b new (By (Refused DepotFault)) no_swap (RemoveMay texts) (c.passed refl) refl left.0 (m.fails (image_now new) (tell_of b (now new) left.0) left.1) (remove_cut (Refused DepotFault) (image_now new)))
+      (idles_ungone (formats_of s) (world_of s seen) who step names (image_now new) m.is)

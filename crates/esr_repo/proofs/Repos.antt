@@ -5,13 +5,14 @@ use Rattle.std.specs.Ordering.{nat_cmp}
 use Rattle.std.specs.FinMap.{FinMap}
 use Rattle.std.specs.FinMap as fin
 use Rattle.esr_model.specs.Names.{Snap}
-use Rattle.esr_model.specs.Values.{RootData, ReadsBack}
+use Rattle.esr_model.specs.Values.{Has, RootData, ReadsBack}
 use Rattle.esr_model.specs.Image.{Blobs, Image, At}
 use Rattle.esr_core.specs.World.{World, Ticket, Caller, record_of}
 use Rattle.esr_core.specs.World as core
 use Rattle.esr_core.specs.Entry.{Entry, Moment}
 use Rattle.esr_core.specs.After.{blobs_in, after}
-use Rattle.esr_core.specs.Allowed.{SameBlobs, Allowed}
+use Rattle.esr_core.specs.Pruning.{dooms}
+use Rattle.esr_core.specs.Allowed.{NoCleanup, SameBlobs, Allowed}
 use Rattle.esr_core.specs.Tracked.{Tracked}
 use Rattle.esr_core.specs.Ranked.{Ranked}
 use Rattle.esr_core.specs.ReadTracked.{ReadTracked}
@@ -25,12 +26,13 @@ use Rattle.esr_formats.specs.Names.{name_kind}
 use Rattle.esr_progress.specs.Plan.{Plan, IsPlanOf}
 use Rattle.esr_desk.specs.Start.{Start, formats_of, world_of, Legal}
 use Rattle.esr_repo.specs.Log.{image_of, tick, ticks, log_of}
-use Rattle.esr_repo.specs.Repo.{Kept, IsKeptOf, TellsSo, NoDeleting, AreListed, AreTests, HasInfos, IsSteady, IsRepo}
+use Rattle.esr_repo.specs.Repo.{Kept, IsKeptOf, TellsSo, OwnIndices, Gone, AreListed, AreTests, HasInfos, IsSteady, IsRepo}
 use Rattle.esr_repo.specs.Next.{Added, IsLive}
 use Rattle.esr_repo.specs.May.{CanTell}
 use Rattle.esr_repo.specs.Laws.{Laws}
 use Rattle.esr_repo.proofs.InfosStay.{IsPlain as LeavesInfos, infos_stay, infos_step, root_step}
-use Rattle.esr_repo.proofs.Frames.{frame_after}
+use Rattle.esr_repo.proofs.Frames.{frame_after, settler}
+use Rattle.esr_repo.proofs.Gone.{own_step, gone_step, info_spared}
 use Rattle.esr_repo.proofs.Callers.{tests_step}
 use Rattle.esr_repo.specs.Grown.{legal_step, world_step}
 use Rattle.esr_repo.proofs.Logs.{Goes, image_now, log_goes, log_stays, ticks-append}
@@ -63,15 +65,21 @@ pub infos_aside : (s : Start) (w new : World) (infos : List Info) → new.root �
 infos_aside s w new infos root tickets blobs h = record {
   are =
       infos_stay (formats_of s) w new s.tells infos root
-      (λ k t there. (t, ap (λ (m : FinMap nat_cmp Ticket). fin.get m k) tickets ∙ there, refl))
-      (λ told uuid bytes at. subst (λ (b : Blobs). At (formats_of s) b (Snap uuid) bytes) (sym blobs) at) h.are;
+      (λ k t there other. (t, ap (λ (m : FinMap nat_cmp Ticket). fin.get m k) tickets ∙ there, refl))
+      (λ none k t uuids plan there. none k t uuids plan (ap (λ (m : FinMap nat_cmp Ticket). fin.get m k) tickets ∙ there))
+      (λ told i has bytes at. subst (λ (b : Blobs). At (formats_of s) b (Snap i.uuid.number) bytes) (sym blobs) at) h.are;
   listed = subst (λ (r : RootData). AreListed r infos) (sym root) h.listed;
 }
 
 -- they stay over a step that settles nothing
-pub infos_over : (s : Start) (w : World) (m : Moment) (infos : List Info) → Tracked w → AreTests w.caller → Allowed (formats_of s) s.part_size w m → LeavesInfos m.entry.step m.entry.reply → HasInfos s w infos → HasInfos s (after (formats_of s) w m) infos
-infos_over s w m infos tracked tests allowed leaves h = record {
-  are = infos_step (formats_of s) s.part_size w m s.tells infos tracked tests allowed leaves h.are;
+pub infos_over : (s : Start) (w : World) (m : Moment) (infos : List Info) → Tracked w → AreTests w.caller → Gone w → Allowed (formats_of s) s.part_size w m → LeavesInfos m.entry.step m.entry.reply → HasInfos s w infos → HasInfos s (after (formats_of s) w m) infos
+infos_over s w m infos tracked tests gone allowed leaves h = record {
+  are =
+      infos_step (formats_of s) s.part_size w m s.tells infos tracked tests
+      (λ k t uuids plan i there settled work has doomed.
+      let (snap, listed, is) = h.listed i has in
+      info_spared (formats_of s) w k t uuids plan snap gone there settled work listed (subst (λ (u : ℕ). Has (dooms (formats_of s) t) (Snap u)) is doomed))
+      allowed leaves h.are;
   listed = subst (λ (r : RootData). AreListed r infos) (sym (root_step (formats_of s) w m tracked leaves)) h.listed;
 }
 
@@ -168,8 +176,9 @@ module _ (old new : Look) (s : Start) (clock : ℕ) (es es' : List Entry) (k k' 
           record_back = subst (λ (w : World). ReadsBack cluster_kind (record_of w)) (sym new_world) (subst (λ kind. ReadsBack kind (record_of w')) (cluster_is s) allowed.record_back);
           tracked = subst Tracked (sym new_world) (laws.tracked (formats_of s) s.part_size (world_of s seen) moment steady.tracked allowed);
           ranked = subst Ranked (sym new_world) (laws.ranked (formats_of s) s.part_size (world_of s seen) moment steady.tracked steady.ranked allowed);
-          no_deletes = ap (λ (w : World). w.deletes) new_world ∙ frame.deletes steady.no_deletes;
-          no_deleting = subst (λ (w : World). NoDeleting w) (sym new_world) (frame.no_deleting steady.no_deleting);
+          no_cleanups = subst (λ (w : World). NoCleanup w) (sym new_world) (frame.deletes steady.no_cleanups);
+          pruning = subst (λ (w : World). OwnIndices w) (sym new_world) (own_step (settler e.step e.who) (world_of s seen) w' frame.come steady.pruning);
+          gone = subst (λ (w : World). Gone w) (sym new_world) (gone_step (formats_of s) s.part_size (world_of s seen) steady.tracked steady.pruning steady.gone moment allowed);
           read_tracked = subst ReadTracked (sym new_world) (laws.read_tracked (formats_of s) s.part_size (world_of s seen) moment steady.tracked steady.read_tracked allowed);
           tests = subst (λ (w : World). AreTests w.caller) (sym new_world) (tests_step (formats_of s) s.part_size (world_of s seen) moment allowed steady.tests);
           few_ops = subst (λ (w : World). w.next_op ≤ s.world.next_op + length (log_of new clock es')) (sym new_world) (omega (arith, frame.ops, steady.few_ops, longer));
@@ -211,8 +220,9 @@ repo_stays old new s clock es k d r n =
             record_back = h.record_back;
             tracked = h.tracked;
             ranked = h.ranked;
-            no_deletes = h.no_deletes;
-            no_deleting = h.no_deleting;
+            no_cleanups = h.no_cleanups;
+            pruning = h.pruning;
+            gone = h.gone;
             read_tracked = h.read_tracked;
             tests = h.tests;
             few_ops = h.few_ops;

@@ -100,7 +100,7 @@ may_restore s log name place uuid indices p o next may has o_is plan_is next_is 
   plain = refl;
   allows = λ image tells same.
       AskingRestore name place (AcceptedRestore o uuid indices) image
-      (OpeningRestore o uuid indices image (record { number = o_is; listed = may.0; spared = may.1; room = may.2; indices_of = record { within = has.within; told = told_so s (world_of s log) uuid indices image tells has.told } })) same;
+      (OpeningRestore o uuid indices image (record { number = o_is; listed = may.0; spared = may.1; room = may.2; indices_of = record { within = has.within; generations = has.generations; told = told_so s (world_of s log) uuid indices image tells has.told } })) same;
   plan_is = λ image old h. plan_is;
   next_is = λ image. next_is;
 }

@@ -1,9 +1,8 @@
 -- The steps of a ticket that swap the record.
-use Rattle.std.proofs.Common.{◌≡◌, ◌≢◌, ◌⊎◌, ℕ, suc, ◌-◌, ◌^◌, ◌<◌, ◌≤◌, Bool, true, false, cond, nat_cmp, List, [], ◌∷◌, ◌++◌, append-nil, map, Option, Some, None, Result, Ok, Err, ℤ, pos, negsuc, ◌+ℤ◌, ◌≤ℤ◌, ◌<ℤ◌, to_z, w64, refl, sym, ap, ◌∙◌, subst, inl, inr, arith}
+use Rattle.std.proofs.Common.{◌≡◌, ◌≢◌, ◌⊎◌, ℕ, suc, ◌-◌, ◌^◌, ◌<◌, ◌≤◌, Bool, true, false, nat_cmp, List, [], ◌∷◌, ◌++◌, append-nil, map, Option, Some, None, Result, Ok, Err, ℤ, pos, negsuc, ◌+ℤ◌, ◌≤ℤ◌, ◌<ℤ◌, to_z, w64, refl, sym, ap, ◌∙◌, subst, inl, inr, arith}
 use Rattle.std.specs.Prelude.{if◌then◌else◌, ◌==◌}
-use Rattle.std.specs.Ordering.{int_eq, eq_by_cmp}
-use Rattle.std.specs.Cmp.{nat_cmp_total}
-use Rattle.std.specs.FinMap.{FinMap, nat_cmp-IsAntisymmetric}
+use Rattle.std.specs.Ordering.{int_eq}
+use Rattle.std.specs.FinMap.{FinMap}
 use Rattle.std.proofs.lemmas.Bool.{eqb-true, eq-eqb}
 use Rattle.std.proofs.lemmas.Bool.Decides.{Decides-int_eq}
 use Rattle.std.proofs.lemmas.Int.{ints, to_z_pos}
@@ -29,7 +28,7 @@ use Rattle.esr_formats.specs.Infos.{info_of_code, info_kind}
 use Rattle.esr_formats.specs.Roots.{root_of}
 use Rattle.esr_formats.specs.Clusters.{count_of, cluster_of, op_of}
 use Rattle.esr_progress.specs.Plan.{Plan, Seat, seat_of, IsPlanOf}
-use Rattle.esr_desk.specs.Conditions.{CanRaise, CanSettle, CanDrop}
+use Rattle.esr_desk.specs.Conditions.{CanRaise, IsUnpruned, CanSettle, CanDrop}
 use Rattle.esr_desk.specs.Refusals.{refusal_of}
 use Rattle.esr_desk.specs.Taken.{LeftBy, HasRaised, IsSettled, HasEndedAs}
 use Rattle.esr_desk.specs.declared.refusal.StepRefusal.{StepRefusal}
@@ -37,10 +36,10 @@ use Rattle.esr_desk.specs.declared.refusal.StepRefusal.TheVariants as steps
 use Rattle.esr_desk.specs.declared.refusal.EntryRefusal.TheVariants as code
 use Rattle.esr_desk.specs.Start.{Start, formats_of, world_of, or_no_ticket, ticket_of}
 use Rattle.esr_repo.specs.Next.{Added, Did}
-use Rattle.esr_repo.specs.Repo.{NoDeleting, AreListed, HasInfos}
+use Rattle.esr_repo.specs.Repo.{AreListed, HasInfos}
 use Rattle.esr_repo.specs.May.{swapped_world, IsMadeInfo, MaySwap, MayRefuse}
 use Rattle.esr_repo.specs.Grown.{out_is, put_there, added_ticket, changed_ticket}
-use Rattle.esr_repo.proofs.InfosStay.{IsPlain, HasSettled, infos_stay, root_step, works_step, infos_settled, listed_settled, of_ticket, final_info, info_apart}
+use Rattle.esr_repo.proofs.InfosStay.{IsPlain, HasSettled, infos_stay, root_step, works_step, none_step, infos_settled, listed_settled, of_ticket, final_info, info_apart}
 use Rattle.esr_repo.proofs.Repos.{infos_aside}
 use Rattle.esr_repo.proofs.Stepping.{next_given, added_from}
 
@@ -55,7 +54,7 @@ infos_swapped s log who step tracked plain old h =
     let root = root_step (formats_of s) w m tracked plain in
     subst (HasInfos s (record (swapped_world s log who step) { blobs = w.blobs })) (sym (append-nil old))
     (record {
-      are = infos_stay (formats_of s) w (record (swapped_world s log who step) { blobs = w.blobs }) s.tells old root (works_step (formats_of s) w m tracked plain) (λ told name bytes at. at) h.are;
+      are = infos_stay (formats_of s) w (record (swapped_world s log who step) { blobs = w.blobs }) s.tells old root (works_step (formats_of s) w m tracked plain) (none_step (formats_of s) w m tracked plain) (λ told i has bytes at. at) h.are;
       listed = subst (λ (r : RootData). AreListed r old) (sym root) h.listed;
     })
 
@@ -69,22 +68,22 @@ IsFinal t = (info : SnapInfo) × (results : List ShardResult) × (made : Shelved
 none_some : (b : Swap) → None ≡ Some b → ⊥
 none_some b q = cc
 
--- a swap is that of a finalization
-final_work : (f : Formats) (w : World) (k : ℕ) (t : Ticket) (change : Swap) → NoDeleting w → fin.get w.tickets k ≡ Some t → swap f t ≡ Some change → IsFinal t
-final_work f w k t change no_deleting there is = go t.work refl is
+-- a swap of no delete is that of a finalization
+final_work : (f : Formats) (t : Ticket) (change : Swap) → IsUnpruned t → swap f t ≡ Some change → IsFinal t
+final_work f t change unpruned is = go t.work refl is
   where
     go : (work : Work) → t.work ≡ work → swap_of f work t.root ≡ Some change → IsFinal t
     go (Finalize info results made) same e = (info, results, made, same)
-    go (Deleting uuids plan) same e = absurd (no_deleting k t uuids plan there same)
+    go (Deleting uuids plan) same e = absurd (unpruned uuids plan same)
     go (Shard index number) same e = absurd (none_some change e)
     go Drop same e = absurd (none_some change e)
 
 -- its op is there, with its shards done
-pub info_there : (s : Start) (log : List Moment) (k : ℕ) (root : RootData) (seat : Seat) (plan : Plan) → Tracked (world_of s log) → NoDeleting (world_of s log) → CanSettle s (ticket_of s log k) root → (ticket_of s log k).term ≡ (world_of s log).term
+pub info_there : (s : Start) (log : List Moment) (k : ℕ) (root : RootData) (seat : Seat) (plan : Plan) → Tracked (world_of s log) → IsUnpruned (ticket_of s log k) → CanSettle s (ticket_of s log k) root → (ticket_of s log k).term ≡ (world_of s log).term
     → seat ≡ seat_of (ticket_of s log k) → IsPlanOf (world_of s log) plan → ((x : Op) (results : List ShardResult) → fin.get plan.ops seat.op ≡ Some x → AllDone x.shards results → ⊥) → ⊥
-info_there s log k root seat plan tracked no_deleting can present seat_is plan_is none =
+info_there s log k root seat plan tracked unpruned can present seat_is plan_is none =
     let there = (out_is s log k can.put.out).there in
-    let final = final_work (formats_of s) (world_of s log) k (ticket_of s log k) can.change no_deleting there can.is in
+    let final = final_work (formats_of s) (ticket_of s log k) can.change unpruned can.is in
     let law = tracked.finals k (ticket_of s log k) final.0 final.1 final.2 there can.put.out can.put.unsettled present final.3 in
     none law.op final.1 (ap (λ (m : FinMap nat_cmp Op). fin.get m seat.op) plan_is.ops ∙ ap (λ (x : Seat). fin.get (world_of s log).ops x.op) seat_is ∙ law.op_there) law.done
 
@@ -107,7 +106,7 @@ infos_more s log k root info made tracked can present final old h =
     })
   where
     settled_aside : (f : Formats) (w v : World) (k : ℕ) (i : Info) (blobs : Blobs) → HasSettled f w v k i → HasSettled f w (record v { blobs = blobs }) k i
-    settled_aside f w v k i blobs h = record { t = h.t; out = h.out; unsettled = h.unsettled; present = h.present; info = h.info; results = h.results; made = h.made; work = h.work; root = h.root; works = h.works; code = h.code; apart = h.apart; back = h.back }
+    settled_aside f w v k i blobs h = record { t = h.t; out = h.out; unsettled = h.unsettled; present = h.present; info = h.info; results = h.results; made = h.made; work = h.work; root = h.root; works = h.works; none = h.none; code = h.code; apart = h.apart; back = h.back }
 
 -- ---- a raise
 
@@ -126,7 +125,7 @@ raising s log k can = record { t = ticket_of s log k; out = out_is s log k can.o
 
 pub may_raise : (s : Start) (log : List Moment) (k n : ℕ) (cluster : Record) (plan p : Plan) (next : ℕ) → Tracked (world_of s log) → CanRaise s (ticket_of s log k) → (ticket_of s log k).term ≡ (world_of s log).term → n ≡ (world_of s log).pending → n < 2 ^ 63
     → cluster_of cluster ≡ record_of (raised (world_of s log) k) → IsPlanOf (world_of s log) plan → ((w : World) → IsPlanOf w plan → w.pending ≡ n → IsPlanOf (raised w k) p) → next ≡ (world_of s log).next_id
-    → MaySwap s log k RaiseStep (RaisedTo n) cluster None None (Some p) next
+    → MaySwap s log k RaiseStep (RaisedTo n) cluster None None None (Some p) next
 may_raise s log k n cluster plan p next tracked can present n_is room cluster_is plan_is goes next_is = record {
   swaps = refl;
   answers = refl;
@@ -214,18 +213,6 @@ raise_left s old new k (Err (steps.Refused x)) can did = added_ticket s old new 
 
 -- ---- the record of a list of ops
 
--- nothing is taken from a map that has nothing
-removed_none : {X : Type 0} (m : FinMap nat_cmp X) (k : ℕ) → m ≡ fin.empty → fin.remove m k ≡ fin.empty
-removed_none m k e = fin.same_map nat_cmp_total nat_cmp-IsAntisymmetric (fin.remove m k) fin.empty (λ q.
-    fin.get-remove nat_cmp_total m k q
-    ∙ ap (λ v. cond (eq_by_cmp nat_cmp q k) None v) (ap (λ n. fin.get n q) e ∙ fin.get-empty nat_cmp q)
-    ∙ same_either (eq_by_cmp nat_cmp q k) None
-    ∙ sym (fin.get-empty nat_cmp q))
-  where
-    same_either : {A : Type 0} (b : Bool) (x : A) → cond b x x ≡ x
-    same_either true x = refl
-    same_either false x = refl
-
 -- a record with the generations and the term of the world, and the ops of its plan
 pub cluster_from : (w : World) (c : Record) (p : Plan) → IsPlanOf w p → (cluster_of c).ledger ≡ ledger_of w → map op_of c.ops ≡ record_ops p.ops p.deletes → cluster_of c ≡ record_of w
 cluster_from w c p plan ledger ops =
@@ -301,7 +288,7 @@ settled_is f w k t change n there is raised = ap (settled_of f w k) there ∙ ap
 abbrev may_settle : (s : Start) (log : List Moment) (k : ℕ) (root : RootData) (can : CanSettle s (ticket_of s log k) root) → MaySettle (formats_of s) (world_of s log) k can.n (ticket_of s log k) can.change
 may_settle s log k root can = record { out = out_is s log k can.put.out; is = can.is; unsettled = can.put.unsettled; raised = can.put.raised; written = can.put.written; ready = can.ready; tried = can.tried }
 
--- the list of ops after it, which has no delete
+-- the list of ops after it
 settled_plan : (s : Start) (log : List Moment) (k : ℕ) (root : RootData) (plan p : Plan) → CanSettle s (ticket_of s log k) root → IsPlanOf (world_of s log) plan
     → ((f : Formats) (w : World) (t : Ticket) (c : Swap) (n : ℕ) → IsPlanOf w plan → fin.get w.tickets k ≡ Some t → swap f t ≡ Some c → t.raised ≡ Some n → IsPlanOf (settled_of f w k (Some t)) p)
     → IsPlanOf (settled_of (formats_of s) (world_of s log) k (fin.get (world_of s log).tickets k)) p
@@ -309,22 +296,14 @@ settled_plan s log k root plan p can plan_is goes =
     let there = (out_is s log k can.put.out).there in
     subst (λ (o : Option Ticket). IsPlanOf (settled_of (formats_of s) (world_of s log) k o) p) (sym there) (goes (formats_of s) (world_of s log) (ticket_of s log k) can.change can.n plan_is there can.is can.put.raised)
 
-pub settled_deletes : (s : Start) (log : List Moment) (k : ℕ) (root : RootData) (plan p : Plan) → CanSettle s (ticket_of s log k) root → IsPlanOf (world_of s log) plan → (world_of s log).deletes ≡ fin.empty
-    → ((f : Formats) (w : World) (t : Ticket) (c : Swap) (n : ℕ) → IsPlanOf w plan → fin.get w.tickets k ≡ Some t → swap f t ≡ Some c → t.raised ≡ Some n → IsPlanOf (settled_of f w k (Some t)) p)
-    → p.deletes ≡ fin.empty
-settled_deletes s log k root plan p can plan_is none goes =
-    (settled_plan s log k root plan p can plan_is goes).deletes
-    ∙ ap (λ (w : World). w.deletes) (settled_is (formats_of s) (world_of s log) k (ticket_of s log k) can.change can.n (out_is s log k can.put.out).there can.is can.put.raised)
-    ∙ removed_none (world_of s log).deletes (ticket_of s log k).op none
-
-pub may_swap_settle : (s : Start) (log : List Moment) (k : ℕ) (root : Root) (info : Info) (cluster : Record) (plan p : Plan) (next : ℕ) → IsMadeInfo s log k info → Tracked (world_of s log) → NoDeleting (world_of s log) → CanSettle s (ticket_of s log k) (root_of root) → (ticket_of s log k).term ≡ (world_of s log).term
+pub may_swap_settle : (s : Start) (log : List Moment) (k : ℕ) (root : Root) (info : Info) (cluster : Record) (plan p : Plan) (next : ℕ) → IsMadeInfo s log k info → Tracked (world_of s log) → IsUnpruned (ticket_of s log k) → CanSettle s (ticket_of s log k) (root_of root) → (ticket_of s log k).term ≡ (world_of s log).term
     → IsPlanOf (world_of s log) plan → ((f : Formats) (w : World) (t : Ticket) (c : Swap) (n : ℕ) → IsPlanOf w plan → fin.get w.tickets k ≡ Some t → swap f t ≡ Some c → t.raised ≡ Some n → IsPlanOf (settled_of f w k (Some t)) p)
     → ((n : ℕ) → (ticket_of s log k).raised ≡ Some n → (cluster_of cluster).ledger ≡ record { safe = suc n; pending = (world_of s log).pending; term = (world_of s log).term }) → map op_of cluster.ops ≡ record_ops p.ops p.deletes → next ≡ (world_of s log).next_id
-    → MaySwap s log k SettleStep WasSettled cluster (Some root) (Some info) (Some p) next
-may_swap_settle s log k root info cluster plan p next made tracked no_deleting can present plan_is goes ledger ops next_is =
+    → MaySwap s log k SettleStep WasSettled cluster (Some root) None (Some info) (Some p) next
+may_swap_settle s log k root info cluster plan p next made tracked unpruned can present plan_is goes ledger ops next_is =
     let there = (out_is s log k can.put.out).there in
     let is = settled_is (formats_of s) (world_of s log) k (ticket_of s log k) can.change can.n there can.is can.put.raised in
-    let final = final_work (formats_of s) (world_of s log) k (ticket_of s log k) can.change no_deleting there can.is in
+    let final = final_work (formats_of s) (ticket_of s log k) can.change unpruned can.is in
     let new = settled_plan s log k (root_of root) plan p can plan_is goes in
     record {
       swaps = refl;
@@ -380,14 +359,10 @@ dropped_world w k t = record w { ops = fin.remove w.ops t.op; deletes = fin.remo
 dropped_is : (w : World) (k : ℕ) (t : Ticket) → fin.get w.tickets k ≡ Some t → dropped_of w k (fin.get w.tickets k) ≡ dropped_world w k t
 dropped_is w k t there = ap (dropped_of w k) there
 
-pub dropped_deletes : (s : Start) (log : List Moment) (k : ℕ) (plan p : Plan) → CanDrop (ticket_of s log k) → IsPlanOf (world_of s log) plan → (world_of s log).deletes ≡ fin.empty → ((w : World) → IsPlanOf w plan → IsPlanOf (dropped_of w k (fin.get w.tickets k)) p) → p.deletes ≡ fin.empty
-dropped_deletes s log k plan p can plan_is none goes =
-    (goes (world_of s log) plan_is).deletes ∙ ap (λ (w : World). w.deletes) (dropped_is (world_of s log) k (ticket_of s log k) (out_is s log k can.out).there) ∙ removed_none (world_of s log).deletes (ticket_of s log k).op none
-
 pub may_swap_drop : (s : Start) (log : List Moment) (k : ℕ) (cluster : Record) (plan p : Plan) (next : ℕ) → Tracked (world_of s log) → CanDrop (ticket_of s log k) → (ticket_of s log k).term ≡ (world_of s log).term
     → IsPlanOf (world_of s log) plan → ((w : World) → IsPlanOf w plan → IsPlanOf (dropped_of w k (fin.get w.tickets k)) p)
     → (cluster_of cluster).ledger ≡ ledger_of (world_of s log) → map op_of cluster.ops ≡ record_ops p.ops p.deletes → next ≡ (world_of s log).next_id
-    → MaySwap s log k DroppedStep HasEnded cluster None None (Some p) next
+    → MaySwap s log k DroppedStep HasEnded cluster None None None (Some p) next
 may_swap_drop s log k cluster plan p next tracked can present plan_is goes ledger ops next_is =
     let out = out_is s log k can.out in
     let is = dropped_is (world_of s log) k (ticket_of s log k) out.there in

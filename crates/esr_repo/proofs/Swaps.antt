@@ -1,7 +1,7 @@
 -- Entries of steps that swap the cluster record.
-use Rattle.std.proofs.Common.{◌≡◌, ◌⊎◌, ℕ, ◌≤◌, Bool, true, false, List, [], ◌∷◌, ◌++◌, Option, Some, None, Ok, Err, refl, sym, ap, ◌∙◌, subst, inl, inr, nat_cmp, Ordering, Less, Equal, Greater, is_eq, true≢false}
+use Rattle.std.proofs.Common.{◌≡◌, ◌⊎◌, ℕ, ◌≤◌, Bool, true, false, List, [], ◌∷◌, Option, Some, None, Ok, Err, refl, sym, ap, ◌∙◌, subst, inl, inr, nat_cmp, Ordering, Less, Equal, Greater, is_eq, true≢false}
 use Rattle.std.specs.Prelude.{option_map, if◌then◌else◌}
-use Rattle.std.specs.Option.{unwrap_or, option_to_list}
+use Rattle.std.specs.Option.{unwrap_or}
 use Rattle.std.specs.Cmp.{eq_by_cmp_equiv}
 use Rattle.std.specs.Cmp.Lexicographic.{slice_cmp, nat_list_cmp_total}
 use Rattle.std.specs.FinMap.{nat_cmp-IsAntisymmetric, slice_cmp-IsAntisymmetric}
@@ -10,9 +10,9 @@ use Rattle.esr_model.specs.Values.{Bytes, ReadsBack, Formats}
 use Rattle.esr_model.specs.Uploads.{same_bytes}
 use Rattle.esr_model.specs.Image.{Image}
 use Rattle.esr_core.specs.World.{World, Ticket, Swap, swap, record_of}
-use Rattle.esr_core.specs.Entry.{Snapshot, Clone, DeleteSnapshots, Cleanup, Step, AskStep, RaiseStep, SettleStep, DroppedStep, ElectStep, Reply, HasEnded, Refused, DepotFault, Entry, Moment}
-use Rattle.esr_core.specs.After.{with_given, done_step, swaps_record, text_is, has_text, settled_by, settled_of, dropped_of, fallen, faulted, answered, blobs_in, after}
-use Rattle.esr_core.specs.Allowed.{Accepts, Raises, Allows, SameBlobs, Told, Allowed}
+use Rattle.esr_core.specs.Entry.{Snapshot, Clone, DeleteSnapshots, Cleanup, Step, AskStep, RaiseStep, SettleStep, DroppedStep, ElectStep, Prune, SettlePruned, PruneStep, Reply, HasEnded, Refused, DepotFault, Entry, Moment}
+use Rattle.esr_core.specs.After.{with_given, done_step, swaps_record, text_is, has_text, settled_by, settled_of, dropped_of, delete_settled_by, delete_settled, fallen, faulted, answered, blobs_in, after}
+use Rattle.esr_core.specs.Allowed.{Accepts, Raises, PruneAllows, SettlingDelete, SettleDeleteFails, Allows, SameBlobs, Told, Allowed}
 use Rattle.esr_core.specs.Allowed as allowed
 use Rattle.esr_core.specs.Left.{Leaves}
 use Rattle.esr_root.specs.Root.{Root}
@@ -30,7 +30,7 @@ use Rattle.esr_progress.specs.Plan.{Plan, IsPlanOf}
 use Rattle.esr_desk.specs.Start.{Start, formats_of, world_of}
 use Rattle.esr_repo.specs.Log.{image_of, asks_container, calls}
 use Rattle.esr_repo.specs.Repo.{Kept, TellsSo, HasInfos, IsSteady}
-use Rattle.esr_repo.specs.May.{CanTell, Same, is_refused, swapped_world, MaySwap}
+use Rattle.esr_repo.specs.May.{CanTell, Same, is_refused, swapped_world, infos_after, MaySwap}
 use Rattle.esr_repo.proofs.Logs.{goes_passed, image_now}
 use Rattle.esr_repo.proofs.Repos.{cluster_is, plan_aside, infos_aside, blobs_same, kept_now, steady_now, can_tell, text_same, added_repo}
 use Rattle.esr_repo.proofs.BlobCalls.{Before, Pushed, IsCall, Made, more_is, made, failed_is, held_of, told_of}
@@ -49,6 +49,7 @@ swap_asks RaiseStep h = refl
 swap_asks SettleStep h = refl
 swap_asks DroppedStep h = refl
 swap_asks ElectStep h = refl
+swap_asks (PruneStep SettlePruned) h = refl
 swap_asks step h = absurd (true≢false (sym h))
 
 -- it calls the container
@@ -66,6 +67,7 @@ module _ (f : Formats) (w : World) (who : ℕ) where
   done_is SettleStep reply image h = refl
   done_is DroppedStep reply image h = refl
   done_is ElectStep reply image h = refl
+  done_is (PruneStep SettlePruned) reply image h = refl
   done_is step reply image h = absurd (true≢false (sym h))
 
   -- it leads to one world, whatever it answers
@@ -83,6 +85,7 @@ module _ (f : Formats) (w : World) (who : ℕ) where
   faulted_is SettleStep image h = refl
   faulted_is DroppedStep image h = refl
   faulted_is ElectStep image h = refl
+  faulted_is (PruneStep SettlePruned) image h = refl
   faulted_is step image h = absurd (true≢false (sym h))
 
   given_live : (g : Ticket → Ticket) (o : Option Ticket) → (with_given w who g o).deposed ≡ w.deposed
@@ -98,6 +101,15 @@ module _ (f : Formats) (w : World) (who : ℕ) where
   settled_live None = refl
   settled_live (Some t) = settled_live_by t (swap f t) t.raised
 
+  delete_settled_live_by : (t : Ticket) (change : Option Swap) (n : Option ℕ) → (delete_settled_by f w who t change n).deposed ≡ w.deposed
+  delete_settled_live_by t (Some x) (Some n) = refl
+  delete_settled_live_by t (Some x) None = refl
+  delete_settled_live_by t None n = refl
+
+  delete_settled_live : (o : Option Ticket) → (delete_settled f w who o).deposed ≡ w.deposed
+  delete_settled_live None = refl
+  delete_settled_live (Some t) = delete_settled_live_by t (swap f t) t.raised
+
   dropped_live : (o : Option Ticket) → (dropped_of w who o).deposed ≡ w.deposed
   dropped_live None = refl
   dropped_live (Some t) = refl
@@ -111,9 +123,15 @@ module _ (f : Formats) (w : World) (who : ℕ) where
   swapped_live SettleStep h = settled_live (fin.get w.tickets who)
   swapped_live DroppedStep h = dropped_live (fin.get w.tickets who)
   swapped_live ElectStep h = refl
+  swapped_live (PruneStep SettlePruned) h = delete_settled_live (fin.get w.tickets who)
   swapped_live step h = absurd (true≢false (sym h))
 
 -- where it may be answered it may fail
+prune_may_fail : {f : Formats} {w : World} {who : ℕ} {prune : Prune} {reply : Reply} {image : Option Image} → PruneAllows f w who prune reply image → swaps_record (PruneStep prune) ≡ true → is_refused reply ≡ false
+    → (left : Option Image) → SameBlobs w left → PruneAllows f w who prune (Refused DepotFault) left
+prune_may_fail (SettlingDelete k im s present same) h a left is = SettleDeleteFails k left s present is
+prune_may_fail other h a left is = absurd cc
+
 may_fail : {f : Formats} {part_size : ℕ} {w : World} {who : ℕ} {step : Step} {reply : Reply} {image : Option Image} → Allows f part_size w who step reply image → swaps_record step ≡ true → is_refused reply ≡ false
     → (left : Option Image) → SameBlobs w left → Allows f part_size w who step (Refused DepotFault) left
 may_fail {f} {part_size} {w} (allowed.Accepting name indices moment o im acc same) h a left is = allowed.AskFails name indices moment left (subst (λ n. Accepts f w name indices moment n) acc.number acc) is
@@ -121,6 +139,7 @@ may_fail {f} {part_size} {w} (allowed.Raising k n im r same) h a left is = allow
 may_fail (allowed.Settling k im r same) h a left is = allowed.SettleFails k left r is
 may_fail (allowed.Dropping k im r same) h a left is = allowed.DropFails k left r is
 may_fail (allowed.Electing im room same) h a left is = allowed.ElectFails left room is
+may_fail (allowed.Pruning k prune reply im p) h a left is = allowed.Pruning k prune (Refused DepotFault) left (prune_may_fail p h a left is)
 may_fail other h a left is = absurd cc
 
 -- ---- the image
@@ -188,17 +207,17 @@ back_either up w true p q = p
 back_either up w false p q = q
 
 -- what is kept after a swap that was answered
-pub record Renews (k : Kept) (cluster : Record) (root : Option Root) (info : Option Info) (plan : Option Plan) (next : ℕ) (k' : Kept) : Type 0 where
+pub record Renews (k : Kept) (cluster : Record) (root : Option Root) (left : Option (List Info)) (info : Option Info) (plan : Option Plan) (next : ℕ) (k' : Kept) : Type 0 where
   pub cluster_new : k'.cluster ≡ cluster
   pub root_new : k'.root ≡ unwrap_or root k.root
-  pub infos_new : k'.infos ≡ k.infos ++ option_to_list info
+  pub infos_new : k'.infos ≡ infos_after left info k.infos
   pub plan_new : k'.plan ≡ unwrap_or plan k.plan
   pub next_new : k'.next ≡ next
 
 -- ---- the call
 
 module _ {old : Look} {s : Start} {clock : ℕ} {es : List Entry} {k : Kept} {d : Option ℕ} {seen : List Moment} (b : Before old s clock es k d seen) (new : Look)
-    (who : ℕ) (step : Step) (reply : Reply) (cluster : Record) (root : Option Root) (info : Option Info) (plan : Option Plan) (next : ℕ) (m : MaySwap s seen who step reply cluster root info plan next)
+    (who : ℕ) (step : Step) (reply : Reply) (cluster : Record) (root : Option Root) (left : Option (List Info)) (info : Option Info) (plan : Option Plan) (next : ℕ) (m : MaySwap s seen who step reply cluster root left info plan next)
     (text : Bytes) (text_of : text ≡ cluster_kind.text (cluster_of cluster)) (back : ReadsBack cluster_kind (cluster_of cluster)) where
   steady : IsSteady s seen old
   steady = steady_now old s clock es k d seen b.repo b.view
@@ -313,7 +332,7 @@ module _ {old : Look} {s : Start} {clock : ℕ} {es : List Entry} {k : Kept} {d 
         left = swap_since reply (c.passed refl);
       }
 
-  pub swap_ok : (x : Unit {0}) → Called old new (λ _. Swapped text) (SwapMay text) (Ok x) → (mid es' : List Entry) → Pushed es mid es' ok_entry → (k' : Kept) → Renews k cluster root info plan next k' → Made old new s clock es es' k' d seen ok_entry
+  pub swap_ok : (x : Unit {0}) → Called old new (λ _. Swapped text) (SwapMay text) (Ok x) → (mid es' : List Entry) → Pushed es mid es' ok_entry → (k' : Kept) → Renews k cluster root left info plan next k' → Made old new s clock es es' k' d seen ok_entry
   swap_ok x c mid es' p k' new_one =
       let more = more_is es mid es' ok_entry p in
       let kept = kept_now old s clock es k d seen b.repo b.view b.live in
@@ -331,7 +350,7 @@ module _ {old : Look} {s : Start} {clock : ℕ} {es : List Entry} {k : Kept} {d 
           next = new_one.next_new ∙ m.next_is ∙ ap (λ (y : World). y.next_id) (sym ok_world);
         },
         subst (HasInfos s (after (formats_of s) was ok_moment)) (sym new_one.infos_new)
-            (infos_aside s (record up { blobs = was.blobs }) (after (formats_of s) was ok_moment) (k.infos ++ option_to_list info)
+            (infos_aside s (record up { blobs = was.blobs }) (after (formats_of s) was ok_moment) (infos_after left info k.infos)
             (ap (λ (y : World). y.root) ok_world) (ap (λ (y : World). y.tickets) ok_world) (blobs_same was (image_now new) (told_blobs (now new) (swapping_new (now old) (now new) text c.done)))
             (m.infos_are k.infos kept.2)),
       ))

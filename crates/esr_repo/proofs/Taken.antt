@@ -2,16 +2,18 @@
 use Rattle.std.proofs.Common.{◌≡◌, ℕ, Bool, true, false, ◌&&◌, List, [], ◌∷◌, map, Option, Some, None, option_map, refl, sym, ap, ◌∙◌, subst, inl, inr}
 use Rattle.std.specs.Prelude.{if◌then◌else◌, ◌==◌}
 use Rattle.std.proofs.lemmas.Bool.{eqb-true}
+use Rattle.std.specs.Ordering.{nat_cmp}
+use Rattle.std.specs.FinMap.{FinMap}
 use Rattle.std.specs.FinMap as fin
 use Rattle.esr_model.specs.Finalize.{finalized_root}
 use Rattle.esr_model.specs.Values.{Bytes, Has, IndexRef, RootData, SnapInfo, ShardResult, ReadsBack, Formats}
-use Rattle.esr_core.specs.World.{World, Op, ShardWork, Done, AllDone, Shard, Finalize, Drop, Ticket, RestoreShard, Restoring, Reader, info_of, shelved_of}
+use Rattle.esr_core.specs.World.{World, Op, Deletion, ShardWork, Done, AllDone, Work as UnitWork, Shard, Finalize, Deleting, Drop, Ticket, RestoreShard, Restoring, Reader, info_of, shelved_of}
 use Rattle.esr_core.specs.Entry.{Given, GivenShard, GivenFinalize, GivenDrop, GivenRestore, TakeStep, Gave, NothingReady, Moment}
 use Rattle.esr_core.specs.Ready.{ReadyFinalize, AnyReady}
 use Rattle.esr_core.specs.Restores.{restore_shard, reader_of as restore_reader}
 use Rattle.esr_core.specs.Steps.{shard_ticket, final_ticket}
 use Rattle.esr_core.specs.After.{shard_of, taken_shard, taken_restore_shard, taken_restore, taken_by}
-use Rattle.esr_core.specs.Allowed.{Gives, Giving, GivingNothing}
+use Rattle.esr_core.specs.Allowed.{NoCleanup, Gives, Giving, GivingNothing}
 use Rattle.esr_core.specs.Tracked.{Tracked}
 use Rattle.esr_core.specs.Turns.{plain_ticket}
 use Rattle.esr_root.specs.Root.{Root}
@@ -46,12 +48,17 @@ may_note_nothing s log next none next_is = record { plain = refl; allows = λ im
 pub given_in : (w : World) (plan : Plan) (root : Root) (safe term : ℕ) → IsPlanOf w plan → root_of root ≡ w.root → safe ≡ w.safe → term ≡ w.term → IsGivenIn plan (root_of root) safe term w
 given_in w plan root safe term plan_is root_is safe_is term_is = record { plan = plan_is; root_is = sym root_is; safe_is = sym safe_is; term_is = sym term_is }
 
+-- the list of a world without a cleanup has none
+pub none_cleans : (w : World) (plan : Plan) → NoCleanup w → IsPlanOf w plan → (d : ℕ) (x : Deletion) → fin.get plan.deletes d ≡ Some x → x.clean ≡ false
+none_cleans w plan none plan_is d x there = none d x (ap (λ (m : FinMap nat_cmp Deletion). fin.get m d) (sym plan_is.deletes) ∙ there)
+
 -- of what is given the base tells only of a shard
 given_based : (w : World) (o : ℕ) (work : Work) (copy : Copied) → GivesWork w o work copy → given_by work (record copy { base = base_for work copy.base }) ≡ given_by work copy
 given_based w o (works.Shard uuid shard index place) copy h = refl
 given_based w o (works.Finalize info shards) copy h = refl
 given_based w o works.Drop copy h = refl
 given_based w o (works.RestoreShard uuid shard index place) copy h = refl
+given_based w o (works.Delete uuids) copy h = refl
 given_based w o work copy h = absurd h
 
 gives_based : (w : World) (o : ℕ) (work : Work) (copy : Copied) → GivesWork w o work copy → GivesWork w o work (record copy { base = base_for work copy.base })
@@ -59,6 +66,7 @@ gives_based w o (works.Shard uuid shard index place) copy h = h
 gives_based w o (works.Finalize info shards) copy h = h
 gives_based w o works.Drop copy h = h
 gives_based w o (works.RestoreShard uuid shard index place) copy h = h
+gives_based w o (works.Delete uuids) copy h = h
 gives_based w o work copy h = absurd h
 
 abbrev Next : World → Plan → ReadyUnit → Type 0
@@ -113,6 +121,7 @@ given_so s w u made gives has = go u.work refl gives.gives
     go (works.Shard uuid shard index place) is h = h.gives
     go works.Drop is h = h
     go (works.RestoreShard uuid shard index place) is h = h.gives
+    go (works.Delete uuids) is h = h
     go (works.Finalize info shards) is h =
         let root = has info shards is in
         let same : root_of root.root ≡ finalized_root w.root (info_of h.0 (map result_of shards)) (map result_of shards) =
@@ -275,9 +284,9 @@ module _ (s : Start) (old new : List Moment) (u : ReadyUnit) (made : Option Root
     out = true;
   }
 
-  drop_is : None ≡ option_map number_of u.copy.base → plain_ticket w u.op Drop ≡ fresh Drop u.op 0 [] [] w.term u.copy
-  drop_is base_is = λ i. record {
-    work = Drop;
+  plain_is : (work : UnitWork) → None ≡ option_map number_of u.copy.base → plain_ticket w u.op work ≡ fresh work u.op 0 [] [] w.term u.copy
+  plain_is work base_is = λ i. record {
+    work = work;
     op = u.op;
     uuid = 0;
     place = [];
@@ -332,7 +341,7 @@ module _ (s : Start) (old new : List Moment) (u : ReadyUnit) (made : Option Root
             ∙ final_is h.0 (info_of_code info) (map result_of shards) h.2 (ap (option_map number_of) (sym base)),
         subst (λ (x : Option Root). NewRoot x (finalized_root (root_of u.copy.root) (info_of_code info) (map result_of shards))) (sym root.made_is) root.is,
       )
-  took_by works.Drop t q is h base t_is q_is = (w.term, t_is ∙ put (plain_ticket w u.op Drop) ∙ drop_is (ap (option_map number_of) (sym base)))
+  took_by works.Drop t q is h base t_is q_is = (w.term, t_is ∙ put (plain_ticket w u.op Drop) ∙ plain_is Drop (ap (option_map number_of) (sym base)))
   took_by (works.RestoreShard uuid shard index place) t q is h base t_is q_is =
       let found = restore_found h.gives.r.shards shard.index.number shard.number h.gives.s h.gives.found in (
         q_is
@@ -342,6 +351,9 @@ module _ (s : Start) (old new : List Moment) (u : ReadyUnit) (made : Option Root
             ∙ reader_is h.gives.r h.gives.s shard.index.number shard.number uuid.number index place found.0 found.1 h.gives.uuid_is h.name_is h.place_is,
         h.few,
       )
+  took_by (works.Delete uuids) t q is h base t_is q_is =
+      let work : UnitWork = Deleting (map number_of uuids) None in
+      (w.term, t_is ∙ put (plain_ticket w u.op work) ∙ plain_is work (ap (option_map number_of) (sym base)))
   took_by work t q is h base t_is q_is = absurd h
 
   pub took : (given : Given) → IsBased u → given ≡ given_of u → Added s old new 0 TakeStep (Gave u.ticket u.op given) → TookUnit s new (record { ready = u; new_root = made })

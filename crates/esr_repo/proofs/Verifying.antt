@@ -177,11 +177,12 @@ fetch_kept_caller left s old mid new name (Err x) e did = refused_caller s mid n
 
 -- ---- remove
 
-pub may_remove_tests : (s : Start) (old log : List Moment) (names : List BlobName) → log ≡ old → ReadTracked (world_of s log) → CanRemove (caller_of s old) names → MayRemove s log names
+pub may_remove_tests : (s : Start) (old log : List Moment) (names : List BlobName) → log ≡ old → ReadTracked (world_of s log) → CanRemove (caller_of s old) names → MayRemove s log 0 (ReadStep (RemoveTests names)) names
 may_remove_tests s old log names e tracked before =
     let can : CanRemove (caller_of s log) names = subst (λ (l : List Moment). CanRemove (caller_of s l) names) (sym e) before in
     let may : MayRemoveTests (world_of s log) names = record { few = can.few; committed = can.committed; doomed = λ name has. tracked.doomed name (can.committed name has) } in
     record {
+      is = refl;
       removes = λ image tells gone. Verifying (RemoveTests names) WasRemoved image (RemovingTests names image may gone);
       fails = λ image tells less. Verifying (RemoveTests names) (Refused DepotFault) image (RemoveTestsFails names image may less);
     }

@@ -24,7 +24,7 @@ use Rattle.esr_desk.specs.Start.{Start, formats_of, world_of, or_no_ticket, tick
 use Rattle.esr_repo.specs.Next.{Did}
 use Rattle.esr_repo.specs.May.{MayBegin, MayReplace, MayFetch, IsNamed}
 use Rattle.esr_repo.specs.May.{MayCommit as StepMayCommit}
-use Rattle.esr_repo.specs.Repo.{NoDeleting}
+use Rattle.esr_repo.specs.Repo.{OwnIndices}
 use Rattle.esr_repo.specs.Calls.{CommitDid, FetchDid}
 use Rattle.esr_repo.specs.Grown.{out_is, added_ticket, changed_ticket}
 use Rattle.esr_repo.proofs.Stepping.{kept_by}
@@ -166,8 +166,8 @@ abbrev CommitsSo : Start → List Moment → ℕ → BlobName → Option Bytes �
 CommitsSo s log k name contents = (bytes : Bytes) × Holds s contents bytes × CanCommit s (ticket_of s log k) name bytes
 
 -- a finalization's metadata may be there already
-refinding : (f : Formats) (w : World) (k : ℕ) (t : Ticket) (name : BlobName) (bytes : Bytes) → NoDeleting w → IsOut w k t → t.settled ≡ false → MayCommit f t name bytes → IsMetadata name → Refinds f w k name
-refinding f w k t name bytes no_deleting out unsettled may meta = go may
+refinding : (f : Formats) (w : World) (k : ℕ) (t : Ticket) (name : BlobName) (bytes : Bytes) → OwnIndices w → IsOut w k t → t.settled ≡ false → MayCommit f t name bytes → IsMetadata name → Refinds f w k name
+refinding f w k t name bytes pruning out unsettled may meta = go may
   where
     no_shard : (n : BlobName) → IsMetaOf meta.0 n → ShardCommits t n → ⊥
     no_shard n (inl e) h = subst (ShardCommits t) e h
@@ -182,6 +182,14 @@ refinding f w k t name bytes no_deleting out unsettled may meta = go may
         differ : (i : ℕ) → Root n ≡ IndexMeta i meta.0 → ⊥
         differ i q = cc
 
+    no_index : (index number generation : ℕ) → IsMetaOf meta.0 (ShardIndex index number generation) → ⊥
+    no_index index number generation (inl e) = cc
+    no_index index number generation (inr (inl e)) = cc
+    no_index index number generation (inr (inr e)) = differ e.0 e.1
+      where
+        differ : (i : ℕ) → ShardIndex index number generation ≡ IndexMeta i meta.0 → ⊥
+        differ i q = cc
+
     some_same : (a b : Swap) → Some a ≡ Some b → a ≡ b
     some_same a b q = cc
 
@@ -192,7 +200,9 @@ refinding f w k t name bytes no_deleting out unsettled may meta = go may
     own change (Finalize info results made) is e h =
         let same : metadata f info ≡ change.own = ap (λ (x : Swap). x.own) (some_same _ change e) in
         record { t = t; out = out; unsettled = unsettled; info = info; results = results; made = made; work = is; bytes = bytes; own = subst (λ (x : List (BlobName × Bytes)). Has x (name, bytes)) (sym same) h }
-    own change (Deleting uuids plan) is e h = absurd (no_deleting k t uuids plan out.there is)
+    own change (Deleting uuids plan) is e h =
+        let it = (pruning k t uuids change out.there (is ∙ ap (Deleting uuids) e)).own name bytes h in
+        absurd (no_index it.0 it.1 it.2 (subst (IsMetaOf meta.0) it.3 meta.1))
     own change (Shard index number) is e h = absurd (none_some change e)
     own change Drop is e h = absurd (none_some change e)
 
@@ -204,20 +214,20 @@ refinding f w k t name bytes no_deleting out unsettled may meta = go may
     go (inl h) = by_swap h.0 h.1 h.2
     go (inr h) = absurd (no_shard name meta.1 h.1)
 
-commit_by : (s : Start) (log : List Moment) (k : ℕ) (name : BlobName) (bytes : Bytes) → NoDeleting (world_of s log) → CanCommit s (ticket_of s log k) name bytes → StepMayCommit s log k (CommitStep name) name bytes
-commit_by s log k name bytes no_deleting can = record {
+commit_by : (s : Start) (log : List Moment) (k : ℕ) (name : BlobName) (bytes : Bytes) → OwnIndices (world_of s log) → CanCommit s (ticket_of s log k) name bytes → StepMayCommit s log k (CommitStep name) name bytes
+commit_by s log k name bytes pruning can = record {
   is = refl;
   stored = can.stored;
   commits = λ named image tells adds. Committing k name image (committable s log k name bytes can named) adds;
-  finds = λ named meta image tells there. Finding k name image (refinding (formats_of s) (world_of s log) k (ticket_of s log k) name bytes no_deleting (out_is s log k can.out) can.unsettled can.may meta) there;
+  finds = λ named meta image tells there. Finding k name image (refinding (formats_of s) (world_of s log) k (ticket_of s log k) name bytes pruning (out_is s log k can.out) can.unsettled can.may meta) there;
   taken = λ named no_meta image tells there. Taken k name image (committable s log k name bytes can named) no_meta there;
   fails = λ named image tells left. CommitFails k name image (committable s log k name bytes can named) left;
 }
 
-pub may_commit : (s : Start) (old log : List Moment) (k : ℕ) (name : BlobName) (contents : Option Bytes) → log ≡ old → NoDeleting (world_of s log) → CommitsSo s old k name contents → (bytes : Bytes) × Holds s contents bytes × StepMayCommit s log k (CommitStep name) name bytes
-may_commit s old log k name contents e no_deleting can =
+pub may_commit : (s : Start) (old log : List Moment) (k : ℕ) (name : BlobName) (contents : Option Bytes) → log ≡ old → OwnIndices (world_of s log) → CommitsSo s old k name contents → (bytes : Bytes) × Holds s contents bytes × StepMayCommit s log k (CommitStep name) name bytes
+may_commit s old log k name contents e pruning can =
     let here : CommitsSo s log k name contents = subst (λ (l : List Moment). CommitsSo s l k name contents) (sym e) can in
-    (here.0, here.1, commit_by s log k name here.0 no_deleting here.2)
+    (here.0, here.1, commit_by s log k name here.0 pruning here.2)
 
 committed : (s : Start) (old new : List Moment) (k : ℕ) (name : BlobName) (contents : Option Bytes) (r : Result Commit StepRefusal) → (ticket_of s old k).out ≡ true → CommitDid s old new k (CommitStep name) name contents r
     → IfOk r (λ c. ticket_of s new k ≡ committed_by name contents c (ticket_of s old k))

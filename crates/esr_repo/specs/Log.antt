@@ -1,7 +1,7 @@
 -- The moments of a history: each entry with the image that its step left. Moments are counted by the container's clock, so none is stored.
 use Rattle.std.specs.Prelude.{ℕ, Bool, true, false, List, [], ◌∷◌, Option, option_map, if◌then◌else◌}
 use Rattle.esr_model.specs.Image.{Image}
-use Rattle.esr_core.specs.Entry.{is_recorded, Read, ReadBlob, RestoredShard, CheckedAll, DrawTest, BeginTest, CommitTest, RemoveTests, VerifiedAll, ReadFails, Step, AskStep, TakeStep, DrawStep, BeginStep, CommitStep, LatestStep, FetchStep, ListStep, RaiseStep, SettleStep, DoneStep, FailedStep, FinishStep, DroppedStep, ElectStep, LookStep, ReadStep, Reply, Refused, NameTaken, DepotFault, Entry, Moment}
+use Rattle.esr_core.specs.Entry.{is_recorded, Read, ReadBlob, RestoredShard, CheckedAll, DrawTest, BeginTest, CommitTest, RemoveTests, VerifiedAll, ReadFails, Prune, FetchShard, PlanShards, SettlePruned, RemoveDoomed, EndDelete, DeleteFails, Step, AskStep, TakeStep, DrawStep, BeginStep, CommitStep, LatestStep, FetchStep, ListStep, RaiseStep, SettleStep, DoneStep, FailedStep, FinishStep, DroppedStep, ElectStep, LookStep, ReadStep, PruneStep, Reply, Refused, NameTaken, DepotFault, Entry, Moment}
 pub use Rattle.esr_opening.specs.Opening.{image_of}
 use Rattle.esr_depot.specs.Look.{Look}
 use Rattle.esr_depot.specs.Calls.{up}
@@ -22,6 +22,15 @@ reads_container (RemoveTests names) = true
 reads_container VerifiedAll = false
 reads_container (ReadFails why) = false
 
+-- and a step of a delete's ticket where it fetches, settles or removes
+abbrev pub prunes_container : Prune → Bool
+prunes_container (FetchShard name) = true
+prunes_container (PlanShards shards) = false
+prunes_container SettlePruned = true
+prunes_container (RemoveDoomed names) = true
+prunes_container EndDelete = false
+prunes_container (DeleteFails why) = false
+
 -- a step that isn't refused calls the container once, or not at all; a command is put into its record, or not
 abbrev pub asks_container : Step → Bool
 asks_container (AskStep command) = is_recorded command
@@ -41,6 +50,7 @@ asks_container DroppedStep = true
 asks_container ElectStep = true
 asks_container LookStep = false
 asks_container (ReadStep read) = reads_container read
+asks_container (PruneStep prune) = prunes_container prune
 
 -- whether the step called the container, by its answer
 abbrev pub calls : Step → Reply → Bool

@@ -7,7 +7,7 @@ use Rattle.esr_model.specs.Names.{BlobName, Latest}
 use Rattle.esr_model.specs.Values.{Bytes, Has, ShardResult, ReadsBack}
 use Rattle.esr_model.specs.Image.{Blobs, Image, Present}
 use Rattle.esr_core.specs.World.{World, Op, AllDone, info_of, record_of}
-use Rattle.esr_core.specs.Entry.{ReadBlob, BeginTest, CommitTest, RemoveTests, WasRemoved, Step, BeginStep, CommitStep, LatestStep, FetchStep, ReadStep, Reply, WasBegun, WasDone, WasThere, WasReplaced, WasFetched, WasAbsent, HasEnded, Refused, DepotFault, NameTaken, Refusal, Moment}
+use Rattle.esr_core.specs.Entry.{ReadBlob, BeginTest, CommitTest, RemoveTests, FetchShard, RemoveDoomed, WasRemoved, Step, BeginStep, CommitStep, LatestStep, FetchStep, ReadStep, PruneStep, Reply, WasBegun, WasDone, WasThere, WasReplaced, WasFetched, WasAbsent, HasEnded, Refused, DepotFault, NameTaken, Refusal, Moment}
 use Rattle.esr_core.specs.Steps.{Removes}
 use Rattle.esr_core.specs.After.{answered, done_step, swaps_record}
 use Rattle.esr_core.specs.Allowed.{Allows, Told, Adds, IsMetadata}
@@ -68,16 +68,21 @@ pub record IsMadeInfo (s : Start) (log : List Moment) (k : ℕ) (info : Info) : 
   pub back : ReadsBack info_kind (info_of_code info)
   pub valid : IsInfo info
 
--- A step that swaps the record. It may fail in the container where it may be answered. Where no root, no info or no plan is
+-- the infos after a swap: those that are left, where they are given, or one more where it is
+abbrev pub infos_after : Option (List Info) → Option Info → List Info → List Info
+infos_after (Some left) info old = left
+infos_after None info old = old ++ option_to_list info
+
+-- A step that swaps the record. It may fail in the container where it may be answered. Where no root, no infos or no plan is
 -- given, those that are kept serve the new world too.
-pub record MaySwap (s : Start) (log : List Moment) (who : ℕ) (step : Step) (reply : Reply) (cluster : Record) (root : Option Root) (info : Option Info) (plan : Option Plan) (next : ℕ) : Type 0 where
+pub record MaySwap (s : Start) (log : List Moment) (who : ℕ) (step : Step) (reply : Reply) (cluster : Record) (root : Option Root) (left : Option (List Info)) (info : Option Info) (plan : Option Plan) (next : ℕ) : Type 0 where
   pub swaps : swaps_record step ≡ true
   pub answers : is_refused reply ≡ false
   pub allows : MayAnswer s log who step reply (Same s log)
   pub cluster_is : cluster_of cluster ≡ record_of (swapped_world s log who step)
   pub root_is : (old : Root) → root_of old ≡ (world_of s log).root → root_of (unwrap_or root old) ≡ (swapped_world s log who step).root
-  -- with this one more they are those of the snapshots that the new root lists
-  pub infos_are : (old : List Info) → HasInfos s (world_of s log) old → HasInfos s (record (swapped_world s log who step) { blobs = (world_of s log).blobs }) (old ++ option_to_list info)
+  -- they are those of the snapshots that the new root lists
+  pub infos_are : (old : List Info) → HasInfos s (world_of s log) old → HasInfos s (record (swapped_world s log who step) { blobs = (world_of s log).blobs }) (infos_after left info old)
   pub plan_is : (old : Plan) → IsPlanOf (world_of s log) old → IsPlanOf (swapped_world s log who step) (unwrap_or plan old)
   pub next_is : next ≡ (swapped_world s log who step).next_id
 
@@ -134,9 +139,10 @@ pub record MayReplace (s : Start) (log : List Moment) (who : ℕ) (bytes : Bytes
 abbrev pub IsFound : Start → List Moment → BlobName → Option Bytes → Blobs → Type 0
 IsFound s log name found blobs = (fin.get (world_of s log).blobs ((formats_of s).names.text name) ≡ found) × Same s log blobs
 
--- the step fetches the blob: of a ticket, or of one that reads
+-- the step fetches the blob: of a ticket, of a delete's, or of one that reads
 abbrev pub IsFetch : Step → BlobName → Type 0
 IsFetch (FetchStep it) name = it ≡ name
+IsFetch (PruneStep (FetchShard it)) name = it ≡ name
 IsFetch (ReadStep (ReadBlob it)) name = it ≡ name
 IsFetch step name = ⊥
 
@@ -155,7 +161,14 @@ IsLess s log names blobs = Removes (formats_of s) (world_of s log).blobs blobs n
 abbrev pub AreGone : Start → List Moment → List BlobName → Blobs → Type 0
 AreGone s log names blobs = IsLess s log names blobs × ((name : BlobName) → Has names name → fin.get blobs ((formats_of s).names.text name) ≡ None)
 
--- who 0 removes these test blobs
-pub record MayRemove (s : Start) (log : List Moment) (names : List BlobName) : Type 0 where
-  pub removes : MayAnswer s log 0 (ReadStep (RemoveTests names)) WasRemoved (AreGone s log names)
-  pub fails : MayAnswer s log 0 (ReadStep (RemoveTests names)) (Refused DepotFault) (IsLess s log names)
+-- the step removes these blobs: test blobs, or what a delete doomed
+abbrev pub IsRemoval : Step → List BlobName → Type 0
+IsRemoval (ReadStep (RemoveTests it)) names = it ≡ names
+IsRemoval (PruneStep (RemoveDoomed it)) names = it ≡ names
+IsRemoval step names = ⊥
+
+-- blobs are removed
+pub record MayRemove (s : Start) (log : List Moment) (who : ℕ) (step : Step) (names : List BlobName) : Type 0 where
+  pub is : IsRemoval step names
+  pub removes : MayAnswer s log who step WasRemoved (AreGone s log names)
+  pub fails : MayAnswer s log who step (Refused DepotFault) (IsLess s log names)

@@ -1,12 +1,17 @@
 -- A container beside the history of its steps, and what is kept of the world that they lead to.
-use Rattle.std.specs.Prelude.{◌≡◌, ℕ, ◌+◌, ◌-◌, ◌^◌, ◌≤◌, Bool, true, false, List, length, Option, Some, None}
+use Rattle.std.specs.Prelude.{◌≡◌, ◌≢◌, ℕ, ◌+◌, ◌-◌, ◌^◌, ◌<◌, ◌≤◌, Bool, true, false, List, length, Option, Some, None}
+use Rattle.std.specs.Ordering.{nat_cmp}
+use Rattle.std.specs.FinMap.{FinMap}
 use Rattle.std.specs.FinMap as fin
-use Rattle.esr_model.specs.Names.{BlobName}
-use Rattle.esr_model.specs.Values.{Has, RootSnap, RootData, ReadsBack}
-use Rattle.esr_core.specs.World.{World, Deleting, Swap, Ticket, Caller, record_of}
+use Rattle.esr_model.specs.Names.{BlobName, ShardIndex}
+use Rattle.esr_model.specs.Values.{Bytes, Has, RootSnap, RootData, ReadsBack}
+use Rattle.esr_model.specs.Shelf.{names_uuid}
+use Rattle.esr_model.specs.Delete.{PrunedShard, deleted_root}
+use Rattle.esr_core.specs.World.{World, Op, Deleting, Swap, Ticket, Caller, record_of}
 use Rattle.esr_core.specs.World as core
 use Rattle.esr_core.specs.Restores.{IsTestOf}
 use Rattle.esr_core.specs.Entry.{Entry, Moment}
+use Rattle.esr_core.specs.Allowed.{NoCleanup}
 use Rattle.esr_core.specs.Tracked.{Tracked}
 use Rattle.esr_core.specs.Ranked.{Ranked}
 use Rattle.esr_core.specs.ReadTracked.{ReadTracked}
@@ -24,9 +29,40 @@ pub record TellsSo (l : Look) (tells : Bool) : Type 0 where
   pub untold : now l ≡ None → tells ≡ false
   pub told : (i : Held) → now l ≡ Some i → tells ≡ true
 
--- no ticket is of a delete or a cleanup
-abbrev pub NoDeleting : World → Type 0
-NoDeleting w = (k : ℕ) (t : Ticket) (uuids : List ℕ) (plan : Option Swap) → fin.get w.tickets k ≡ Some t → t.work ≡ Deleting uuids plan → ⊥
+-- the plan is what a delete makes of some shards of this root: it writes indices of shards alone
+pub record PlannedBy (root : RootData) (uuids : List ℕ) (s : Swap) : Type 0 where
+  pub shards : List PrunedShard
+  pub first : ℕ
+  pub root_is : s.root ≡ deleted_root root uuids shards first
+  pub own : (name : BlobName) (bytes : Bytes) → Has s.own (name, bytes) → (index : ℕ) × (number : ℕ) × (generation : ℕ) × (name ≡ ShardIndex index number generation)
+
+-- so is each plan of a delete, of the root that its ticket copied
+abbrev pub OwnIndices : World → Type 0
+OwnIndices w = (k : ℕ) (t : Ticket) (uuids : List ℕ) (s : Swap) → fin.get w.tickets k ≡ Some t → t.work ≡ Deleting uuids (Some s) → PlannedBy t.root uuids s
+
+-- a delete that has settled took the snapshot of this uuid away
+pub record TookAway (tickets : FinMap nat_cmp Ticket) (uuid : ℕ) : Type 0 where
+  pub k : ℕ
+  pub t : Ticket
+  pub uuids : List ℕ
+  pub plan : Option Swap
+  pub there : fin.get tickets k ≡ Some t
+  pub settled : t.settled ≡ true
+  pub work : t.work ≡ Deleting uuids plan
+  pub snap : RootSnap
+  pub was : Has t.root.snapshots snap
+  pub named : names_uuid uuids snap.uuid ≡ true
+  pub is : snap.uuid ≡ uuid
+
+-- no snapshot of this uuid is listed or open, and none will be
+pub record IsPast (root : RootData) (ops : FinMap nat_cmp Op) (next uuid : ℕ) : Type 0 where
+  pub below : uuid < next
+  pub unlisted : (snap : RootSnap) → Has root.snapshots snap → snap.uuid ≢ uuid
+  pub unopened : (o : ℕ) (op : Op) → fin.get ops o ≡ Some op → op.uuid ≢ uuid
+
+-- what deletes took away is gone for good
+abbrev pub Gone : World → Type 0
+Gone w = (uuid : ℕ) → TookAway w.tickets uuid → IsPast w.root w.ops w.next_id uuid
 
 -- each info is of a snapshot that is listed
 abbrev pub AreListed : RootData → List Info → Type 0
@@ -52,8 +88,9 @@ pub record IsSteady (s : Start) (log : List Moment) (l : Look) : Type 0 where
   pub record_back : ReadsBack cluster_kind (record_of (world_of s log))
   pub tracked : Tracked (world_of s log)
   pub ranked : Ranked (world_of s log)
-  pub no_deletes : (world_of s log).deletes ≡ fin.empty
-  pub no_deleting : NoDeleting (world_of s log)
+  pub no_cleanups : NoCleanup (world_of s log)
+  pub pruning : OwnIndices (world_of s log)
+  pub gone : Gone (world_of s log)
   pub read_tracked : ReadTracked (world_of s log)
   pub tests : AreTests (world_of s log).caller
   pub few_ops : (world_of s log).next_op ≤ s.world.next_op + length log

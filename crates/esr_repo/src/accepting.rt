@@ -130,7 +130,7 @@ impl<D: Depot, K: Told> Repo<D, K> {
         requires live { IsLive K.start self.now }
         requires askable { IsAskable (asked_of command.now) }
         requires room { length self.now < 2 ^ 41 }
-        ensures ok { IfOk result (λ r. MaySwap K.start self.now 0 (AskStep (asked_of command.now)) (Accepted r.0) r.1.cluster r.1.root r.1.info r.1.progress r.1.next.number) }
+        ensures ok { IfOk result (λ r. MaySwap K.start self.now 0 (AskStep (asked_of command.now)) (Accepted r.0) r.1.cluster r.1.root r.1.left r.1.info r.1.progress r.1.next.number) }
         ensures err { IfErr result (λ e. IsRefused (world_of K.start self.now) (name_asked (asked_of command.now)) (asked_of command.now) e) }
     {
         self.rules();
@@ -146,6 +146,7 @@ impl<D: Depot, K: Told> Repo<D, K> {
         let renewed = Renewed {
             cluster,
             root: None,
+            left: None,
             info: None,
             progress: Some(progress),
             next,

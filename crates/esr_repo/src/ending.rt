@@ -14,7 +14,7 @@ ghost use Rattle.esr_progress.specs.Asked.{asked_of, IsAskable};
 ghost use Rattle.esr_desk.specs.Entries.{why_of};
 ghost use Rattle.esr_desk.specs.Start.{Start, ticket_of, told_bytes};
 ghost use Rattle.esr_desk.specs.Outcome.{commit_reply, fetch_reply, take_reply};
-ghost use Rattle.esr_desk.specs.Conditions.{CanDraw, CanCommit, CanPut, CanBegin, Holds, CanFetch, CanRaise, CanSettle, CanEnd, CanFail, CanFinish, CanDrop};
+ghost use Rattle.esr_desk.specs.Conditions.{CanDraw, CanCommit, CanPut, CanBegin, Holds, CanFetch, CanRaise, IsUnpruned, CanSettle, CanEnd, CanFail, CanFinish, CanDrop};
 ghost use Rattle.esr_desk.specs.Taken.{Took, committed_by, begun_by, tried_by, fetched_by, LeftBy, HasRaised, IsSettled, HasEndedAs};
 ghost use Rattle.esr_desk.specs.declared.refusal.StepRefusal.{StepRefusal};
 ghost use Rattle.esr_repo.specs.Next.{Did};
@@ -58,6 +58,7 @@ impl<D: Depot, K: Told> Repo<D, K> {
     /// Makes the root that the ticket committed the safe one.
     pub fn settle(&mut self, alloc: Global, ticket: u64, root: &RootData) -> Result<(), StepRefusal>
         requires may { CanSettle K.start (ticket_of K.start self.old ticket) (root_of root.now) }
+        requires unpruned { IsUnpruned (ticket_of K.start self.old ticket) }
         ensures step { Did K.start self.old self.new ticket SettleStep (λ _. WasSettled) result }
         ensures own { OnOk result (ticket_of K.start self.new ticket
             ≡ record (ticket_of K.start self.old ticket) { settled = true }) }
@@ -139,6 +140,7 @@ impl<D: Depot, K: Told> Repo<D, K> {
         ensures kept { OnErr result (ticket_of K.start self.new ticket ≡ ticket_of K.start self.old ticket) }
     {
         self.check(ticket, Step::Finish)?;
+        self.rules();
         let progress = self.plan().ended(alloc, ticket)?;
         let next = self.next_id();
         self.note(ticket, Step::Finish, Answer::Ended, Some(progress), next)

@@ -1,9 +1,9 @@
 //! What is kept of the world, as the steps read it.
 ghost use Rattle.std.specs.Prelude.{◌≡◌, ◌+◌, ◌^◌, ◌<◌, ◌≤◌, ◌≤ℤ◌, negsuc, ℕ, suc, true, length, MatchOption};
-ghost use Rattle.std.specs.FinMap as fin;
 ghost use Rattle.esr_model.specs.Kept.{first_id};
 ghost use Rattle.esr_model.specs.Values.{ReadsBack};
 ghost use Rattle.esr_core.specs.World.{record_of};
+ghost use Rattle.esr_core.specs.Allowed.{NoCleanup};
 ghost use Rattle.esr_core.specs.Tracked.{Tracked};
 ghost use Rattle.esr_core.specs.Ranked.{Ranked};
 ghost use Rattle.esr_core.specs.ReadTracked.{ReadTracked};
@@ -14,7 +14,7 @@ ghost use Rattle.esr_progress.specs.Plan.{IsPlanOf, seat_of, seat_of_code};
 ghost use Rattle.esr_desk.specs.Numbered.{Numbered};
 ghost use Rattle.esr_desk.specs.Shown.{NeverFailed};
 ghost use Rattle.esr_desk.specs.Start.{world_of, ticket_of};
-ghost use Rattle.esr_repo.specs.Repo.{NoDeleting, AreTests, HasInfos};
+ghost use Rattle.esr_repo.specs.Repo.{OwnIndices, Gone, AreTests, HasInfos};
 ghost use Rattle.esr_repo.specs.Next.{IsLive};
 
 use crate::{Repo, Told};
@@ -30,8 +30,9 @@ impl<D: Depot, K: Told> Repo<D, K> {
     pub(crate) fn rules(&self)
         ensures tracked { Tracked (world_of K.start self.now) }
         ensures ranked { Ranked (world_of K.start self.now) }
-        ensures no_deletes { (world_of K.start self.now).deletes ≡ fin.empty }
-        ensures no_deleting { NoDeleting (world_of K.start self.now) }
+        ensures no_cleanups { NoCleanup (world_of K.start self.now) }
+        ensures pruning { OwnIndices (world_of K.start self.now) }
+        ensures gone { Gone (world_of K.start self.now) }
         ensures read_tracked { ReadTracked (world_of K.start self.now) }
         ensures tests { AreTests (world_of K.start self.now).caller }
         ensures few_ops { length self.now < 2 ^ 41 → (world_of K.start self.now).next_op < 2 ^ 62 }

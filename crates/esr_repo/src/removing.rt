@@ -1,7 +1,7 @@
 //! The step that takes blobs away.
 ghost use Rattle.std.specs.Prelude.{◌≡◌, ◌⊎◌, ◌≤◌, length, map, IfOk, IfErr};
 ghost use Rattle.esr_model.specs.Values.{Has, ReadsBack};
-ghost use Rattle.esr_core.specs.Entry.{ReadStep, RemoveTests, WasRemoved};
+ghost use Rattle.esr_core.specs.Entry.{WasRemoved};
 ghost use Rattle.esr_names.specs.Layout.{IsName};
 ghost use Rattle.esr_formats.specs.Names.{name_of, name_kind};
 ghost use Rattle.esr_desk.specs.Entries.{step_of};
@@ -32,19 +32,19 @@ fn texts_of(alloc: Global, names: &[BlobName]) -> Result<Names, AllocError>
 }
 
 impl<D: Depot, K: Told> Repo<D, K> {
-    /// Blobs are taken away by this step of who 0.
+    /// Blobs are taken away by this step.
     pub(crate) fn call_remove(
         &mut self,
         alloc: Global,
+        who: u64,
         step: Step,
         names: &[BlobName],
     ) -> Result<(), StepRefusal>
         requires live { IsLive K.start self.old }
         requires layout { (name : BlobName) → Has names.now name → IsName name }
         requires few { length names.now ≤ 1000 }
-        requires is { step_of step ≡ ReadStep (RemoveTests (map name_of names.now)) }
-        requires may { MayRemove K.start self.old (map name_of names.now) }
-        ensures step { Did K.start self.old self.new 0 (step_of step) (λ _. WasRemoved) result }
+        requires may { MayRemove K.start self.old who (step_of step) (map name_of names.now) }
+        ensures step { Did K.start self.old self.new who (step_of step) (λ _. WasRemoved) result }
         ensures why { IfErr result (λ e. (e ≡ Memory) ⊎ (e ≡ Refused DepotFault)) }
     {
         Self::laws();
@@ -54,13 +54,12 @@ impl<D: Depot, K: Told> Repo<D, K> {
         }
         match self.depot.remove(&texts) {
             Ok(()) => {
-                let who = 0;
                 let answer = Answer::Removed;
                 self.history.push_reserved(Entry { who, step, answer });
                 Ok(())
             }
             Err(_) => {
-                self.history.push_reserved(faulted(0, step));
+                self.history.push_reserved(faulted(who, step));
                 Err(StepRefusal::Refused(EntryRefusal::DepotFault))
             }
         }

@@ -9,7 +9,7 @@ ghost use Rattle.esr_formats.specs.Roots.{root_of};
 ghost use Rattle.esr_formats.specs.Clusters.{count_of, cluster_of};
 ghost use Rattle.esr_desk.specs.Refusals.{refusal_of};
 ghost use Rattle.esr_desk.specs.Start.{world_of, ticket_of};
-ghost use Rattle.esr_desk.specs.Conditions.{CanRaise, CanSettle, CanDrop};
+ghost use Rattle.esr_desk.specs.Conditions.{CanRaise, IsUnpruned, CanSettle, CanDrop};
 ghost use Rattle.esr_repo.specs.Next.{IsLive};
 ghost use Rattle.esr_repo.specs.May.{MaySwap, IsMadeInfo};
 
@@ -61,13 +61,14 @@ impl<D: Depot, K: Told> Repo<D, K> {
         requires pending { generation ≡ (world_of K.start self.now).pending }
         requires room { generation < 2 ^ 63 }
         requires record { cluster_of cluster ≡ record_of (raised (world_of K.start self.now) ticket) }
-        ensures { IfOk result (λ r. MaySwap K.start self.now ticket RaiseStep (RaisedTo generation) r.cluster r.root r.info r.progress r.next.number) }
+        ensures { IfOk result (λ r. MaySwap K.start self.now ticket RaiseStep (RaisedTo generation) r.cluster r.root r.left r.info r.progress r.next.number) }
     {
         self.rules();
         let progress = self.plan().raised(alloc, ticket, generation)?;
         Ok(Renewed {
             cluster,
             root: None,
+            left: None,
             info: None,
             progress: Some(progress),
             next: self.next_id(),
@@ -75,7 +76,11 @@ impl<D: Depot, K: Told> Repo<D, K> {
     }
 
     /// The cluster record in which the generation that the ticket raised is the safe one.
-    fn settled_record(&self, alloc: Global, ticket: u64) -> Result<ClusterRecord, AllocError>
+    pub(crate) fn settled_record(
+        &self,
+        alloc: Global,
+        ticket: u64,
+    ) -> Result<ClusterRecord, AllocError>
         requires live { IsLive K.start self.now }
         requires may { (root : _) × CanSettle K.start (ticket_of K.start self.now ticket) root }
         requires present { (ticket_of K.start self.now ticket).term ≡ (world_of K.start self.now).term }
@@ -98,6 +103,7 @@ impl<D: Depot, K: Told> Repo<D, K> {
     fn made_info(&self, alloc: Global, ticket: u64) -> Result<SnapInfo, AllocError>
         requires live { IsLive K.start self.now }
         requires may { (root : _) × CanSettle K.start (ticket_of K.start self.now ticket) root }
+        requires unpruned { IsUnpruned (ticket_of K.start self.now ticket) }
         requires present { (ticket_of K.start self.now ticket).term ≡ (world_of K.start self.now).term }
         ensures { IfOk result (λ info. IsMadeInfo K.start self.now ticket info) }
     {
@@ -120,8 +126,9 @@ impl<D: Depot, K: Told> Repo<D, K> {
     ) -> Result<Renewed, AllocError>
         requires live { IsLive K.start self.now }
         requires may { CanSettle K.start (ticket_of K.start self.now ticket) (root_of root.now) }
+        requires unpruned { IsUnpruned (ticket_of K.start self.now ticket) }
         requires present { (ticket_of K.start self.now ticket).term ≡ (world_of K.start self.now).term }
-        ensures { IfOk result (λ r. MaySwap K.start self.now ticket SettleStep WasSettled r.cluster r.root r.info r.progress r.next.number) }
+        ensures { IfOk result (λ r. MaySwap K.start self.now ticket SettleStep WasSettled r.cluster r.root r.left r.info r.progress r.next.number) }
     {
         self.rules();
         let mut cluster = self.settled_record(alloc, ticket)?;
@@ -132,6 +139,7 @@ impl<D: Depot, K: Told> Repo<D, K> {
         Ok(Renewed {
             cluster,
             root: Some(root),
+            left: None,
             info: Some(info),
             progress: Some(progress),
             next: self.next_id(),
@@ -143,7 +151,7 @@ impl<D: Depot, K: Told> Repo<D, K> {
         requires live { IsLive K.start self.now }
         requires may { CanDrop (ticket_of K.start self.now ticket) }
         requires present { (ticket_of K.start self.now ticket).term ≡ (world_of K.start self.now).term }
-        ensures { IfOk result (λ r. MaySwap K.start self.now ticket DroppedStep HasEnded r.cluster r.root r.info r.progress r.next.number) }
+        ensures { IfOk result (λ r. MaySwap K.start self.now ticket DroppedStep HasEnded r.cluster r.root r.left r.info r.progress r.next.number) }
     {
         self.rules();
         let mut cluster = self.record().try_clone(alloc)?;
@@ -152,6 +160,7 @@ impl<D: Depot, K: Told> Repo<D, K> {
         Ok(Renewed {
             cluster,
             root: None,
+            left: None,
             info: None,
             progress: Some(progress),
             next: self.next_id(),

@@ -9,7 +9,7 @@ ghost use Rattle.esr_desk.specs.Entries.{step_of, answer_of};
 ghost use Rattle.esr_desk.specs.declared.refusal.StepRefusal.TheVariants.{Memory, Refused};
 ghost use Rattle.esr_desk.specs.declared.refusal.EntryRefusal.TheVariants.{DepotFault};
 ghost use Rattle.esr_repo.specs.Next.{IsLive, Did};
-ghost use Rattle.esr_repo.specs.May.{MaySwap};
+ghost use Rattle.esr_repo.specs.May.{infos_after, MaySwap};
 
 use crate::steps::renew;
 use crate::{Repo, Told};
@@ -18,17 +18,20 @@ use esr_desk::{Answer, Entry, EntryRefusal, Step, StepRefusal};
 use esr_formats::write_cluster;
 use esr_meta::SnapInfo;
 use esr_names::Id;
+use esr_opening::SnapInfos;
 use esr_progress::Progress;
 use esr_record::ClusterRecord;
 use esr_root::RootData;
 use std::alloc::Global;
 
 /// What a repository keeps after a record swap: the new record, the safe root and the list of ops where they are new, and the
-/// info of the snapshot that the new root lists besides, where there is one.
+/// infos of the snapshots that are left, where some were taken away, or the info of the one that the new root lists besides,
+/// where there is one.
 #[derive(Drop)]
 pub(crate) struct Renewed {
     pub cluster: ClusterRecord,
     pub root: Option<RootData>,
+    pub left: Option<SnapInfos>,
     pub info: Option<SnapInfo>,
     pub progress: Option<Progress>,
     pub next: Id,
@@ -47,13 +50,13 @@ impl Renewed {
         requires room { vec_len infos.old < vec_capacity infos.old }
         ensures cluster { cluster.new ≡ self.cluster }
         ensures root { root.new ≡ unwrap_or self.root root.old }
-        ensures infos { infos.new.items ≡ infos.old.items ++ option_to_list self.info }
+        ensures infos { infos.new.items ≡ infos_after self.left self.info infos.old.items }
         ensures progress { progress.new ≡ unwrap_or self.progress progress.old }
         ensures next { next.new ≡ self.next }
     {
         *cluster = self.cluster;
         renew(root, self.root);
-        push_info(infos, self.info);
+        renew_infos(infos, self.left, self.info);
         renew(progress, self.progress);
         *next = self.next;
     }
@@ -67,6 +70,18 @@ fn push_info(infos: &mut Vec<SnapInfo>, info: Option<SnapInfo>)
     if let Some(new) = info {
         infos.push_reserved(new);
     }
+}
+
+/// Keeps the infos that are left, where they are given, or one more where it is.
+fn renew_infos(infos: &mut Vec<SnapInfo>, left: Option<SnapInfos>, info: Option<SnapInfo>)
+    requires { vec_len infos.old < vec_capacity infos.old }
+    ensures { infos.new.items ≡ infos_after left info infos.old.items }
+{
+    let Some(left) = left else {
+        push_info(infos, info);
+        return;
+    };
+    *infos = left.into_vec();
 }
 
 /// Makes room for one more entry and one more info, and puts the text of the record in place of the container's.
@@ -106,7 +121,7 @@ impl<D: Depot, K: Told> Repo<D, K> {
         renewed: Renewed,
     ) -> Result<(), StepRefusal>
         requires live { IsLive K.start self.old }
-        requires may { MaySwap K.start self.old who (step_of step) (answer_of answer) renewed.cluster renewed.root renewed.info renewed.progress renewed.next.number }
+        requires may { MaySwap K.start self.old who (step_of step) (answer_of answer) renewed.cluster renewed.root renewed.left renewed.info renewed.progress renewed.next.number }
         ensures step { Did K.start self.old self.new who (step_of step) (λ _. answer_of answer) result }
         ensures why { IfErr result (λ e. (e ≡ Memory) ⊎ (e ≡ Refused DepotFault)) }
     {

@@ -35,7 +35,7 @@ fn based(mut unit: ReadyUnit) -> ReadyUnit
 }
 
 /// A copy of an info.
-fn info_copy(alloc: Global, info: &SnapInfo) -> Result<SnapInfo, AllocError>
+pub(crate) fn info_copy(alloc: Global, info: &SnapInfo) -> Result<SnapInfo, AllocError>
     ensures { IfOk result (λ copy. copy ≡ info.now) }
 {
     Ok(SnapInfo {

@@ -129,7 +129,7 @@ impl<D: Depot, K: Told> Repo<D, K> {
         self.check(0, removes(alloc, names)?)?;
         self.rules();
         let step = removes(alloc, names)?;
-        self.call_remove(alloc, step, names)
+        self.call_remove(alloc, 0, step, names)
     }
 
     /// The container was verified: each test blob was there, and was removed.

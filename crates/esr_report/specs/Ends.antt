@@ -12,12 +12,13 @@ use Rattle.esr_report.specs.declared.restores.ShardEnd.{ShardEnd as CodeEnd}
 use Rattle.esr_report.specs.declared.restores.ShardEnd.TheVariants as code
 use Rattle.esr_report.specs.declared.restores.TicketEnd.{TicketEnd}
 use Rattle.esr_report.specs.declared.told.ToldEnds.{ToldEnds}
-use Rattle.esr_report.specs.Replies.{Reply, Made, Failed, end_of_op, ReadShard, ShardEnd, ShardRestored, ShardFailed, first_by, same_shard, shard_ticket, ticket_end}
+use Rattle.esr_report.specs.Replies.{Reply, Made, Deleted, Failed, end_of_op, ReadShard, ShardEnd, ShardRestored, ShardFailed, first_by, same_shard, shard_ticket, ticket_end}
 
 -- what the end of an op answers its command
 abbrev pub reply_of_end : End → Reply
 reply_of_end (ends.Made uuid) = Made uuid.number
-reply_of_end (ends.Failed why) = Failed (why_of why) None
+reply_of_end (ends.Deleted op) = Deleted op
+reply_of_end (ends.Failed why op) = Failed (why_of why) op
 
 -- the same where it is the end of this op
 abbrev pub end_for : OpEnd → ℕ → Option Reply

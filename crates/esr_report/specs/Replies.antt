@@ -4,7 +4,7 @@ use Rattle.esr_model.specs.Values.{IndexRef, RootSnap}
 use Rattle.esr_model.specs.Places.{places}
 use Rattle.esr_core.specs.After.{or_else, swaps_record}
 use Rattle.esr_core.specs.Entry as entry
-use Rattle.esr_core.specs.Entry.{Given, GivenShard, GivenFinalize, GivenDrop, GivenRestore, GivenClone, GivenDelete, GivenCleanup, Why, OfDepot, Read, RestoredShard, CheckedAll, VerifiedAll, ReadFails, Step, AskStep, SettleStep, FailedStep, LookStep, ReadStep, Refusal, DeposedAt, DepotFault, Accepted, AcceptedRestore, Gave, WasSettled, HasEnded, Looked, Entry}
+use Rattle.esr_core.specs.Entry.{Given, GivenShard, GivenFinalize, GivenDrop, GivenRestore, GivenClone, GivenDelete, GivenCleanup, Why, OfDepot, Read, RestoredShard, CheckedAll, VerifiedAll, ReadFails, SettlePruned, DeleteFails, Step, AskStep, SettleStep, FailedStep, LookStep, ReadStep, PruneStep, Refusal, DeposedAt, DepotFault, Accepted, AcceptedRestore, Gave, WasSettled, HasEnded, Looked, Entry}
 use Rattle.esr_script.specs.declared.item.Item.{Item}
 use Rattle.esr_script.specs.declared.item.Item.TheVariants as items
 use Rattle.esr_script.specs.declared.item.ScriptLine.{ScriptLine}
@@ -70,10 +70,12 @@ abbrev pub is_op : ℕ → Option ℕ → Bool
 is_op op None = false
 is_op op (Some o) = o == op
 
--- what a step of a ticket answers the command of its op: the root is settled, or the unit failed
+-- What a step of a ticket answers the command of its op: the root is settled, or the unit failed. A delete is answered with its op.
 abbrev pub ends_by : List Entry → ℕ → Step → entry.Reply → Option Reply
 ends_by all who SettleStep WasSettled = option_map Made (uuid_of_ticket all who)
 ends_by all who (FailedStep why) HasEnded = Some (Failed why None)
+ends_by all who (PruneStep SettlePruned) WasSettled = option_map Deleted (op_of_ticket all who)
+ends_by all who (PruneStep (DeleteFails why)) HasEnded = Some (Failed why (op_of_ticket all who))
 ends_by all who step reply = None
 
 abbrev pub ends_at : List Entry → ℕ → Entry → Option Reply

@@ -3,7 +3,7 @@ use Rattle.std.specs.Prelude.{ℕ, Bool, true, false, ◌||◌, nat_lt, if◌the
 use Rattle.std.specs.List.{list_any}
 use Rattle.esr_model.specs.Names.{BlobName}
 use Rattle.esr_core.specs.After.{or_else}
-use Rattle.esr_core.specs.Entry.{OfDamage, OfIdsSpent, OfGenerationsSpent, OfPrint, OfDisagreement, GenerationsSpent, TermsSpent, IdsSpent, Entry}
+use Rattle.esr_core.specs.Entry.{OfAbsence, OfUnreadable, OfAhead, OfIdsSpent, OfGenerationsSpent, OfPrint, OfDisagreement, GenerationsSpent, TermsSpent, IdsSpent, Entry}
 use Rattle.esr_formats.specs.Names.{name_kind}
 use Rattle.esr_script.specs.declared.item.ScriptLine.{ScriptLine}
 use Rattle.esr_report.specs.Replies.{Reply, Made, Deleted, Restored, Cleaned, Term, Waited, Listed, Checked, Verified, Refused, Failed, Aborted, Deposed, replies, end_reply}
@@ -14,7 +14,9 @@ is_deposed Deposed = true
 is_deposed reply = false
 
 abbrev pub damaged_name : Reply → Option BlobName
-damaged_name (Failed (OfDamage name) op) = Some name
+damaged_name (Failed (OfAbsence name) op) = Some name
+damaged_name (Failed (OfUnreadable name reason) op) = Some name
+damaged_name (Failed (OfAhead name) op) = Some name
 damaged_name (Failed (OfPrint name stated_len stated_digest found_len found_digest) op) = Some name
 damaged_name (Failed (OfDisagreement name other) op) = Some name
 damaged_name reply = None

@@ -64,7 +64,9 @@ fn damaged_name(reply: &Reply) -> Option<BlobName>
 {
     match reply {
         Reply::Failed { why, op: _ } => match why {
-            Why::Damaged { name } => Some(*name),
+            Why::Absent { name } => Some(*name),
+            Why::Unreadable { name, reason: _ } => Some(*name),
+            Why::Ahead { name } => Some(*name),
             Why::Misprinted {
                 name,
                 stated: _,

@@ -11,7 +11,7 @@ ghost use Rattle.esr_report.specs.Code.{reply_of};
 
 use crate::told::{ToldEnds, op_reply, restore_reply, told_ends};
 use crate::{Replies, Reply};
-use esr_desk::{Answer, Entry, EntryRefusal, History, Read, Step, Why};
+use esr_desk::{Answer, Entry, EntryRefusal, History, Prune, Read, Step, Why};
 use esr_progress::Command;
 use esr_script::{Item, Script};
 use std::alloc::{AllocError, Global};
@@ -38,6 +38,7 @@ fn swaps_record(step: &Step) -> bool
         Step::Settle => true,
         Step::Dropped => true,
         Step::Elect => true,
+        Step::Prune { prune } => matches!(prune, Prune::Settle),
         _ => false,
     }
 }

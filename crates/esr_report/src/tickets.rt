@@ -7,15 +7,17 @@ ghost use Rattle.esr_report.specs.Ends.{reply_of_end, end_in, first_end, AreEnds
 ghost use Rattle.esr_report.specs.Code.{reply_of};
 
 use crate::Reply;
-use esr_desk::{Answer, Entry, Given, Step, Why};
+use esr_desk::{Answer, Entry, Given, Prune, Step, Why};
 use esr_names::Id;
 use std::alloc::{AllocError, Global};
 
-/// How an op ended: its snapshot is in the root, or one of its units failed.
+/// How an op ended: its snapshot is in the root, this delete took snapshots out of it, or one of its units failed, with the op of
+/// a delete.
 #[derive(Clone, Copy, Debug)]
 pub enum End {
     Made { uuid: Id },
-    Failed { why: Why },
+    Deleted { op: u64 },
+    Failed { why: Why, op: Option<u64> },
 }
 
 impl End {
@@ -27,7 +29,8 @@ impl End {
     {
         match self {
             End::Made { uuid } => Reply::Made { uuid },
-            End::Failed { why } => Reply::Failed { why, op: None },
+            End::Deleted { op } => Reply::Deleted { op },
+            End::Failed { why, op } => Reply::Failed { why, op },
         }
     }
 }
@@ -101,7 +104,25 @@ fn ends_by(entries: &[Entry], entry: &Entry) -> Option<End>
         (Step::Settle, Answer::Settled) => {
             uuid_of_ticket(entries, entry.who).map(|uuid| End::Made { uuid })
         }
-        (Step::Failed { why }, Answer::Ended) => Some(End::Failed { why: *why }),
+        (Step::Failed { why }, Answer::Ended) => Some(End::Failed {
+            why: *why,
+            op: None,
+        }),
+        (
+            Step::Prune {
+                prune: Prune::Settle,
+            },
+            Answer::Settled,
+        ) => op_of_ticket(entries, entry.who).map(|op| End::Deleted { op }),
+        (
+            Step::Prune {
+                prune: Prune::Failed { why },
+            },
+            Answer::Ended,
+        ) => Some(End::Failed {
+            why: *why,
+            op: op_of_ticket(entries, entry.who),
+        }),
         _ => None,
     }
 }

@@ -1,11 +1,8 @@
 -- How the unit of a restore's shard ends where it isn't restored.
-use Rattle.std.proofs.Common.{◌≡◌, inl, inr, ℕ, Bool, true, false, List, [], ◌∷◌, ◌++◌, append_assoc, None, Ok, Err, refl, sym, ap, ◌∙◌, subst}
-use Rattle.esr_model.specs.Names.{BlobName, ShardSnap}
-use Rattle.esr_model.specs.Values.{Bytes}
+use Rattle.std.proofs.Common.{◌≡◌, ℕ, Bool, true, false, List, [], ◌∷◌, ◌++◌, append_assoc, Ok, Err, refl, sym, ap, ◌∙◌, subst}
+use Rattle.esr_model.specs.Names.{BlobName}
 use Rattle.esr_core.specs.World.{Reader}
-use Rattle.esr_core.specs.Restores.{WasRead}
-use Rattle.esr_core.specs.Entry.{Why, OfDepot, OfSource, OfChange, OfDamage, OfTaken, OfIdsSpent, OfGenerationsSpent, OfTarget, OfPrint, OfDisagreement, ReadStep, ReadBlob, ReadFails, HasEnded, Refused, DepotFault, Moment}
-use Rattle.esr_formats.specs.Shards.{shard_snap_kind}
+use Rattle.esr_core.specs.Entry.{Reason, Why, OfDepot, OfSource, OfChange, OfAbsence, OfUnreadable, OfAhead, OfTaken, OfIdsSpent, OfGenerationsSpent, OfTarget, OfPrint, OfDisagreement, ReadStep, ReadBlob, ReadFails, Reply, WasFetched, WasAbsent, HasEnded, Refused, DepotFault, Moment}
 use Rattle.esr_desk.specs.declared.entry.Why.{Why as CodeWhy}
 use Rattle.esr_desk.specs.declared.entry.Why.TheVariants as whys
 use Rattle.esr_desk.specs.declared.refusal.StepRefusal.{StepRefusal}
@@ -24,7 +21,7 @@ use Rattle.esr_desk.specs.Shown.{NeverFailed}
 use Rattle.esr_desk.specs.Unquiet.{unquiet_last}
 use Rattle.esr_desk.specs.Readers.{reader_of}
 use Rattle.esr_reading.specs.Outcome.{Waited, Stepped}
-use Rattle.esr_reading.specs.Shown.{Counts, HadFault, WasMissing, IsOf, DepotShown, TargetShown, ReadShown, IsDamaged, IsMisprinted, IsMiscut, IsShown}
+use Rattle.esr_reading.specs.Shown.{Counts, HadFault, HadFetch, IsOf, DepotShown, TargetShown, ReadShown, IsNoSnap, WasUnreadable, IsMisprinted, IsMiscut, IsShown}
 use Rattle.esr_restore.specs.declared.cause.Cause.{Cause}
 use Rattle.esr_restore.specs.declared.trouble.Trouble.{Trouble}
 use Rattle.esr_restore.specs.declared.trouble.Trouble.TheVariants as troubles
@@ -101,7 +98,9 @@ found_shown : (S H : Type 0) {F T : Type 0} (c : Counts F T) (s : Start) (log : 
 found_shown S H c s log who whys.Depot h = h
 found_shown S H c s log who whys.Source h = h
 found_shown S H c s log who (whys.Changed first second) h = h
-found_shown S H c s log who (whys.Damaged name) h = h
+found_shown S H c s log who (whys.Absent name) h = h
+found_shown S H c s log who (whys.Unreadable name reason) h = h
+found_shown S H c s log who (whys.Ahead name) h = h
 found_shown S H c s log who (whys.NameTaken name) h = h
 found_shown S H c s log who (whys.IdsSpent next) h = h
 found_shown S H c s log who (whys.GenerationsSpent number) h = h
@@ -185,11 +184,13 @@ module _ {S F H T : Type 0} (c : Counts F T) (s : Start) (log : List Moment) (wh
   pub plain_shown : (why : Why) (b : By S F H T) → IsShown c s log who why b → IsShown c s log who why (plain b)
   plain_shown OfDepot b h = plain_depot b h
   plain_shown OfTarget b h = plain_target b h
-  plain_shown (OfDamage name) b h = plain_read b (IsDamaged s log who name) h
+  plain_shown (OfAbsence name) b h = plain_read b (HadFetch log who name WasAbsent) h
+  plain_shown (OfUnreadable name reason) b h = plain_read b (WasUnreadable s log who name reason) h
   plain_shown (OfPrint name stated_len stated_digest found_len found_digest) b h = plain_read b (IsMisprinted s (reader_of s log who) name stated_len stated_digest found_len found_digest) h
   plain_shown (OfDisagreement name other) b h = plain_read b (IsMiscut s (reader_of s log who) name other) h
   plain_shown OfSource b h = absurd h
   plain_shown (OfChange first_len first_digest second_len second_digest) b h = absurd h
+  plain_shown (OfAhead name) b h = absurd h
   plain_shown (OfTaken name) b h = absurd h
   plain_shown (OfIdsSpent next) b h = absurd h
   plain_shown (OfGenerationsSpent pending) b h = absurd h
@@ -209,8 +210,8 @@ module _ (s : Start) (old new : List Moment) (who : ℕ) (waited : Waited s old 
     reply = h.reply;
   }
 
-  missing_on : (name : BlobName) → WasMissing old who name → WasMissing new who name
-  missing_on name h = record {
+  fetch_on : (name : BlobName) (answer : Reply) → HadFetch old who name answer → HadFetch new who name answer
+  fetch_on name answer h = record {
     front = h.front;
     moment = h.moment;
     back = h.back ++ waited.others;
@@ -220,10 +221,8 @@ module _ (s : Start) (old new : List Moment) (who : ℕ) (waited : Waited s old 
     reply = h.reply;
   }
 
-  damaged_on : (name : BlobName) → IsDamaged s old who name → IsDamaged s new who name
-  damaged_on name (inl missing) = inl (missing_on name missing)
-  damaged_on name (inr bad) =
-      inr (subst (λ (q : Reader). (name ≡ ShardSnap q.index q.number q.uuid) × ((bytes : Bytes) × (s.tells ≡ true → WasRead q.read name bytes) × (shard_snap_kind.read bytes ≡ None))) (sym waited.alone) bad)
+  unreadable_on : (name : BlobName) (reason : Reason) → WasUnreadable s old who name reason → WasUnreadable s new who name reason
+  unreadable_on name reason h = (fetch_on name WasFetched h.0, subst (λ (q : Reader). IsNoSnap s q name reason) (sym waited.alone) h.1)
 
 module _ {S F H T : Type 0} (c : Counts F T) (s : Start) (old new : List Moment) (who : ℕ) (waited : Waited s old new who) where
   depot_on : (b : By S F H T) → DepotShown c s old who b → DepotShown c s new who b
@@ -234,15 +233,17 @@ module _ {S F H T : Type 0} (c : Counts F T) (s : Start) (old new : List Moment)
   depot_on shows.Entry h = (had_on s old new who waited h.0, h.1)
   depot_on shows.Nothing h = h
 
-  damage_on : (b : By S F H T) (name : BlobName) → ReadShown b (IsDamaged s old who name) → ReadShown b (IsDamaged s new who name)
-  damage_on (shows.Object object) name h = h
-  damage_on shows.Entry name h = h
-  damage_on shows.Nothing name h = damaged_on s old new who waited name h
+  read_on : (b : By S F H T) (before after : Type 0) → (before → after) → ReadShown b before → ReadShown b after
+  read_on (shows.Object object) before after on h = h
+  read_on shows.Entry before after on h = h
+  read_on shows.Nothing before after on h = on h
 
   pub shown_on : (why : Why) (b : By S F H T) → IsShown c s old who why b → IsShown c s new who why b
   shown_on OfDepot b h = depot_on b h
   shown_on OfTarget b h = subst (λ (q : Reader). TargetShown c s q b) (sym waited.alone) h
-  shown_on (OfDamage name) b h = damage_on b name h
+  shown_on (OfAbsence name) b h = read_on b (HadFetch old who name WasAbsent) (HadFetch new who name WasAbsent) (fetch_on s old new who waited name WasAbsent) h
+  shown_on (OfUnreadable name reason) b h = read_on b (WasUnreadable s old who name reason) (WasUnreadable s new who name reason) (unreadable_on s old new who waited name reason) h
+  shown_on (OfAhead name) b h = h
   shown_on (OfPrint name stated_len stated_digest found_len found_digest) b h = subst (λ (q : Reader). ReadShown b (IsMisprinted s q name stated_len stated_digest found_len found_digest)) (sym waited.alone) h
   shown_on (OfDisagreement name other) b h = subst (λ (q : Reader). ReadShown b (IsMiscut s q name other)) (sym waited.alone) h
   shown_on OfSource b h = h

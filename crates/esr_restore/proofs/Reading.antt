@@ -1,5 +1,5 @@
 -- What a restore's ticket reads of its shard's snapshot.
-use Rattle.std.proofs.Common.{◌≡◌, ◌<◌, inl, ℕ, Bool, true, false, Some, None, refl, sym, ap, ◌∙◌, subst}
+use Rattle.std.proofs.Common.{◌≡◌, ◌<◌, inl, ℕ, Bool, true, false, List, [], Option, Some, None, refl, sym, ap, ◌∙◌, subst}
 use Rattle.std.specs.Prelude.{if◌then◌else◌}
 use Rattle.esr_names.specs.declared.ids.Id.{Id}
 use Rattle.esr_names.specs.declared.blob.ShardId.{ShardId}
@@ -10,12 +10,21 @@ use Rattle.esr_model.specs.Values.{Bytes, ShardSnapshot, Kind}
 use Rattle.esr_model.specs.Image.{Reads}
 use Rattle.esr_core.specs.World.{Reader}
 use Rattle.esr_core.specs.Restores.{WasRead}
+use Rattle.esr_core.specs.Entry.{ReadStep, ReadBlob, Reply, WasFetched, WasAbsent, Moment}
+use Rattle.esr_json.specs.declared.refusal.Reason.{Reason as CodeReason}
+use Rattle.esr_json.specs.declared.refusal.ReadRefusal.{ReadRefusal}
+use Rattle.esr_json.specs.declared.refusal.ReadRefusal.TheVariants as reads
+use Rattle.esr_json.specs.Steps.{Fails}
 use Rattle.esr_shardidx.specs.declared.entry.FileEntry.{FileEntry as CodeEntry}
-use Rattle.esr_shardidx.specs.Snapshots.{SnapValue}
+use Rattle.esr_shardidx.specs.Snapshots.{SnapValue, shard_snap_from}
 use Rattle.esr_formats.specs.Formats.{formats}
+use Rattle.esr_formats.specs.Reasons.{reason_of, refused, unreadable, refused_for}
 use Rattle.esr_formats.specs.Shards.{shard_snap_of, shard_snap_kind}
 use Rattle.esr_desk.specs.Start.{Start, formats_of, told_bytes}
-use Rattle.esr_desk.specs.Readers.{with_read}
+use Rattle.esr_desk.specs.Outcome.{fetch_reply}
+use Rattle.esr_desk.specs.Readers.{reader_of, with_read}
+use Rattle.esr_reading.specs.Outcome.{Stepped}
+use Rattle.esr_reading.specs.Shown.{HadFetch, WasUnreadable}
 use Rattle.esr_restore.specs.Worked.{Worked}
 use Rattle.esr_restore.specs.Snapped.{IsAt, ReadAs, HasSnap, IsListed}
 use Rattle.esr_restore.proofs.Going.{worked_at, with_read_worked}
@@ -50,6 +59,40 @@ unfolding formats
 has_snap s old new index number uuid b value at is reads =
     let name = snap_is new index number uuid (read_at s old new (ShardSnap index number uuid) b index number uuid is at) in
     λ tells. subst (λ (n : BlobName). Reads (WasRead new.read) n shard_snap_kind (shard_snap_of value)) name (record { bytes = b; there = told_read s old new (ShardSnap index number uuid) b is tells; reads = reads })
+
+-- ---- a fetch that was answered
+
+had_fetch : (s : Start) (old new : List Moment) (who : ℕ) (name : BlobName) (answer : Reply) → Stepped s old new who (ReadBlob name) answer → HadFetch new who name answer
+had_fetch s old new who name answer h = record {
+  front = h.front;
+  moment = record { entry = record { who = who; step = ReadStep (ReadBlob name); reply = answer }; image = h.image };
+  back = [];
+  is = h.is;
+  of = refl;
+  step = refl;
+  reply = refl;
+}
+
+-- the blob was absent, or there
+pub was_absent : {F : Type 0} (o : Option F) (s : Start) (old new : List Moment) (who : ℕ) (name : BlobName) → o ≡ None → Stepped s old new who (ReadBlob name) (fetch_reply o) → HadFetch new who name WasAbsent
+was_absent None s old new who name is h = had_fetch s old new who name WasAbsent h
+was_absent (Some f) s old new who name is h = absurd cc
+
+pub was_fetched : {F : Type 0} (o : Option F) (f : F) (s : Start) (old new : List Moment) (who : ℕ) (name : BlobName) → o ≡ Some f → Stepped s old new who (ReadBlob name) (fetch_reply o) → HadFetch new who name WasFetched
+was_fetched None f s old new who name is h = absurd cc
+was_fetched (Some g) f s old new who name is h = had_fetch s old new who name WasFetched h
+
+-- the snapshot was there, and doesn't read: the reader's reason is the first there is
+pub no_snap : (s : Start) (old new : List Moment) (who index number uuid : ℕ) (b read : Bytes) (e : ReadRefusal) (why : CodeReason) → IsAt (reader_of s old who) index number uuid
+    → reader_of s new who ≡ with_read (ShardSnap index number uuid) (told_bytes s b) (reader_of s old who) → HadFetch new who (ShardSnap index number uuid) WasFetched
+    → read ≡ b → e ≡ reads.Damaged why → Fails e (shard_snap_from read) → WasUnreadable s new who (ShardSnap index number uuid) (reason_of why)
+unfolding unreadable
+no_snap s old new who index number uuid b read e why at is had same damaged fails =
+    let q = reader_of s old who in
+    let now = reader_of s new who in
+    let name = snap_is now index number uuid (read_at s q now (ShardSnap index number uuid) b index number uuid is at) in
+    let first = subst (λ (x : Bytes). refused (shard_snap_from x) ≡ Some (reason_of why)) same (refused_for (shard_snap_from read) e why damaged fails) in
+    (had, (name, b, told_read s q now (ShardSnap index number uuid) b is, first))
 
 -- ---- while more is read
 

@@ -1,6 +1,6 @@
 -- What shows a trouble.
 use Rattle.std.specs.Prelude.{◌≡◌, ◌⊎◌, ◌<◌, ℕ, Bool, true, false, List, Option, Some, None}
-use Rattle.esr_core.specs.Entry.{ReadStep, ReadBlob, Refused, Refusal, Moment}
+use Rattle.esr_core.specs.Entry.{ReadStep, ReadBlob, WasAbsent, Refused, Refusal, Moment}
 use Rattle.esr_model.specs.Names.{BlobName}
 use Rattle.esr_hash.specs.declared.print.Print.{Print}
 use Rattle.esr_names.specs.declared.ids.Id.{Id}
@@ -8,6 +8,7 @@ use Rattle.esr_names.specs.declared.blob.ShardId.{ShardId}
 use Rattle.esr_names.specs.declared.blob.BlobName.TheVariants as names
 use Rattle.esr_shardidx.specs.declared.entry.FileEntry.{FileEntry as CodeEntry}
 use Rattle.esr_formats.specs.Names.{name_of}
+use Rattle.esr_formats.specs.Reasons.{reason_of}
 use Rattle.esr_desk.specs.declared.entry.Why.{Why}
 use Rattle.esr_desk.specs.declared.entry.Why.TheVariants as whys
 use Rattle.esr_desk.specs.declared.refusal.StepRefusal.{StepRefusal}
@@ -18,14 +19,15 @@ use Rattle.esr_desk.specs.Outcome.{Spends}
 use Rattle.esr_desk.specs.Last.{IsLast}
 use Rattle.esr_desk.specs.Shown.{Faulty}
 use Rattle.esr_desk.specs.Readers.{reader_of}
-use Rattle.esr_reading.specs.Shown.{IsDamaged, IsMisprinted, IsMiscut}
+use Rattle.esr_reading.specs.Shown.{HadFetch, WasUnreadable, IsMisprinted, IsMiscut}
 use Rattle.esr_restore.specs.Refusable.{MayRefuseFetch}
 use Rattle.esr_restore.specs.declared.trouble.Trouble.{Trouble}
 use Rattle.esr_restore.specs.declared.trouble.Trouble.TheVariants as troubles
 
 -- what was read shows that the shard can't be restored
 abbrev pub IsFound : Start → List Moment → ℕ → Why → Type 0
-IsFound s log who (whys.Damaged name) = IsDamaged s log who (name_of name)
+IsFound s log who (whys.Absent name) = HadFetch log who (name_of name) WasAbsent
+IsFound s log who (whys.Unreadable name reason) = WasUnreadable s log who (name_of name) (reason_of reason)
 IsFound s log who (whys.Misprinted name stated found) = IsMisprinted s (reader_of s log who) (name_of name) stated.len stated.sha256 found.len found.sha256
 IsFound s log who (whys.Disagreeing name other) = IsMiscut s (reader_of s log who) (name_of name) (name_of other)
 IsFound s log who why = ⊥

@@ -9,3 +9,4 @@ pub mod Steps
 pub mod Shards
 pub mod Growing
 pub mod Finalizing
+pub mod Pruning

@@ -1,3 +1,4 @@
 pub mod Results
 pub mod NewRoot
 pub mod Named
+pub mod Pruned

@@ -1,13 +1,13 @@
 -- What a run over quiet objects ends with.
 use Rattle.std.proofs.Common.{◌≡◌, ◌⊎◌, ℕ, suc, ◌+◌, ◌^◌, ◌<◌, ◌≤◌, Bool, true, false, cond, nat_lt, List, [], ◌∷◌, ◌++◌, map, length, Option, Some, is_some, refl, sym, ap, ◌∙◌, subst, inl, inr, ⊎_elim, arith}
 use Rattle.std.specs.FinMap as fin
-use Rattle.std.specs.Prelude.{◌&&◌, ◌||◌, ◌==◌, unwrap_or, if◌then◌else◌}
+use Rattle.std.specs.Prelude.{◌&&◌, ◌==◌, unwrap_or, if◌then◌else◌}
 use Rattle.std.proofs.lemmas.Bool.{ltb-true, ltb-false}
 use Rattle.std.proofs.lemmas.List.Sums.{sum_by-cons}
 use Rattle.esr_model.specs.Values.{Bytes, Has, Formats}
 use Rattle.esr_model.specs.Image.{Image}
 use Rattle.esr_core.specs.World.{World, Caller, Opened}
-use Rattle.esr_core.specs.Entry.{Read, AskedIndex, Snapshot, Restore, CheckedAll, Step, AskStep, ElectStep, ReadStep, Reply, Refused, DepotFault, DeposedAt, IdsSpent, GenerationsSpent, TermsSpent, Entry, Moment, DrawTest}
+use Rattle.esr_core.specs.Entry.{AskedIndex, Snapshot, Restore, Step, AskStep, ElectStep, Reply, Refused, DepotFault, DeposedAt, IdsSpent, GenerationsSpent, TermsSpent, Entry, Moment}
 use Rattle.esr_core.specs.Allowed as allowed
 use Rattle.esr_core.specs.Allowed.{Allows, Allowed}
 use Rattle.esr_core.specs.History.{world_from, IsLegal, AreTold}
@@ -23,30 +23,24 @@ use Rattle.esr_desk.specs.Start.{Start, Legal, formats_of}
 use Rattle.esr_desk.specs.declared.fault.Fault.{Fault}
 use Rattle.esr_run.specs.Counts.{Counts, unit_counts, read_counts, verify_counts, AreShown}
 use Rattle.esr_desk.specs.Once.{AreOnce}
-use Rattle.esr_checking.specs.Caller.{caller_of}
 use Rattle.esr_checking.specs.Tested.{AreTested}
-use Rattle.esr_checking.specs.Shown.{IsShown}
-use Rattle.esr_checking.specs.CheckShown.{IsCheckShown}
-use Rattle.esr_quiet.specs.Caused.{AreVerifyCaused}
 use Rattle.esr_repo.specs.Log.{image_of, image_at, log_from, log_of, tick}
 use Rattle.esr_repo.specs.Counted.{is_fault, fault_entries}
 use Rattle.esr_repo.specs.Calm.{IsCalm}
 use Rattle.esr_repo.specs.Deposed.{FailedSwap, AreDeposedSo}
 use Rattle.esr_quiet.specs.Asked.{is_line_ask, is_asked, asked_steps, AreSteady}
-use Rattle.esr_quiet.specs.Smooth.{HasDrawn, IsSmooth, IsSpent, AreCalm, AreUnelected, NoneFailed, NoneUnrestored, NoneUnverified, NoneChecked, NoneAsked}
+use Rattle.esr_quiet.specs.Smooth.{IsSmooth, IsSpent, AreCalm, AreUnelected, NoneFailed, NoneUnrestored, NoneUnverified, NoneAsked}
 use Rattle.esr_quiet.specs.Refusals.{AreByRule}
-use Rattle.esr_complete.specs.Lines.{index_of_line, steps_of_item, steps_of, AreKnown, entries_of, IsKnown}
-use Rattle.esr_complete.specs.InTurn.{IsInTurn}
+use Rattle.esr_complete.specs.Lines.{index_of_line, steps_of_item, steps_of, AreKnown, entries_of}
+use Rattle.esr_complete.specs.InTurn.{IsInTurn, AreChecksInTurn}
 use Rattle.esr_complete.specs.Answers.{AreAnswered, EndsWell}
 use Rattle.esr_run.specs.Start.{Telling, formats_by, steady_by, start_of}
 use Rattle.esr_run.specs.Images.{TellsAll}
 use Rattle.esr_run.specs.Complete.{AsksRestore, IsQuietFor, IsAnsweredWell, Completes}
 use Rattle.esr_run.specs.Laws.{QuietLaws}
-use Rattle.esr_verify.specs.Began.{IsFurther}
-use Rattle.esr_check.specs.Began.{IsOfCheck}
-use Rattle.esr_run.specs.Checked.{NoCheckFails, HasLooked, is_check, asks_check}
-use Rattle.esr_run.specs.Verified.{AreBegun, AreClosed}
+use Rattle.esr_run.specs.Verified.{AreClosed}
 use Rattle.esr_run.specs.Made.{MadeFirst, HasFallen, AreDone, NoneOpen}
+use Rattle.esr_run.proofs.Parts.{are_parts}
 
 -- ---- entries and moments
 
@@ -308,38 +302,6 @@ in_map (b ∷ l) a (inr h) = let r = in_map l a h in (r.0, inr r.1, r.2)
 is_steady : (telling : Telling) (place name : Bytes) (number : ℕ) → telling.is_quiet ≡ true → telling.is_there place name number ≡ Some true → steady_by telling place name number ≡ true
 is_steady telling place name number quiet there = ap (λ (b : Bool). b && unwrap_or (telling.is_there place name number) false) quiet ∙ ap (λ (o : Option Bool). unwrap_or o false) there
 
-draws_no_check : (snapshots blobs : ℕ) → ReadStep DrawTest ≡ ReadStep (CheckedAll snapshots blobs) → ⊥
-draws_no_check snapshots blobs e = cc
-
--- ---- a run of known lines asks for no check
-
-item_none : (item : Item) → IsKnown item → is_check item ≡ false
-item_none items.Check known = absurd known
-item_none item known = refl
-
-neither_asks : (a b : Bool) → a ≡ false → b ≡ false → (a || b) ≡ false
-neither_asks false b one two = two
-neither_asks true b one two = absurd cc
-
-known_none : (lines : List ScriptLine) → AreKnown lines → asks_check lines ≡ false
-known_none [] known = refl
-known_none (line ∷ lines) known = neither_asks (is_check line.item) (asks_check lines) (item_none line.item known.0) (known_none lines known.1)
-
-no_both : (b : Bool) → b ≡ true → b ≡ false → ⊥
-no_both b x y = cc (x, y)
-
--- who 0 reads for verifications alone, each after a draw
-abbrev ReadsAfterDraw : List Moment → Type 0
-ReadsAfterDraw log = (front back : List Moment) (m : Moment) (read : Read) → log ≡ front ++ m ∷ back → m.entry.who ≡ 0 → m.entry.step ≡ ReadStep read → (m.entry.step ≡ ReadStep DrawTest) ⊎ (IsFurther read × HasDrawn front)
-
-drawn_reads : (lines : List ScriptLine) (log : List Moment) → AreKnown lines → AreBegun (asks_check lines) log → ReadsAfterDraw log
-drawn_reads lines log known begun front back m read is who step =
-    ⊎_elim
-    (λ (draw : m.entry.step ≡ ReadStep DrawTest). inl draw)
-    (λ (other : (IsFurther read × HasDrawn front) ⊎ ((asks_check lines ≡ true) × IsOfCheck read × HasLooked front)).
-    ⊎_elim (λ (own : IsFurther read × HasDrawn front). inr own) (λ (check : (asks_check lines ≡ true) × IsOfCheck read × HasLooked front). absurd (no_both (asks_check lines) check.0 (known_none lines known))) other)
-    (begun front back m read is who step)
-
 -- ---- a run over quiet objects
 
 module _ {S F H T : Type 0} (laws : QuietLaws S F H T) (count : Counts S F H T) (telling : Telling) (size moment : ℕ) (lines : List ScriptLine) (before after : Look) (world : World) (clock : ℕ) (history : List Entry) (faults : List (Fault S F H T))
@@ -351,7 +313,7 @@ module _ {S F H T : Type 0} (laws : QuietLaws S F H T) (count : Counts S F H T) 
   log = log_of after clock history
 
   module _ (no_deletes : world.deletes ≡ fin.empty) (legal : Legal s log) (told : s.tells ≡ true → AreTold log) (shown : AreShown {S = S} {F = F} {H = H} {T = T} count s log faults) (once : AreOnce s log) (tested : AreTested s log) (calm : IsCalm true after.sure history) (named : AreDeposedSo history)
-      (made : MadeFirst s (steps_of moment lines) [] log) (begun : ReadsAfterDraw log) (unfailed : NoCheckFails s log) (apart : AreClosed s log) (quiet_for : IsQuietFor telling before lines) (tells_all : TellsAll (formats_by telling) world log) (few : length history < 2 ^ 40) (unspent : (e : Entry) → Has history e → IsSpent e.reply → ⊥) where
+      (made : MadeFirst s (steps_of moment lines) [] log) (apart : AreClosed s log) (quiet_for : IsQuietFor telling before lines) (tells_all : TellsAll (formats_by telling) world log) (few : length history < 2 ^ 40) (unspent : (e : Entry) → Has history e → IsSpent e.reply → ⊥) where
     entries : entries_of log ≡ history
     entries = entries_are (image_at after) clock history
 
@@ -384,15 +346,6 @@ module _ {S F H T : Type 0} (laws : QuietLaws S F H T) (count : Counts S F H T) 
         let who : m.entry.who ≡ 0 = subst (IsNobodys m.entry.who) is (nobody m h) in
         let from = wanted m h who (ap is_line_ask is) in
         no_election moment from.line.item (subst (λ (step : Step). Has (steps_of_item moment from.line.item) step) is from.step_is)
-
-    -- who 0 reads for verifications alone
-    unchecked : NoneChecked log
-    unchecked m snapshots blobs h who is =
-        let p = place_of log m h in
-        ⊎_elim
-        (λ (draw : m.entry.step ≡ ReadStep DrawTest). draws_no_check snapshots blobs (sym draw ∙ is))
-        (λ (further : IsFurther (CheckedAll snapshots blobs) × HasDrawn p.front). further.0)
-        (begun p.front p.back m (CheckedAll snapshots blobs) p.is who is)
 
     tells : s.tells ≡ true
     tells = ap is_some quiet_for.holds.told
@@ -436,19 +389,7 @@ module _ {S F H T : Type 0} (laws : QuietLaws S F H T) (count : Counts S F H T) 
         (find_restore lines)
 
     none_unverified : NoneUnverified log
-    none_unverified = laws.verifies (verify_counts count) s log faults smooth caused
-      where
-        -- no report is that of a check
-        caused : AreVerifyCaused {S = S} {F = F} {H = H} {T = T} (verify_counts count) s log faults
-        caused place why report =
-            let told_by = shown.verifications place why report in (
-              told_by.0,
-              ⊎_elim
-                  (λ (own : IsShown (verify_counts count) s report.front (caller_of s report.front) why told_by.0). own)
-                  (λ (check : IsCheckShown (verify_counts count) s report.front why told_by.0). absurd (unfailed report.front report.back report.moment why report.is report.of report.step report.reply check.is_open))
-                  told_by.1,
-              told_by.2,
-            )
+    none_unverified = laws.verifies (verify_counts count) s log faults smooth shown.verifications
 
     -- one after another
     in_turn : NoneOpen s log → IsInTurn s log
@@ -471,18 +412,17 @@ module _ {S F H T : Type 0} (laws : QuietLaws S F H T) (count : Counts S F H T) 
 
     well : AreKnown lines → AreDone s moment lines [] log → IsAnsweredWell s moment lines log history
     well known done =
+        let checks : AreChecksInTurn moment lines log = inr (are_parts s moment lines log refl done.parted (never_deposed s log history entries legal none_faults named)) in
         let asked : asked_steps log ≡ steps_of moment lines = ap asked_steps done.grew.is ∙ done.grew.asked refl in
         record {
-          answered = subst (λ (es : List Entry). AreAnswered lines (replies lines es)) entries (laws.answered s log lines moment smooth none_failed none_unrestored none_unverified unchecked rules (in_turn done.closed) done.idle known asked);
-          ends = subst (λ (es : List Entry). EndsWell lines es) entries (laws.ends s log lines moment smooth none_failed none_unrestored none_unverified unchecked rules (in_turn done.closed) done.idle known asked);
+          answered = subst (λ (es : List Entry). AreAnswered lines (replies lines es)) entries (laws.answered s log lines moment smooth none_failed none_unrestored none_unverified checks rules (in_turn done.closed) done.idle known asked);
+          ends = subst (λ (es : List Entry). EndsWell lines es) entries (laws.ends s log lines moment smooth none_failed none_unrestored none_unverified checks rules (in_turn done.closed) done.idle known asked);
           waits = done.waits;
         }
 
   pub completes : (status : ℕ) → (no_deletes : world.deletes ≡ fin.empty) → Legal s log → (s.tells ≡ true → AreTold log) → AreShown {S = S} {F = F} {H = H} {T = T} count s log faults → AreOnce s log → AreTested s log → IsCalm true after.sure history → AreDeposedSo history
-      → MadeFirst s (steps_of moment lines) [] log → AreBegun (asks_check lines) log → (asks_check lines ≡ false → NoCheckFails s log) → AreClosed s log → AreDone s moment lines [] log ⊎ HasFallen s moment lines [] log → AreKnown lines → status ≡ status_of (ending lines history) → IsQuietFor telling before lines → Completes telling size moment lines before world clock after history status
-  completes status no_deletes legal told shown once tested calm named made reads fails apart done known is quiet_for tells_all =
-      let begun = drawn_reads lines log known reads in
-      let unfailed = fails (known_none lines known) in
+      → MadeFirst s (steps_of moment lines) [] log → AreClosed s log → AreDone s moment lines [] log ⊎ HasFallen s moment lines [] log → AreKnown lines → status ≡ status_of (ending lines history) → IsQuietFor telling before lines → Completes telling size moment lines before world clock after history status
+  completes status no_deletes legal told shown once tested calm named made apart done known is quiet_for tells_all =
       ⊎_elim
       (λ (spent : Spent history). inl (inl spent))
       (λ (unspent : (e : Entry) → Has history e → IsSpent e.reply → ⊥).
@@ -491,8 +431,8 @@ module _ {S F H T : Type 0} (laws : QuietLaws S F H T) (count : Counts S F H T) 
       (λ (few : length history < 2 ^ 40).
       inr (
         ⊎_elim
-            (λ (all : AreDone s moment lines [] log). well no_deletes legal told shown once tested calm named made begun unfailed apart quiet_for tells_all few unspent known all)
-            (λ (stopped : HasFallen s moment lines [] log). absurd (not_stopped no_deletes legal told shown once tested calm named made begun unfailed apart quiet_for tells_all few unspent stopped))
+            (λ (all : AreDone s moment lines [] log). well no_deletes legal told shown once tested calm named made apart quiet_for tells_all few unspent known all)
+            (λ (stopped : HasFallen s moment lines [] log). absurd (not_stopped no_deletes legal told shown once tested calm named made apart quiet_for tells_all few unspent stopped))
             done,
         is,
       ))

@@ -12,6 +12,7 @@ use Rattle.esr_formats.specs.Roots.{root_of}
 use Rattle.esr_desk.specs.Start.{Start}
 use Rattle.esr_desk.specs.Sources.{AreSources}
 use Rattle.esr_desk.specs.Once.{AreOnce, NoneTwice}
+use Rattle.esr_deleting.specs.Once.{AreRemovedOnce}
 use Rattle.esr_checking.specs.Tested.{AreTested}
 use Rattle.esr_repo.specs.Calm.{IsCalm}
 use Rattle.esr_quiet.specs.Asked.{asked_steps}
@@ -84,14 +85,14 @@ unopened laws count files before after old_faults new_faults history faults refu
 
 -- what is told of the history by the container alone, as the run tells it
 abbrev pub Begun : Telling → ℕ → Bool → Look → Kept → Start
-Begun files size quiet mid k = start_of files size quiet mid (begun_world (now mid) (cluster_of k.cluster) (root_of k.root))
+Begun files size quiet mid k = start_of files size quiet mid (begun_world (now mid) (cluster_of k.cluster) (root_of k.root) k.plan)
 
 unfoldable pub opened_run : {S F H T : Type 0} (laws : Laws) (count : Counts S F H T) (files : Telling) (size workers moment : ℕ) (lines : List ScriptLine) (quiet : Bool) (before mid after : Look) (k : Kept) (history : List Entry) (faults : List (Fault S F H T)) → IsOpening before mid k → (2 ^ 62 ≤ before.sure → quiet ≡ true)
     → LegalRun (Begun files size quiet mid k) mid.clock after history → IsPast (Begun files size quiet mid k) mid.clock mid.since after history → AreShown count (Begun files size quiet mid k) (log_of after mid.clock history) faults
-    → AreOnce (Begun files size quiet mid k) (log_of after mid.clock history) → AreTested (Begun files size quiet mid k) (log_of after mid.clock history) → NoneTwice (log_of after mid.clock history) → IsCalm quiet after.sure history → MadeFirst (Begun files size quiet mid k) (steps_of moment lines) [] (log_of after mid.clock history)
+    → AreOnce (Begun files size quiet mid k) (log_of after mid.clock history) → AreTested (Begun files size quiet mid k) (log_of after mid.clock history) → NoneTwice (log_of after mid.clock history) → AreRemovedOnce (log_of after mid.clock history) → IsCalm quiet after.sure history → MadeFirst (Begun files size quiet mid k) (steps_of moment lines) [] (log_of after mid.clock history)
     → AreWhole (Begun files size quiet mid k) workers (asks_check lines) (log_of after mid.clock history) → TakesFew lines (log_of after mid.clock history)
     → IsOpenedRun count files size workers moment lines before after history faults
-opened_run {S} {F} {H} {T} laws count files size workers moment lines quiet before mid after k history faults o quiet_is legal past shown once tested single calm made verified takes =
+opened_run {S} {F} {H} {T} laws count files size workers moment lines quiet before mid after k history faults o quiet_is legal past shown once tested single removed calm made verified takes =
     let is = start_is files size quiet before mid k o in
     let run = subst (λ (s : Start). LegalRun s mid.clock after history) is legal in
     let was = subst (λ (s : Start). IsPast s mid.clock mid.since after history) is past in
@@ -110,6 +111,7 @@ opened_run {S} {F} {H} {T} laws count files size workers moment lines quiet befo
       once = subst (λ (s : Start). AreOnce s (log_of after mid.clock history)) is once;
       tested = subst (λ (s : Start). AreTested s (log_of after mid.clock history)) is tested;
       single = single;
+      removed = removed;
       calm = calm;
       verified = subst (λ (s : Start). AreWhole s workers (asks_check lines) (log_of after mid.clock history)) is verified;
       takes = takes;
@@ -128,16 +130,16 @@ not_wanting NumbersSpent is = cc
 pub verdict_opening : {S F H T : Type 0} (laws : Laws) (count : Counts S F H T) (files : Telling) (size workers moment : ℕ) (lines : List ScriptLine) (quiet : Bool) (before mid after : Look) (k : Kept) (history : List Entry) (faults : List (Fault S F H T))
     (old_faults new_faults status : ℕ) (text : Bytes) → IsOpening before mid k → (2 ^ 62 ≤ before.sure → quiet ≡ true)
     → LegalRun (Begun files size quiet mid k) mid.clock after history → IsPast (Begun files size quiet mid k) mid.clock mid.since after history → AreShown count (Begun files size quiet mid k) (log_of after mid.clock history) faults
-    → AreOnce (Begun files size quiet mid k) (log_of after mid.clock history) → AreTested (Begun files size quiet mid k) (log_of after mid.clock history) → NoneTwice (log_of after mid.clock history) → IsCalm quiet after.sure history → MadeFirst (Begun files size quiet mid k) (steps_of moment lines) [] (log_of after mid.clock history)
+    → AreOnce (Begun files size quiet mid k) (log_of after mid.clock history) → AreTested (Begun files size quiet mid k) (log_of after mid.clock history) → NoneTwice (log_of after mid.clock history) → AreRemovedOnce (log_of after mid.clock history) → IsCalm quiet after.sure history → MadeFirst (Begun files size quiet mid k) (steps_of moment lines) [] (log_of after mid.clock history)
     → AreWhole (Begun files size quiet mid k) workers (asks_check lines) (log_of after mid.clock history) → TakesFew lines (log_of after mid.clock history)
     → IsTold status text (Some (Carried lines history))
     → (status ≡ 8) ⊎ (AreDone (Begun files size quiet mid k) moment lines [] (log_of after mid.clock history) ⊎ HasFallen (Begun files size quiet mid k) moment lines [] (log_of after mid.clock history))
     → IsVerdict status text (IsOpenCause count files size workers moment before after old_faults new_faults lines history faults)
 unfolding opened_run
-verdict_opening laws count files size workers moment lines quiet before mid after k history faults old_faults new_faults status text o quiet_is legal past shown once tested single calm made verified takes (inl wanting) done = inl wanting
-verdict_opening laws count files size workers moment lines quiet before mid after k history faults old_faults new_faults status text o quiet_is legal past shown once tested single calm made verified takes (inr told) (inl wanting) =
+verdict_opening laws count files size workers moment lines quiet before mid after k history faults old_faults new_faults status text o quiet_is legal past shown once tested single removed calm made verified takes (inl wanting) done = inl wanting
+verdict_opening laws count files size workers moment lines quiet before mid after k history faults old_faults new_faults status text o quiet_is legal past shown once tested single removed calm made verified takes (inr told) (inl wanting) =
     absurd (not_wanting (ending lines history) (sym told.0 ∙ wanting))
-verdict_opening laws count files size workers moment lines quiet before mid after k history faults old_faults new_faults status text o quiet_is legal past shown once tested single calm made verified takes (inr told) (inr done) =
+verdict_opening laws count files size workers moment lines quiet before mid after k history faults old_faults new_faults status text o quiet_is legal past shown once tested single removed calm made verified takes (inr told) (inr done) =
     inr (record {
       end = Carried lines history;
       status_is = told.0;
@@ -146,7 +148,7 @@ verdict_opening laws count files size workers moment lines quiet before mid afte
         refl,
         refl,
         (
-          opened_run laws count files size workers moment lines quiet before mid after k history faults o quiet_is legal past shown once tested single calm made verified takes,
+          opened_run laws count files size workers moment lines quiet before mid after k history faults o quiet_is legal past shown once tested single removed calm made verified takes,
           subst (λ (s : Start). AreDone s moment lines [] (log_of after mid.clock history) ⊎ HasFallen s moment lines [] (log_of after mid.clock history)) (start_is files size quiet before mid k o) done,
         ),
       );

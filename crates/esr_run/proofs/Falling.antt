@@ -17,7 +17,7 @@ use Rattle.esr_quiet.specs.Asked.{is_line_ask, asked_steps}
 use Rattle.esr_quiet.specs.Smooth.{AreUnelected}
 use Rattle.esr_quiet.proofs.Prefixes.{legal_rest, legal_front, world_both}
 use Rattle.esr_complete.specs.Lines.{steps_of_item, steps_of}
-use Rattle.esr_drive.specs.Stopped.{StopsWork, SaidDeposed, SettleFell, DropFell, RaiseLate, SettleLate, DropLate}
+use Rattle.esr_drive.specs.Stopped.{StopsWork, SaidDeposed, SettleFell, DropFell, DeleteFell, RaiseLate, SettleLate, DropLate, DeleteLate}
 use Rattle.esr_run.specs.Laws.{Refusals}
 use Rattle.esr_run.specs.Made.{MadeFirst, WasStopped, WasLeft, HasFallen, AreDone}
 use Rattle.esr_run.proofs.Completing.{in_front, in_middle, asked_true, in_asked, in_wanted, of_line, no_election}
@@ -131,9 +131,11 @@ module _ (laws : Refusals) (s : Start) (moment : ℕ) (lines : List ScriptLine) 
   fell_by m there step refusal step_is says (SaidDeposed any place) front back is = fell_before front back m place is says
   fell_by m there step refusal step_is says SettleFell front back is = record { moment = m; there = there; swap = ap swaps_record step_is; failed = says }
   fell_by m there step refusal step_is says DropFell front back is = record { moment = m; there = there; swap = ap swaps_record step_is; failed = says }
+  fell_by m there step refusal step_is says DeleteFell front back is = record { moment = m; there = there; swap = ap swaps_record step_is; failed = says }
   fell_by m there step refusal step_is says (RaiseLate own now) front back is = absurd (never_stale front back m own now is says)
   fell_by m there step refusal step_is says (SettleLate own now) front back is = absurd (never_stale front back m own now is says)
   fell_by m there step refusal step_is says (DropLate own now) front back is = absurd (never_stale front back m own now is says)
+  fell_by m there step refusal step_is says (DeleteLate own now) front back is = absurd (never_stale front back m own now is says)
 
   pub fallen_by : WasStopped log → SwapFailed log
   fallen_by was = let p = place_at log was.moment was.there in fell_by was.moment was.there was.moment.entry.step was.refusal refl was.refused was.stops p.0 p.1 p.2

@@ -26,6 +26,7 @@ use Rattle.esr_repo.specs.Past.{IsPast}
 use Rattle.esr_run.specs.Start.{Telling, known_by, told_by, formats_by, start_of, LegalRun}
 use Rattle.esr_run.specs.Images.{Holds, TellsAll, StaysKept, EveryImageKept, AnsweredStay}
 use Rattle.esr_run.specs.Laws.{Laws}
+use Rattle.esr_run.proofs.Settled.{delete_left}
 use Rattle.esr_run.proofs.Worlds.{opened_image}
 
 some_same : (x y : Held) → Some x ≡ Some y → x ≡ y
@@ -174,10 +175,16 @@ pub answers_stay : (laws : Laws) (files : Telling) (size : ℕ) (quiet : Bool) (
     → LegalRun (start_at files size quiet before mid k o) mid.clock after history → IsPast (start_at files size quiet before mid k o) mid.clock mid.since after history
     → AnsweredStay (start_at files size quiet before mid k o) mid.clock history before after
 answers_stay laws files size quiet before mid after k history o run past shelf h t front back e n split settles i left =
-    laws.stays f size (image_of h.image) shelf w first rest m settles.ticket n (image_of i) r.known r.kept r.opened
-    (subst (IsLegal f size w) log_is r.legal) (subst AreTold log_is r.told) (subst (AreHonest f w) log_is r.honest)
-    settles.step settles.answered settles.there settles.raised
-    (subst (λ (x : World). Leaves f size x rest (image_of i)) world_is (subst (λ (c : ℕ). Leaves f size (world_of s (log_of after mid.clock (front ++ e ∷ []))) (log_of after c back) (image_of i)) (ticks_on mid.clock front e) leaves))
+    elim settles.step [
+      | inl one ↦
+          laws.stays f size (image_of h.image) shelf w first rest m settles.ticket n (image_of i) r.known r.kept r.opened
+          (subst (IsLegal f size w) log_is r.legal) (subst AreTold log_is r.told) (subst (AreHonest f w) log_is r.honest)
+          one settles.answered settles.there settles.raised since
+      | inr one ↦
+          delete_left f size first rest w shelf m settles.ticket n (image_of i) r.known (laws.lawful f (image_of h.image) shelf w r.kept r.opened)
+          (subst (IsLegal f size w) log_is r.legal) (subst AreTold log_is r.told) (subst (AreHonest f w) log_is r.honest)
+          one settles.answered settles.there settles.raised since
+    ]
   where
     s : Start
     s = start_at files size quiet before mid k o
@@ -208,3 +215,6 @@ answers_stay laws files size quiet before mid after k history o run past shelf h
 
     leaves : Leaves f size (world_of s (log_of after mid.clock (front ++ e ∷ []))) (log_of after (ticks mid.clock (front ++ e ∷ [])) back) (image_of i)
     leaves = past.since (front ++ e ∷ []) back i (split ∙ sym (append_assoc front (e ∷ []) back)) left
+
+    since : Leaves f size (world_after f (world_of s first) m) rest (image_of i)
+    since = subst (λ (x : World). Leaves f size x rest (image_of i)) world_is (subst (λ (c : ℕ). Leaves f size (world_of s (log_of after mid.clock (front ++ e ∷ []))) (log_of after c back) (image_of i)) (ticks_on mid.clock front e) leaves)

@@ -1,10 +1,13 @@
 pub mod Filling
 pub mod Making
+pub mod Unended
+pub mod Parts
 pub mod Reading
 pub mod Asking
 pub mod Scripts
 pub mod Numbering
 pub mod Worlds
+pub mod Settled
 pub mod Keeping
 pub mod Ending
 pub mod Restoring

@@ -30,8 +30,8 @@ use Rattle.esr_run.specs.Script.{is_carried, first_bad}
 use Rattle.esr_run.specs.Laws.{StepsStay}
 use Rattle.esr_run.proofs.Filling.{AsksLine}
 use Rattle.esr_check.specs.Began.{HasEndedCheck}
-use Rattle.esr_run.specs.Checked.{is_check, asks_check}
-use Rattle.esr_run.specs.Made.{MadeFirst, HasStopped, HasNoReaders, AreIn, LineMade, LineRests, WaitEnds, WaitEnded, WaitsEnded, AreMade, AreDone, NoneOpen, WasStopped, WasLeft, AreAsked, LineSpends, WasLookRefused, CheckEnds, CheckEnded, ChecksEnded}
+use Rattle.esr_run.specs.Checked.{is_check, asks_check, EndsNone}
+use Rattle.esr_run.specs.Made.{MadeFirst, HasStopped, HasNoReaders, AreIn, LineMade, LineRests, WaitEnds, WaitEnded, WaitsEnded, AreMade, AreDone, NoneOpen, WasStopped, WasLeft, AreAsked, LineSpends, WasLookRefused, CheckEnds, CheckEnded, ChecksEnded, LinePart, AreInParts}
 
 abbrev Readers : Type 0
 Readers = FinMap nat_cmp Reader
@@ -305,6 +305,12 @@ checks_next s moment done line old mid new f g checks ends before after l is che
     (λ (earlier : (rest : List ScriptLine) × (done ≡ before ++ l ∷ rest)). check_on s moment before (steps_of_item moment line.item) old mid new g (checks before earlier.0 l earlier.1 check))
     (split_last done line before l after is)
 
+-- ---- the parts of lines
+
+parts_next : (s : Start) (moment : ℕ) (done : List ScriptLine) (line : ScriptLine) (old mid new : List Moment) → AreInParts s moment done old mid → GrewAsking s (steps_of_item moment line.item) mid new → LinePart line.item mid new → AreInParts s moment (done ++ line ∷ []) old new
+parts_next s moment [] line old mid new same g p = (new, subst (λ (l : List Moment). GrewAsking s (steps_of_item moment line.item) l new) same g, subst (λ (l : List Moment). LinePart line.item l new) same p, refl)
+parts_next s moment (d ∷ done) line old mid new (first, own, part, rest) g p = (first, own, part, parts_next s moment done line first mid new rest g p)
+
 -- ---- so many lines were carried out
 
 steps_append : (moment : ℕ) (a b : List ScriptLine) → steps_of moment (a ++ b) ≡ steps_of moment a ++ steps_of moment b
@@ -321,14 +327,15 @@ pub record Front (s : Start) (moment : ℕ) (left lines : List ScriptLine) (old 
   pub is : done ++ left ≡ lines
   pub grew : GrewAsking s (steps_of moment done) old new
   pub checks : ChecksEnded s moment done old new
+  pub parts : AreInParts s moment done old new
   pub rests : s.alone ≡ true → AreIn s old → Rested s moment done old new ⊎ HasStopped new
 
 pub front_none : (s : Start) (moment : ℕ) (lines : List ScriptLine) (log : List Moment) → Front s moment lines lines log log
-front_none s moment lines log = record { done = []; is = refl; grew = asking_none s log; checks = no_checks s moment log log; rests = λ alone none. inl (record { none_out = none; waits = no_waits s moment log log }) }
+front_none s moment lines log = record { done = []; is = refl; grew = asking_none s log; checks = no_checks s moment log log; parts = refl; rests = λ alone none. inl (record { none_out = none; waits = no_waits s moment log log }) }
 
 pub front_next : (s : Start) (moment : ℕ) (line : ScriptLine) (rest lines : List ScriptLine) (old mid new : List Moment) → Front s moment (line ∷ rest) lines old mid → GrewAsking s (steps_of_item moment line.item) mid new
-    → EndsCheck line.item mid new → (s.alone ≡ true → AreIn s mid → LineEnded s line.item new) → Front s moment rest lines old new
-front_next s moment line rest lines old mid new f g ends ended =
+    → EndsCheck line.item mid new → (is_check line.item ≡ false → EndsNone mid new) → (s.alone ≡ true → AreIn s mid → LineEnded s line.item new) → Front s moment rest lines old new
+front_next s moment line rest lines old mid new f g ends others ended =
     let same : steps_of moment (f.done ++ line ∷ []) ≡ steps_of moment f.done ++ steps_of_item moment line.item =
     steps_append moment f.done (line ∷ []) ∙ ap (λ (l : List Step). steps_of moment f.done ++ l) (append-nil (steps_of_item moment line.item)) in
     record {
@@ -336,6 +343,7 @@ front_next s moment line rest lines old mid new f g ends ended =
       is = append_assoc f.done (line ∷ []) rest ∙ f.is;
       grew = subst (λ (l : List Step). GrewAsking s l old new) (sym same) (asking_on s (steps_of moment f.done) (steps_of_item moment line.item) old mid new f.grew g);
       checks = checks_next s moment f.done line old mid new f.grew g f.checks ends;
+      parts = parts_next s moment f.done line old mid new f.parts g (record { checks = ends; others = others });
       rests = λ alone none. ⊎_elim
           (λ (r : Rested s moment f.done old mid). ⊎_elim
           (λ (e : AreIn s new × (line.item ≡ items.Wait → IsLast new 0 TakeStep NothingReady)). inl (record { none_out = e.0; waits = waits_next s moment f.done line old mid new f.grew g r.waits e.0 e.1 }))
@@ -377,7 +385,7 @@ front_all s moment left lines old new none f closed alone out =
     let grew : GrewAsking s (steps_of moment lines) old new = subst (λ (l : List ScriptLine). GrewAsking s (steps_of moment l) old new) all f.grew in
     let checks : ChecksEnded s moment lines old new = subst (λ (l : List ScriptLine). ChecksEnded s moment l old new) all f.checks in
     elim (f.rests alone out) [
-      | inl r ↦ inl (record { grew = grew; waits = subst (λ (l : List ScriptLine). WaitsEnded s moment l old new) all r.waits; checks = checks; rests = r.none_out; closed = closed })
+      | inl r ↦ inl (record { grew = grew; waits = subst (λ (l : List ScriptLine). WaitsEnded s moment l old new) all r.waits; checks = checks; parts = subst (λ (l : List ScriptLine). AreInParts s moment l old new) all f.parts; rests = r.none_out; closed = closed })
       | inr (inl was) ↦ inr (inl (record { grew = grew; checks = checks; closed = closed }, was))
       | inr (inr turns) ↦ inr (inr turns)
     ]
@@ -395,9 +403,9 @@ made_then s wanted old mid new f g = record {
 then_asked : (s : Start) (moment : ℕ) (lines : List ScriptLine) (old mid new : List Moment) → GrewAsking s (steps_of moment lines) old mid → GrewAsking s [] mid new → GrewAsking s (steps_of moment lines) old new
 then_asked s moment lines old mid new all g = subst (λ (l : List Step). GrewAsking s l old new) (append-nil (steps_of moment lines)) (asking_on s (steps_of moment lines) [] old mid new all g)
 
-pub done_then : (s : Start) (moment : ℕ) (lines : List ScriptLine) (old mid new : List Moment) → (s.alone ≡ true → AreIn s old → AreMade s moment lines old mid ⊎ WasLeft s moment lines old mid) → GrewAsking s [] mid new → (s.alone ≡ true → AreIn s mid → IsIdle s new ⊎ HasStopped new)
+pub done_then : (s : Start) (moment : ℕ) (lines : List ScriptLine) (old mid new : List Moment) → (s.alone ≡ true → AreIn s old → AreMade s moment lines old mid ⊎ WasLeft s moment lines old mid) → GrewAsking s [] mid new → EndsNone mid new → (s.alone ≡ true → AreIn s mid → IsIdle s new ⊎ HasStopped new)
     → (NoneOpen s mid → NoneOpen s new) → s.alone ≡ true → AreIn s old → AreDone s moment lines old new ⊎ WasLeft s moment lines old new
-done_then s moment lines old mid new made g done closes alone none = elim (made alone none) [
+done_then s moment lines old mid new made g unended done closes alone none = elim (made alone none) [
   | inl all ↦ made_well all (done alone all.rests)
   | inr (inl left) ↦ inr (left_on left (stopped_stays s [] mid new g (inl left.1)))
   | inr (inr turns) ↦ inr (turns_on turns)
@@ -414,6 +422,7 @@ done_then s moment lines old mid new made g done closes alone none = elim (made 
       grew = then_asked s moment lines old mid new all.grew g;
       waits = λ before after line is wait. wait_on s moment before [] old mid new g (all.waits before after line is wait);
       checks = checks_then all.checks;
+      parted = record { mid = mid; parts = all.parts; grew = g; none = unended };
       idle = idle;
       closed = closes all.closed;
     })
@@ -486,10 +495,10 @@ take_rest [] = take_all (length (drop 1 none) - 1) (drop 1 none) (let few : 0 �
 take_rest (x ∷ rest) = take_all (length (x ∷ rest) - 1) rest (let le : length rest ≤ suc (length rest) - 1 = omega arith in le)
 
 step_front : (s : Start) (moment : ℕ) (line : ScriptLine) (left lines : List ScriptLine) (old mid new : List Moment) → 1 ≤ length left → line ≡ slice_index_or left 0 line → Front s moment left lines old mid → GrewAsking s (steps_of_item moment line.item) mid new
-    → EndsCheck line.item mid new → (s.alone ≡ true → AreIn s mid → LineEnded s line.item new) → Front s moment (drop 1 left) lines old new
-step_front s moment line [] lines old mid new some is f g ends ended = absurd (let none : List ScriptLine = [] in let le : 1 ≤ length none = some in omega (arith, le))
-step_front s moment line (x ∷ rest) lines old mid new some is f g ends ended =
-    front_next s moment x rest lines old mid new f (subst (λ (l : ScriptLine). GrewAsking s (steps_of_item moment l.item) mid new) is g) (subst (λ (l : ScriptLine). EndsCheck l.item mid new) is ends) (subst (λ (l : ScriptLine). s.alone ≡ true → AreIn s mid → LineEnded s l.item new) is ended)
+    → EndsCheck line.item mid new → (is_check line.item ≡ false → EndsNone mid new) → (s.alone ≡ true → AreIn s mid → LineEnded s line.item new) → Front s moment (drop 1 left) lines old new
+step_front s moment line [] lines old mid new some is f g ends others ended = absurd (let none : List ScriptLine = [] in let le : 1 ≤ length none = some in omega (arith, le))
+step_front s moment line (x ∷ rest) lines old mid new some is f g ends others ended =
+    front_next s moment x rest lines old mid new f (subst (λ (l : ScriptLine). GrewAsking s (steps_of_item moment l.item) mid new) is g) (subst (λ (l : ScriptLine). EndsCheck l.item mid new) is ends) (subst (λ (l : ScriptLine). is_check l.item ≡ false → EndsNone mid new) is others) (subst (λ (l : ScriptLine). s.alone ≡ true → AreIn s mid → LineEnded s l.item new) is ended)
 
 -- a line that is a check is one of these
 asks_has : (done : List ScriptLine) (line : ScriptLine) (rest : List ScriptLine) → is_check line.item ≡ true → asks_check (done ++ line ∷ rest) ≡ true
@@ -514,8 +523,8 @@ asks_here s moment line left lines old mid some is f check =
     subst (λ (l : List ScriptLine). asks_check l ≡ true) (ap (λ (l : List ScriptLine). f.done ++ l) (sym first.1) ∙ f.is) (asks_has f.done line first.0 check)
 
 pub front_step : (s : Start) (moment : ℕ) (line : ScriptLine) (left lines : List ScriptLine) (old mid new : List Moment) → 1 ≤ length left → line ≡ slice_index_or left 0 line → Front s moment left lines old mid → GrewAsking s (steps_of_item moment line.item) mid new
-    → EndsCheck line.item mid new → (s.alone ≡ true → AreIn s mid → LineEnded s line.item new) → Front s moment (take (length left - 1) (drop 1 left)) lines old new
-front_step s moment line left lines old mid new some is f g ends ended = subst (λ (l : List ScriptLine). Front s moment l lines old new) (sym (take_rest left)) (step_front s moment line left lines old mid new some is f g ends ended)
+    → EndsCheck line.item mid new → (is_check line.item ≡ false → EndsNone mid new) → (s.alone ≡ true → AreIn s mid → LineEnded s line.item new) → Front s moment (take (length left - 1) (drop 1 left)) lines old new
+front_step s moment line left lines old mid new some is f g ends others ended = subst (λ (l : List ScriptLine). Front s moment l lines old new) (sym (take_rest left)) (step_front s moment line left lines old mid new some is f g ends others ended)
 
 when_good : (b : Bool) (number : ℕ) (o : Option ℕ) → (if b then o else Some number) ≡ None → o ≡ None
 when_good true number o e = e

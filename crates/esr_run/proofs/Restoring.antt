@@ -10,6 +10,7 @@ use Rattle.esr_script.specs.declared.item.ScriptLine.{ScriptLine}
 use Rattle.esr_desk.specs.declared.fault.Fault.{Fault}
 use Rattle.esr_desk.specs.Start.{Start, Legal}
 use Rattle.esr_desk.specs.Once.{AreOnce, NoneTwice}
+use Rattle.esr_deleting.specs.Once.{AreRemovedOnce}
 use Rattle.esr_checking.specs.Tested.{AreTested}
 use Rattle.esr_opening.specs.Opening.{Kept, IsOpening}
 use Rattle.esr_repo.specs.Log.{log_of}
@@ -88,15 +89,15 @@ module _ {T : Type 0} (law : ByLines T) (c : drive.Telling T) (s : Start) (momen
 pub opens_restored : {S F H T : Type 0} (laws : Laws) (count : Counts S F H T) (files : Telling) (size workers moment : ℕ) (lines : List ScriptLine) (quiet : Bool) (before mid after : Look) (k : Kept) (history : List Entry) (faults : List (Fault S F H T)) (targets : List (Restored T)) (status : ℕ)
     (o : IsOpening before mid k) → (2 ^ 62 ≤ before.sure → quiet ≡ true)
     → LegalRun (Begun files size quiet mid k) mid.clock after history → IsPast (Begun files size quiet mid k) mid.clock mid.since after history → AreShown count (Begun files size quiet mid k) (log_of after mid.clock history) faults
-    → AreOnce (Begun files size quiet mid k) (log_of after mid.clock history) → AreTested (Begun files size quiet mid k) (log_of after mid.clock history) → NoneTwice (log_of after mid.clock history) → IsCalm quiet after.sure history → MadeFirst (Begun files size quiet mid k) (steps_of moment lines) [] (log_of after mid.clock history)
+    → AreOnce (Begun files size quiet mid k) (log_of after mid.clock history) → AreTested (Begun files size quiet mid k) (log_of after mid.clock history) → NoneTwice (log_of after mid.clock history) → AreRemovedOnce (log_of after mid.clock history) → IsCalm quiet after.sure history → MadeFirst (Begun files size quiet mid k) (steps_of moment lines) [] (log_of after mid.clock history)
     → AreWhole (Begun files size quiet mid k) workers (asks_check lines) (log_of after mid.clock history) → TakesFew lines (log_of after mid.clock history)
     → (status ≡ 8) ⊎ AreTargetsOfLines (target_telling count files) (Begun files size quiet mid k) moment lines (log_of after mid.clock history) targets
     → OpensRestored count files size workers moment lines before after history faults targets status
 unfolding opened_run
-opens_restored {S} {F} {H} {T} laws count files size workers moment lines quiet before mid after k history faults targets status o quiet_is legal past shown once tested single calm made verified takes (inl wanting) = inl wanting
-opens_restored {S} {F} {H} {T} laws count files size workers moment lines quiet before mid after k history faults targets status o quiet_is legal past shown once tested single calm made verified takes (inr of) =
+opens_restored {S} {F} {H} {T} laws count files size workers moment lines quiet before mid after k history faults targets status o quiet_is legal past shown once tested single removed calm made verified takes (inl wanting) = inl wanting
+opens_restored {S} {F} {H} {T} laws count files size workers moment lines quiet before mid after k history faults targets status o quiet_is legal past shown once tested single removed calm made verified takes (inr of) =
     inr (inr (
-      opened_run laws count files size workers moment lines quiet before mid after k history faults o quiet_is legal past shown once tested single calm made verified takes,
+      opened_run laws count files size workers moment lines quiet before mid after k history faults o quiet_is legal past shown once tested single removed calm made verified takes,
       subst (λ (s : Start). AreTargetsOfLines {T = T} (target_telling count files) s moment lines (log_of after mid.clock history) targets) (start_is files size quiet before mid k o) of,
     ))
 

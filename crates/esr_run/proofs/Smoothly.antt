@@ -1,8 +1,9 @@
 -- Completeness, from the end of a run to its words.
 use Rattle.std.proofs.Common.{◌≡◌, ◌⊎◌, ℕ, ◌+◌, ◌^◌, ◌<◌, ◌≤◌, Bool, true, false, not, nat_lt, List, [], Option, Some, None, Result, Ok, Err, refl, sym, ap, ◌∙◌, subst, inl, inr, ⊎_elim, arith}
 use Rattle.std.proofs.lemmas.Bool.{ltb-true, ltb-false}
+use Rattle.std.specs.FinMap as fin
 use Rattle.esr_model.specs.Values.{Bytes}
-use Rattle.esr_core.specs.World.{World}
+use Rattle.esr_core.specs.World.{World, numbered_deletes}
 use Rattle.esr_core.specs.Entry.{Entry}
 use Rattle.esr_depot.specs.Look.{Look, now}
 use Rattle.esr_depot.specs.Calls.{HasCause}
@@ -17,6 +18,7 @@ use Rattle.esr_desk.specs.Start.{Start}
 use Rattle.esr_desk.specs.declared.fault.Fault.{Fault}
 use Rattle.esr_run.specs.Counts.{Counts, AreShown}
 use Rattle.esr_desk.specs.Once.{AreOnce, NoneTwice}
+use Rattle.esr_deleting.specs.Once.{AreRemovedOnce}
 use Rattle.esr_checking.specs.Tested.{AreTested}
 use Rattle.esr_repo.specs.Log.{log_of}
 use Rattle.esr_repo.specs.Past.{IsPast}
@@ -29,7 +31,7 @@ use Rattle.esr_run.specs.Ends.{RunEnd, BadWords, Unreadable, BadScript, BadLine,
 use Rattle.esr_run.specs.Start.{Telling, is_calm_by, start_of, LegalRun}
 use Rattle.esr_run.specs.Complete.{IsQuietFor, IsLastTerm}
 use Rattle.esr_run.specs.Laws.{Laws, QuietLaws}
-use Rattle.esr_run.specs.Checked.{NoCheckFails, asks_check}
+use Rattle.esr_run.specs.Checked.{asks_check}
 use Rattle.esr_run.specs.Verified.{AreClosed, AreWhole}
 use Rattle.esr_run.specs.Waits.{TakesFew}
 use Rattle.esr_run.specs.Made.{MadeFirst, HasFallen, AreDone}
@@ -68,20 +70,20 @@ carried_status status text lines history (inr told) = inr told.0
 pub opens_well : {S F H T : Type 0} (laws : Laws) (quiet_laws : QuietLaws S F H T) (count : Counts S F H T) (files : Telling) (size workers moment : ℕ) (lines : List ScriptLine) (quiet : Bool) (before mid after : Look) (k : Kept) (history : List Entry) (faults : List (Fault S F H T))
     (status : ℕ) (text : Bytes) (o : IsOpening before mid k) → (2 ^ 62 ≤ before.sure → quiet ≡ true)
     → LegalRun (Begun files size quiet mid k) mid.clock after history → IsPast (Begun files size quiet mid k) mid.clock mid.since after history → AreShown count (Begun files size quiet mid k) (log_of after mid.clock history) faults
-    → AreOnce (Begun files size quiet mid k) (log_of after mid.clock history) → AreTested (Begun files size quiet mid k) (log_of after mid.clock history) → NoneTwice (log_of after mid.clock history) → IsCalm quiet after.sure history → MadeFirst (Begun files size quiet mid k) (steps_of moment lines) [] (log_of after mid.clock history)
+    → AreOnce (Begun files size quiet mid k) (log_of after mid.clock history) → AreTested (Begun files size quiet mid k) (log_of after mid.clock history) → NoneTwice (log_of after mid.clock history) → AreRemovedOnce (log_of after mid.clock history) → IsCalm quiet after.sure history → MadeFirst (Begun files size quiet mid k) (steps_of moment lines) [] (log_of after mid.clock history)
     → AreWhole (Begun files size quiet mid k) workers (asks_check lines) (log_of after mid.clock history) → TakesFew lines (log_of after mid.clock history)
     → AreDeposedSo history → IsTold status text (Some (Carried lines history))
     → (status ≡ 8) ⊎ (AreDone (Begun files size quiet mid k) moment lines [] (log_of after mid.clock history) ⊎ HasFallen (Begun files size quiet mid k) moment lines [] (log_of after mid.clock history))
     → OpensWell count files size workers moment lines before after history faults status
 unfolding opened_run
-opens_well {S} {F} {H} {T} laws quiet_laws count files size workers moment lines quiet before mid after k history faults status text o quiet_is legal past shown once tested single calm made verified takes named told (inl wanting) quiet_for = inl wanting
-opens_well {S} {F} {H} {T} laws quiet_laws count files size workers moment lines quiet before mid after k history faults status text o quiet_is legal past shown once tested single calm made verified takes named told (inr done) quiet_for =
+opens_well {S} {F} {H} {T} laws quiet_laws count files size workers moment lines quiet before mid after k history faults status text o quiet_is legal past shown once tested single removed calm made verified takes named told (inl wanting) quiet_for = inl wanting
+opens_well {S} {F} {H} {T} laws quiet_laws count files size workers moment lines quiet before mid after k history faults status text o quiet_is legal past shown once tested single removed calm made verified takes named told (inr done) quiet_for =
     ⊎_elim
     (λ (wanting : status ≡ 8). inl wanting)
     (λ (is : status ≡ status_of (ending lines history)).
     inr (inr (
-      opened_run laws count files size workers moment lines quiet before mid after k history faults o quiet_is legal past shown once tested single calm made verified takes,
-      completes quiet_laws count files size moment lines before after world mid.clock history faults (λ i e. o.opens i _ _ e) status o.order.no_deletes
+      opened_run laws count files size workers moment lines quiet before mid after k history faults o quiet_is legal past shown once tested single removed calm made verified takes,
+      completes quiet_laws count files size moment lines before after world mid.clock history faults (λ i e. o.opens i _ _ e) status none_kept
           (subst (λ (s : Start). LegalRun s mid.clock after history) same legal).legal
           (subst (λ (s : Start). IsPast s mid.clock mid.since after history) same past).told
           (subst (λ (s : Start). AreShown {S = S} {F = F} {H = H} {T = T} count s (log_of after mid.clock history) faults) same shown)
@@ -90,7 +92,7 @@ opens_well {S} {F} {H} {T} laws quiet_laws count files size workers moment lines
           (subst (λ (b : Bool). IsCalm b after.sure history) yes_quiet calm)
           named
           (subst (λ (s : Start). MadeFirst s (steps_of moment lines) [] (log_of after mid.clock history)) same made)
-          verified.begun (λ no. subst (λ (s : Start). NoCheckFails s (log_of after mid.clock history)) same (verified.unchecked no)) (subst (λ (s : Start). AreClosed s (log_of after mid.clock history)) same verified.closed)
+          (subst (λ (s : Start). AreClosed s (log_of after mid.clock history)) same verified.closed)
           (subst (λ (s : Start). AreDone s moment lines [] (log_of after mid.clock history) ⊎ HasFallen s moment lines [] (log_of after mid.clock history)) same done)
           quiet_for.known is quiet_for,
     )))
@@ -98,6 +100,9 @@ opens_well {S} {F} {H} {T} laws quiet_laws count files size workers moment lines
   where
     world : World
     world = world_in (now before) o.cluster o.root
+
+    none_kept : world.deletes ≡ fin.empty
+    none_kept = ap (λ (kept : List (List ℕ)). numbered_deletes 1 kept) (quiet_for.undeleted o.cluster o.root (o.finds quiet_for.holds.image quiet_for.holds.told))
 
     yes_quiet : quiet ≡ true
     yes_quiet = quiet_is quiet_for.sure
@@ -118,8 +123,7 @@ refused_well count files size workers moment lines before mid after old_faults n
     let enough : 2 ^ 62 ≤ before.sure = quiet_for.sure in
     absurd (sure (omega (arith, enough)) fetch refl)
 refused_well count files size workers moment lines before mid after old_faults new_faults history faults status text (refusals.Damaged name why) told refused sure quiet_for =
-    let i = quiet_for.holds.image in
-    absurd (quiet_for.undeleted name why (refused.2 i _ _ quiet_for.shelf quiet_for.holds.told quiet_for.holds.kept) (refused.1 i quiet_for.holds.told))
+    absurd (refused.2 quiet_for.holds.image _ _ quiet_for.shelf quiet_for.holds.told quiet_for.holds.kept)
 refused_well count files size workers moment lines before mid after old_faults new_faults history faults status text (refusals.TermsSpent term) told refused sure quiet_for =
     inr (inl (quiet_for.holds.image, term, quiet_for.holds.told, refused.1 quiet_for.holds.image quiet_for.holds.told))
 

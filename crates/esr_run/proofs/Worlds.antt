@@ -1,12 +1,11 @@
 -- The world of a container that was opened, by the record that it got.
-use Rattle.std.proofs.Common.{◌≡◌, ℕ, suc, Bool, false, List, [], ◌∷◌, length, Option, Some, None, is_some, cond, refl, sym, ap, ◌∙◌, subst, arith, nat_cmp}
+use Rattle.std.proofs.Common.{◌≡◌, ℕ, ◌^◌, ◌≤◌, Bool, false, [], Option, Some, None, is_some, refl, sym, ap, ◌∙◌, subst, arith, nat_cmp}
 use Rattle.std.specs.FinMap.{FinMap}
 use Rattle.std.specs.FinMap as fin
-use Rattle.std.specs.Cmp.{nat_cmp_total, eq_by_cmp_equiv}
 use Rattle.esr_model.specs.Values.{ClusterRecord, RootData}
 use Rattle.esr_model.specs.Image.{Blobs}
 use Rattle.esr_model.specs.Kept.{first_id}
-use Rattle.esr_core.specs.World.{World, Deletion, no_caller, record_of, opened, kept_deletes, numbered_deletes}
+use Rattle.esr_core.specs.World.{World, Deletion, no_caller, record_of, opened}
 use Rattle.esr_core.specs.World as core
 use Rattle.esr_core.specs.ReadTracked.{ReadTracked}
 use Rattle.esr_depot.specs.Image.{Image as Held, with_text}
@@ -17,6 +16,7 @@ use Rattle.esr_formats.specs.Roots.{root_of}
 use Rattle.esr_formats.specs.Formats.{formats}
 use Rattle.esr_formats.specs.Clusters.{cluster_of}
 use Rattle.esr_progress.specs.Infos.{AreInfosOf}
+use Rattle.esr_progress.specs.Plan.{Plan}
 use Rattle.esr_desk.specs.Start.{Start}
 use Rattle.esr_opening.specs.Listed.{AreListed}
 use Rattle.esr_opening.specs.Opening.{image_of, Kept, IsKeptOf, IsInOrder, known_blobs, is_told, world_in, opened_text, IsOpening}
@@ -44,29 +44,16 @@ idle_world blobs safe pending term root deletes next_op =
       next_ticket = 1;
       next_id = first_id term;
       doomed = [];
+      removed = [];
       deposed = false;
       restores = fin.empty;
       readers = fin.empty;
       caller = no_caller;
     }
 
-abbrev pub begun_world : Option Held → ClusterRecord → RootData → World
-begun_world held cluster root = idle_world (known_blobs held) cluster.ledger.safe cluster.ledger.pending cluster.ledger.term root fin.empty 1
-
--- ---- no delete is kept
-
-put_there : (deletes : Deletions) (k : ℕ) (x : Deletion) → fin.get (fin.insert deletes k x) k ≡ Some x
-put_there deletes k x = fin.get-insert nat_cmp_total deletes k x k ∙ ap (λ (b : Bool). cond b (Some x) (fin.get deletes k)) ((eq_by_cmp_equiv nat_cmp_total).refl k)
-
-none_some : (x : Deletion) → None ≡ Some x → ⊥
-none_some x e = cc
-
-not_empty : (deletes : Deletions) (k : ℕ) (x : Deletion) → fin.insert deletes k x ≡ fin.empty → ⊥
-not_empty deletes k x e = none_some x (sym (fin.get-empty nat_cmp k) ∙ ap (λ (m : Deletions). fin.get m k) (sym e) ∙ put_there deletes k x)
-
-none_kept : (n : ℕ) (kept : List (List ℕ)) → numbered_deletes n kept ≡ fin.empty → length kept ≡ 0
-none_kept n [] e = refl
-none_kept n (uuids ∷ rest) e = absurd (not_empty (numbered_deletes (suc n) rest) n (record { uuids = uuids; clean = false; failed = false }) e)
+-- by what was kept of it: the deletes stand in the list of ops
+abbrev pub begun_world : Option Held → ClusterRecord → RootData → Plan → World
+begun_world held cluster root plan = idle_world (known_blobs held) cluster.ledger.safe cluster.ledger.pending cluster.ledger.term root plan.deletes plan.next_op
 
 -- ---- the world that was opened
 
@@ -90,14 +77,13 @@ same_blobs before after k o = go (now before) refl
     go None e = ap known_blobs (o.untold e) ∙ sym (ap known_blobs e)
     go (Some i) e = ap known_blobs (o.swapped i e) ∙ sym (ap known_blobs e)
 
-pub begun_is : (before after : Look) (k : Kept) (o : IsOpening before after k) → begun_world (now after) (cluster_of k.cluster) (root_of k.root) ≡ world_in (now before) o.cluster o.root
+pub begun_is : (before after : Look) (k : Kept) (o : IsOpening before after k) → begun_world (now after) (cluster_of k.cluster) (root_of k.root) k.plan ≡ world_in (now before) o.cluster o.root
 begun_is before after k o =
     let w : World = world_in (now before) o.cluster o.root in
     let c : ClusterRecord = cluster_of k.cluster in
-    let none : length (kept_deletes (cluster_of o.cluster).ops) ≡ 0 = none_kept 1 (kept_deletes (cluster_of o.cluster).ops) o.order.no_deletes in
-    same_idle (known_blobs (now after)) (known_blobs (now before)) c.ledger.safe w.safe c.ledger.pending w.pending c.ledger.term w.term (root_of k.root) w.root fin.empty w.deletes 1 w.next_op
+    same_idle (known_blobs (now after)) (known_blobs (now before)) c.ledger.safe w.safe c.ledger.pending w.pending c.ledger.term w.term (root_of k.root) w.root k.plan.deletes w.deletes k.plan.next_op w.next_op
     (same_blobs before after k o) (ap (λ (r : ClusterRecord). r.ledger.safe) o.kept.cluster) (ap (λ (r : ClusterRecord). r.ledger.pending) o.kept.cluster) (ap (λ (r : ClusterRecord). r.ledger.term) o.kept.cluster)
-    o.kept.root (sym o.order.no_deletes) (sym (ap suc none))
+    o.kept.root o.kept.plan.deletes o.kept.plan.next_op
 
 -- ---- what is told at the start
 
@@ -110,7 +96,7 @@ same_tells before after k o = go (now before) refl
     go (Some i) e = ap is_some (o.swapped i e) ∙ sym (ap is_some e)
 
 pub start_is : (files : Telling) (size : ℕ) (quiet : Bool) (before after : Look) (k : Kept) (o : IsOpening before after k)
-    → start_of files size quiet after (begun_world (now after) (cluster_of k.cluster) (root_of k.root)) ≡ start_of files size quiet before (world_in (now before) o.cluster o.root)
+    → start_of files size quiet after (begun_world (now after) (cluster_of k.cluster) (root_of k.root) k.plan) ≡ start_of files size quiet before (world_in (now before) o.cluster o.root)
 start_is files size quiet before after k o =
     ap (λ (w : World). start_of files size quiet after w) (begun_is before after k o)
     ∙ ap (λ (b : Bool). let s : Start = record (start_of files size quiet before (world_in (now before) o.cluster o.root)) { tells = b } in s) (same_tells before after k o)
@@ -149,10 +135,10 @@ told_some (Some i) = refl
 
 pub begins : ((blobs : Blobs) (cluster : ClusterRecord) (root : RootData) → ReadTracked (opened blobs cluster root)) → (files : Telling) (size : ℕ) (quiet : Bool) (before after : Look) (k : Kept) → IsOpening before after k → AreListed (root_of k.root) k.infos
     → ((i : Held) → after.since after.clock i → now after ≡ Some i)
-    → IsBegun (start_of files size quiet after (begun_world (now after) (cluster_of k.cluster) (root_of k.root))) after.clock after.since after k
+    → IsBegun (start_of files size quiet after (begun_world (now after) (cluster_of k.cluster) (root_of k.root) k.plan)) after.clock after.since after k
 begins tracks files size quiet before after k o listed only =
     let w : World = world_in (now before) o.cluster o.root in
-    let is : begun_world (now after) (cluster_of k.cluster) (root_of k.root) ≡ w = begun_is before after k o in
+    let is : begun_world (now after) (cluster_of k.cluster) (root_of k.root) k.plan ≡ w = begun_is before after k o in
     record {
       kept = subst (λ (x : World). IsKeptOf x k) (sym is) o.kept;
       order = subst IsInOrder (sym is) o.order;
@@ -163,7 +149,7 @@ begins tracks files size quiet before after k o listed only =
       infos = subst (λ (x : World). AreInfosOf (formats_by files) x (is_some (now after)) k.infos) (sym is)
           (subst (λ (b : Bool). AreInfosOf (formats_by files) w b k.infos) (told_some (now before) ∙ sym (same_tells before after k o)) (o.infos (known_by files) (told_by files)));
       listed = listed;
-      roomy = record { ops = omega arith; tickets = omega arith };
+      roomy = record { ops = subst (λ (n : ℕ). n ≤ 2 ^ 61) (sym o.kept.plan.next_op) o.order.few; tickets = omega arith };
       image = λ i now_is. image_now files before after k o i now_is ∙ ap (core.image_of (formats_by files)) (sym is);
       tells = tells_so after;
       clock_is = refl;

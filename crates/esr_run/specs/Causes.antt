@@ -22,6 +22,7 @@ use Rattle.esr_complete.specs.Lines.{steps_of}
 use Rattle.esr_desk.specs.declared.fault.Fault.{Fault}
 use Rattle.esr_run.specs.Counts.{Counts, AreShown}
 use Rattle.esr_desk.specs.Once.{AreOnce, NoneTwice}
+use Rattle.esr_deleting.specs.Once.{AreRemovedOnce}
 use Rattle.esr_checking.specs.Tested.{AreTested}
 use Rattle.esr_run.specs.Asked.{Wanted, ReadScript, OneCommand, NoCommand, NoRun, AsksScript, wanted_of, workers_of, part_size_of, single_script}
 use Rattle.esr_run.specs.Script.{AreBytes, first_bad, bad_line}
@@ -149,6 +150,8 @@ pub record IsOpenedRun {S F H T : Type 0} (count : Counts S F H T) (files : Tell
   pub tested : AreTested (start_of files size quiet before world) (log_of after clock history)
   -- no ticket makes a step twice
   pub single : NoneTwice (log_of after clock history)
+  -- nor removes a name twice
+  pub removed : AreRemovedOnce (log_of after clock history)
   -- a quiet container failed in none of the first 2^41 entries
   pub calm : IsCalm quiet after.sure history
   -- each verification and each check that ended well is whole; who 0 reads for verifications alone, each after a draw, and where a line

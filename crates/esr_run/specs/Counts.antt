@@ -35,6 +35,6 @@ read_counts c = record { fetch = c.fetch; target = c.target; made_for = c.target
 abbrev pub verify_counts : {S F H T : Type 0} → Counts S F H T → checking.Counts S F
 verify_counts c = record { stage = c.stage; fetch = c.fetch }
 
--- each failure of a unit, a restore or a verification that the history tells is shown, and each listed object shows such a failure
+-- each failure of a unit, a restore, a delete, a verification or a check that the history tells is shown, and each listed object shows such a failure
 abbrev pub AreShown : {S F H T : Type 0} → Counts S F H T → Start → List Moment → List (Fault S F H T) → Type 0
 AreShown c s log faults = AreAllShown (unit_counts c) (read_counts c) (verify_counts c) s log faults

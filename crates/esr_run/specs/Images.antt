@@ -1,11 +1,11 @@
 -- The images of a run: all that a crash at any moment since its entry might have left.
-use Rattle.std.specs.Prelude.{◌≡◌, ℕ, suc, ◌≤◌, List, [], ◌∷◌, ◌++◌, Some}
+use Rattle.std.specs.Prelude.{◌≡◌, ◌⊎◌, ℕ, suc, ◌≤◌, List, [], ◌∷◌, ◌++◌, Some}
 use Rattle.std.specs.FinMap as fin
 use Rattle.esr_model.specs.Values.{Formats}
 use Rattle.esr_model.specs.Shelf.{Shelved, shelf_after}
 use Rattle.esr_model.specs.Kept.{Kept}
 use Rattle.esr_core.specs.World.{World, Ticket}
-use Rattle.esr_core.specs.Entry.{Entry, SettleStep, WasSettled, Moment}
+use Rattle.esr_core.specs.Entry.{Entry, SettlePruned, SettleStep, PruneStep, WasSettled, Moment}
 use Rattle.esr_core.specs.History.{AllKnown, AreHonest, committed}
 use Rattle.esr_core.specs.Left.{safe_in}
 use Rattle.esr_depot.specs.Image.{Image as Held}
@@ -35,9 +35,9 @@ EveryImageKept f world log before after =
     (shelf : List Shelved) → Holds f before shelf → TellsAll f world log → (i : Held) → after.since before.clock i
     → Kept f (image_of i) (shelf_after shelf (committed f (safe_in f (image_of i)) world log))
 
--- in this world the entry is a settle that was answered, of a ticket that had raised that root
+-- in this world the entry is a settle that was answered, of a finalization's or a delete's ticket that had raised that root
 pub record Settles (world : World) (e : Entry) (n : ℕ) : Type 0 where
-  pub step : e.step ≡ SettleStep
+  pub step : (e.step ≡ SettleStep) ⊎ (e.step ≡ PruneStep SettlePruned)
   pub answered : e.reply ≡ WasSettled
   pub ticket : Ticket
   pub there : fin.get world.tickets e.who ≡ Some ticket

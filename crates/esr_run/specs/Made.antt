@@ -1,9 +1,10 @@
 -- How far lines were carried out.
-use Rattle.std.specs.Prelude.{◌≡◌, ◌≢◌, ◌⊎◌, ℕ, ◌^◌, ◌≤◌, List, [], ◌∷◌, ◌++◌, length, Result, Ok, Err}
+use Rattle.std.specs.Prelude.{◌≡◌, ◌≢◌, ◌⊎◌, ℕ, ◌^◌, ◌≤◌, false, List, [], ◌∷◌, ◌++◌, length, Result, Ok, Err}
 use Rattle.std.specs.FinMap as fin
 use Rattle.esr_model.specs.Values.{Has}
 use Rattle.esr_core.specs.Entry.{Step, TakeStep, LookStep, NothingReady, DeposedAt, Refused, Refusal, Moment}
 use Rattle.esr_core.specs.Refusing.{SwapFailed}
+use Rattle.esr_script.specs.declared.item.Item.{Item}
 use Rattle.esr_script.specs.declared.item.Item.TheVariants as items
 use Rattle.esr_script.specs.declared.item.ScriptLine.{ScriptLine}
 use Rattle.esr_desk.specs.declared.refusal.StepRefusal.{StepRefusal}
@@ -14,10 +15,11 @@ use Rattle.esr_desk.specs.Last.{IsLast}
 use Rattle.esr_checking.specs.Caller.{caller_of}
 use Rattle.esr_quiet.specs.Asked.{GrewAsking}
 use Rattle.esr_drive.specs.Stopped.{StopsWork}
-use Rattle.esr_complete.specs.Lines.{steps_of}
+use Rattle.esr_complete.specs.Lines.{steps_of_item, steps_of}
 use Rattle.esr_complete.specs.Answers.{NoReaderOut, IsIdle}
 use Rattle.esr_verify.specs.Idle as verify
 use Rattle.esr_check.specs.Began.{HasEndedCheck}
+use Rattle.esr_run.specs.Checked.{is_check, EndsNone}
 
 -- the first of these steps were asked
 pub record MadeFirst (s : Start) (wanted : List Step) (old new : List Moment) : Type 0 where
@@ -119,15 +121,34 @@ pub record CheckEnded (s : Start) (moment : ℕ) (before : List ScriptLine) (old
 abbrev pub ChecksEnded : Start → ℕ → List ScriptLine → List Moment → List Moment → Type 0
 ChecksEnded s moment lines old log = (before after : List ScriptLine) (line : ScriptLine) → lines ≡ before ++ line ∷ after → line.item ≡ items.Check → CheckEnded s moment before old log
 
+-- what a line added: of one that asks for a check, its look, fetches and end, or its look, which was refused; in that of another who 0
+-- ended no check well
+pub record LinePart (item : Item) (old new : List Moment) : Type 0 where
+  pub checks : item ≡ items.Check → HasEndedCheck old new ⊎ WasLookRefused old new
+  pub others : is_check item ≡ false → EndsNone old new
+
+-- each line has its part, one after another, in which what it asks for was asked, and nothing else
+abbrev pub AreInParts : Start → ℕ → List ScriptLine → List Moment → List Moment → Type 0
+AreInParts s moment [] old new = new ≡ old
+AreInParts s moment (line ∷ lines) old new = (mid : List Moment) × GrewAsking s (steps_of_item moment line.item) old mid × LinePart line.item old mid × AreInParts s moment lines mid new
+
+-- and after these parts nothing was asked, nor a check ended well
+pub record AreParted (s : Start) (moment : ℕ) (lines : List ScriptLine) (old new : List Moment) : Type 0 where
+  pub mid : List Moment
+  pub parts : AreInParts s moment lines old mid
+  pub grew : GrewAsking s [] mid new
+  pub none : EndsNone mid new
+
 -- no verification is open
 abbrev pub NoneOpen : Start → List Moment → Type 0
 NoneOpen s log = verify.IsIdle (caller_of s log)
 
--- all lines were carried out, each wait and each check has ended, no ticket is out, and no verification is open
+-- all lines were carried out, each in its part, each wait and each check has ended, no ticket is out, and no verification is open
 pub record AreMade (s : Start) (moment : ℕ) (lines : List ScriptLine) (old new : List Moment) : Type 0 where
   pub grew : GrewAsking s (steps_of moment lines) old new
   pub waits : WaitsEnded s moment lines old new
   pub checks : ChecksEnded s moment lines old new
+  pub parts : AreInParts s moment lines old new
   pub rests : AreIn s new
   pub closed : NoneOpen s new
 
@@ -136,6 +157,7 @@ pub record AreDone (s : Start) (moment : ℕ) (lines : List ScriptLine) (old new
   pub grew : GrewAsking s (steps_of moment lines) old new
   pub waits : WaitsEnded s moment lines old new
   pub checks : ChecksEnded s moment lines old new
+  pub parted : AreParted s moment lines old new
   pub idle : IsIdle s new
   pub closed : NoneOpen s new
 

@@ -1,5 +1,5 @@
 //! The lines of a script are carried out, in order.
-ghost use Rattle.std.specs.Prelude.{◌≡◌, ◌⊎◌, ◌+◌, ◌<◌, ◌≤◌, ℕ, Bool, ◌^◌, ◌∷◌, ◌++◌, [], true, None, OnOk};
+ghost use Rattle.std.specs.Prelude.{◌≡◌, ◌⊎◌, ◌+◌, ◌<◌, ◌≤◌, ℕ, Bool, ◌^◌, ◌∷◌, ◌++◌, [], true, false, None, OnOk};
 ghost use Rattle.esr_script.specs.declared.item.Item.TheVariants.{Wait, Check};
 ghost use Rattle.esr_core.specs.Entry.{Restore, DrawTest, AskStep, LookStep, ReadStep};
 ghost use Rattle.esr_core.specs.Tracked.{Tracked};
@@ -14,7 +14,7 @@ ghost use Rattle.esr_complete.specs.Answers.{IsIdle};
 ghost use Rattle.esr_complete.specs.Lines.{command_of_line, steps_of_item, steps_of};
 ghost use Rattle.esr_run.specs.Made.{MadeFirst, HasStopped, WasLeft, NoneOpen, LineSpends, AreIn, LineMade, LineRests, WaitEnds, CheckEnds, AreMade, AreDone};
 ghost use Rattle.esr_run.specs.Filled.{Fills, LineFills};
-ghost use Rattle.esr_run.specs.Checked.{is_check, asks_check};
+ghost use Rattle.esr_run.specs.Checked.{is_check, asks_check, EndsNone};
 ghost use Rattle.esr_run.specs.Verified.{AreWhole, MayVerify, VerifiesOn};
 ghost use Rattle.esr_run.specs.Waits.{waits_in, waits_of};
 ghost use Rattle.esr_run.specs.Stop.{result_of};
@@ -23,6 +23,7 @@ ghost use Rattle.esr_run.specs.Script.{is_askable, is_carried, first_bad};
 use crate::command::command_of;
 use crate::law::{steps_stay, work_leaves};
 use esr_checking::{CheckDesk, VerifyDesk};
+use esr_deleting::DeleteDesk;
 use esr_desk::{Desk, StepRefusal, UnitRefusal};
 use esr_drive::{RestoredTarget, RestoredTargets, work};
 use esr_names::SnapName;
@@ -48,6 +49,7 @@ fn ask<Q: Desk>(
     ensures spent { Q.start.alone ≡ true → LineSpends (Q.seen desk.new) result }
     ensures none { Q.start.alone ≡ true → RestoresNone (Q.seen desk.old) (Q.seen desk.new) }
     ensures takes { Q.start.alone ≡ true → idle_takes (Q.seen desk.new) ≡ idle_takes (Q.seen desk.old) }
+    ensures unchecked { Q.start.alone ≡ true → EndsNone (Q.seen desk.old) (Q.seen desk.new) }
     ensures verified { (workers : ℕ) (checks : Bool) → Q.start.alone ≡ true → MayVerify Q.start workers checks (Q.seen desk.old) → VerifiesOn Q.start workers checks (Q.seen desk.new) result }
 {
     steps_stay();
@@ -74,6 +76,7 @@ fn restore<Q: RestoreDesk>(
     ensures spent { Q.start.alone ≡ true → LineSpends (Q.seen desk.new) result }
     ensures none { Q.start.alone ≡ true → RestoresNone (Q.seen desk.old) (Q.seen desk.new) }
     ensures takes { Q.start.alone ≡ true → idle_takes (Q.seen desk.new) ≡ idle_takes (Q.seen desk.old) }
+    ensures unchecked { Q.start.alone ≡ true → EndsNone (Q.seen desk.old) (Q.seen desk.new) }
     ensures verified { (workers : ℕ) (checks : Bool) → Q.start.alone ≡ true → MayVerify Q.start workers checks (Q.seen desk.old) → VerifiesOn Q.start workers checks (Q.seen desk.new) result }
 {
     steps_stay();
@@ -92,6 +95,7 @@ fn list<Q: Desk>(alloc: Global, desk: &mut Q) -> Result<(), StepRefusal>
     ensures spent { Q.start.alone ≡ true → LineSpends (Q.seen desk.new) result }
     ensures none { Q.start.alone ≡ true → RestoresNone (Q.seen desk.old) (Q.seen desk.new) }
     ensures takes { Q.start.alone ≡ true → idle_takes (Q.seen desk.new) ≡ idle_takes (Q.seen desk.old) }
+    ensures unchecked { Q.start.alone ≡ true → EndsNone (Q.seen desk.old) (Q.seen desk.new) }
     ensures verified { (workers : ℕ) (checks : Bool) → Q.start.alone ≡ true → MayVerify Q.start workers checks (Q.seen desk.old) → VerifiesOn Q.start workers checks (Q.seen desk.new) result }
 {
     steps_stay();
@@ -122,7 +126,12 @@ fn keep<T: Drop>(
 }
 
 /// Works all units that are ready, and puts the targets that they fill to those that were filled before.
-fn wait<Q: RestoreDesk<Shard = S::Shard, Target = T::Target>, S: Sources, T: Targets, G: Gate>(
+fn wait<
+    Q: RestoreDesk<Shard = S::Shard, Target = T::Target> + DeleteDesk,
+    S: Sources,
+    T: Targets,
+    G: Gate,
+>(
     alloc: Global,
     desk: &mut Q,
     sources: &S,
@@ -138,6 +147,7 @@ fn wait<Q: RestoreDesk<Shard = S::Shard, Target = T::Target>, S: Sources, T: Tar
     requires numbered { HasNoTickets Q.start }
     requires tracked { ReadTracked Q.start.world }
     requires ops { Tracked Q.start.world }
+    requires alone { Q.start.alone ≡ true }
     ensures made { LineMade Q.start [] (Q.seen desk.old) (Q.seen desk.new) result }
     ensures rests { Q.start.alone ≡ true → AreIn Q.start (Q.seen desk.old) → LineRests Q.start (Q.seen desk.new) result }
     ensures spent { Q.start.alone ≡ true → LineSpends (Q.seen desk.new) result }
@@ -148,6 +158,7 @@ fn wait<Q: RestoreDesk<Shard = S::Shard, Target = T::Target>, S: Sources, T: Tar
     ensures whole { (workers : ℕ) (checks : Bool) → Q.start.alone ≡ true → AreWhole Q.start workers checks (Q.seen desk.old) → AreWhole Q.start workers checks (Q.seen desk.new) }
     ensures closed { Q.start.alone ≡ true → Legal Q.start (Q.seen desk.old) → NoneOpen Q.start (Q.seen desk.old) → NoneOpen Q.start (Q.seen desk.new) }
     ensures takes { Q.start.alone ≡ true → idle_takes (Q.seen desk.new) ≤ idle_takes (Q.seen desk.old) + 1 }
+    ensures unchecked { Q.start.alone ≡ true → EndsNone (Q.seen desk.old) (Q.seen desk.new) }
 {
     work_leaves();
     let worked = work(alloc, desk, sources, targets, gate, part_size);
@@ -171,6 +182,7 @@ fn verify<Q: VerifyDesk>(alloc: Global, desk: &mut Q, workers: u32) -> Result<()
     ensures spent { LineSpends (Q.seen desk.new) result }
     ensures none { RestoresNone (Q.seen desk.old) (Q.seen desk.new) }
     ensures takes { idle_takes (Q.seen desk.new) ≡ idle_takes (Q.seen desk.old) }
+    ensures unchecked { EndsNone (Q.seen desk.old) (Q.seen desk.new) }
     ensures verified { (checks : Bool) → MayVerify Q.start workers checks (Q.seen desk.old) → VerifiesOn Q.start workers checks (Q.seen desk.new) result }
 {
     steps_stay();
@@ -204,7 +216,7 @@ fn check<Q: CheckDesk>(alloc: Global, desk: &mut Q) -> Result<(), StepRefusal>
 }
 
 fn carry_line<
-    Q: RestoreDesk<Shard = S::Shard, Target = T::Target> + VerifyDesk + CheckDesk,
+    Q: RestoreDesk<Shard = S::Shard, Target = T::Target> + DeleteDesk + VerifyDesk + CheckDesk,
     S: Sources,
     T: Targets,
     G: Gate,
@@ -239,6 +251,7 @@ fn carry_line<
     ensures checked { item.now ≡ Check → CheckEnds (Q.seen desk.old) (Q.seen desk.new) result }
     ensures ended { item.now ≡ Wait → Q.start.alone ≡ true → WaitEnds (Q.seen desk.new) result }
     ensures takes { idle_takes (Q.seen desk.new) ≤ idle_takes (Q.seen desk.old) + waits_in item.now }
+    ensures unchecked { is_check item.now ≡ false → EndsNone (Q.seen desk.old) (Q.seen desk.new) }
     ensures filled { Q.start.alone ≡ true → LineFills (record { made_for = T.Target.made_for; files = T.Target.files; is_sure = T.Target.is_sure; begun = T.Target.begun; faults = T.Target.faults; are_told = T.is_told targets.now; are_quiet = T.is_quiet targets.now })
         Q.start (Q.seen desk.old) (Q.seen desk.new) filled.old.items filled.new.items result }
     ensures verified { (checks : Bool) → (is_check item.now ≡ true → checks ≡ true) → MayVerify Q.start workers checks (Q.seen desk.old) → VerifiesOn Q.start workers checks (Q.seen desk.new) result }
@@ -257,7 +270,7 @@ fn carry_line<
 /// Carries out the lines. A refusal that the history tells is no reason to stop; none is carried out once the desk's turns
 /// are spent.
 fn carry_lines<
-    Q: RestoreDesk<Shard = S::Shard, Target = T::Target> + VerifyDesk + CheckDesk,
+    Q: RestoreDesk<Shard = S::Shard, Target = T::Target> + DeleteDesk + VerifyDesk + CheckDesk,
     S: Sources,
     T: Targets,
     G: Gate,
@@ -308,7 +321,12 @@ fn carry_lines<
 }
 
 /// Works all units that are ready after the last line.
-fn work_out<Q: RestoreDesk<Shard = S::Shard, Target = T::Target>, S: Sources, T: Targets, G: Gate>(
+fn work_out<
+    Q: RestoreDesk<Shard = S::Shard, Target = T::Target> + DeleteDesk,
+    S: Sources,
+    T: Targets,
+    G: Gate,
+>(
     alloc: Global,
     desk: &mut Q,
     sources: &S,
@@ -324,6 +342,7 @@ fn work_out<Q: RestoreDesk<Shard = S::Shard, Target = T::Target>, S: Sources, T:
     requires numbered { HasNoTickets Q.start }
     requires tracked { ReadTracked Q.start.world }
     requires ops { Tracked Q.start.world }
+    requires alone { Q.start.alone ≡ true }
     ensures grew { GrewAsking Q.start [] (Q.seen desk.old) (Q.seen desk.new) }
     ensures done { OnOk result (Q.start.alone ≡ true → AreIn Q.start (Q.seen desk.old) → IsIdle Q.start (Q.seen desk.new) ⊎ HasStopped (Q.seen desk.new)) }
     ensures filled { OnOk result (Q.start.alone ≡ true → Fills (record { made_for = T.Target.made_for; files = T.Target.files; is_sure = T.Target.is_sure; begun = T.Target.begun; faults = T.Target.faults; are_told = T.is_told targets.now; are_quiet = T.is_quiet targets.now })
@@ -331,6 +350,7 @@ fn work_out<Q: RestoreDesk<Shard = S::Shard, Target = T::Target>, S: Sources, T:
     ensures whole { (workers : ℕ) (checks : Bool) → Q.start.alone ≡ true → AreWhole Q.start workers checks (Q.seen desk.old) → AreWhole Q.start workers checks (Q.seen desk.new) }
     ensures closed { Q.start.alone ≡ true → Legal Q.start (Q.seen desk.old) → NoneOpen Q.start (Q.seen desk.old) → NoneOpen Q.start (Q.seen desk.new) }
     ensures takes { Q.start.alone ≡ true → idle_takes (Q.seen desk.new) ≤ idle_takes (Q.seen desk.old) + 1 }
+    ensures unchecked { Q.start.alone ≡ true → EndsNone (Q.seen desk.old) (Q.seen desk.new) }
 {
     match wait(alloc, desk, sources, targets, gate, part_size, filled) {
         Ok(()) => Ok(()),
@@ -343,7 +363,7 @@ fn work_out<Q: RestoreDesk<Shard = S::Shard, Target = T::Target>, S: Sources, T:
 /// Carries out the lines, and works all units that are ready then. The targets that restores filled are put to those that are
 /// given.
 pub(crate) fn carry<
-    Q: RestoreDesk<Shard = S::Shard, Target = T::Target> + VerifyDesk + CheckDesk,
+    Q: RestoreDesk<Shard = S::Shard, Target = T::Target> + DeleteDesk + VerifyDesk + CheckDesk,
     S: Sources,
     T: Targets,
     G: Gate,

@@ -51,7 +51,7 @@ pub(crate) fn quiet_laws<S, F, H, T>()
     esr_quiet::no_unit_fails::<S, F, H, T>();
     esr_quiet::no_restore_fails::<S, F, H, T>();
     esr_quiet::no_unasked_restore_fails();
-    esr_quiet::no_verification_fails::<S, F, H, T>();
+    esr_quiet::no_check_fails::<S, F, H, T>();
     esr_quiet::only_rules_refuse();
     esr_complete::smooth_runs_are_answered();
 }

@@ -10,6 +10,7 @@ ghost use Rattle.esr_run.specs.Filled.{unless_wanting};
 ghost use Rattle.esr_desk.specs.Sources.{AreSources};
 ghost use Rattle.esr_repo.specs.Begun.{IsBegun};
 ghost use Rattle.esr_desk.specs.Once.{AreOnce, NoneTwice};
+ghost use Rattle.esr_deleting.specs.Once.{AreRemovedOnce};
 ghost use Rattle.esr_checking.specs.Tested.{AreTested};
 ghost use Rattle.esr_core.specs.Tracked.{Tracked};
 ghost use Rattle.esr_core.specs.ReadTracked.{ReadTracked};
@@ -143,6 +144,7 @@ fn carry_on<D: Depot, S: Sources, T: Targets, G: Gate, K: Told>(
     ensures once { AreOnce K.start result.repo }
     ensures tested { AreTested K.start result.repo }
     ensures single { NoneTwice result.repo }
+    ensures removed { AreRemovedOnce result.repo }
     ensures made { MadeFirst K.start (steps_of moment asked.now.script) [] result.repo }
     ensures done { OnOk result.filled (AreDone K.start moment asked.now.script [] result.repo ⊎ HasFallen K.start moment asked.now.script [] result.repo) }
     ensures whole { AreWhole K.start asked.now.workers (asks_check asked.now.script) result.repo }
@@ -209,6 +211,7 @@ fn run_told<D: Depot, S: Sources, T: Targets, G: Gate, K: Told>(
     ensures once { AreOnce K.start (log_of (D.look result.0.depot) K.clock result.0.history) }
     ensures tested { AreTested K.start (log_of (D.look result.0.depot) K.clock result.0.history) }
     ensures single { NoneTwice (log_of (D.look result.0.depot) K.clock result.0.history) }
+    ensures removed { AreRemovedOnce (log_of (D.look result.0.depot) K.clock result.0.history) }
     ensures calm { IsCalm K.start.quiet (D.look result.0.depot).sure result.0.history }
     ensures made { MadeFirst K.start (steps_of moment asked.now.script) [] (log_of (D.look result.0.depot) K.clock result.0.history) }
     ensures done { (result.0.verdict.status ≡ 8) ⊎ (AreDone K.start moment asked.now.script [] (log_of (D.look result.0.depot) K.clock result.0.history) ⊎ HasFallen K.start moment asked.now.script [] (log_of (D.look result.0.depot) K.clock result.0.history)) }

@@ -13,6 +13,7 @@ use Rattle.esr_desk.specs.Numbered.{Numbered}
 use Rattle.esr_desk.specs.Shown.{Counts}
 use Rattle.esr_reading.specs.Shown as reading
 use Rattle.esr_checking.specs.Shown as checking
+use Rattle.esr_deleting.specs.Once.{AreRemovedOnce}
 use Rattle.esr_checking.specs.Tested.{AreTested}
 use Rattle.esr_checking.specs.Reports.{IsEndShown}
 use Rattle.esr_checking.specs.AllShown.{AreAllShown}
@@ -22,6 +23,7 @@ use Rattle.esr_solo.specs.Kept.{listed_at, kept_by}
 use Rattle.esr_solo.proofs.Showing.{IsNoReportOf, last_or, did, added_or, verify_reports}
 use Rattle.esr_solo.proofs.Committing.{IsNew, once_did}
 use Rattle.esr_solo.proofs.Testing.{TestsBy, tested_did}
+use Rattle.esr_solo.proofs.Removing.{removed_did}
 use Rattle.esr_solo.proofs.Stepping.{grown, at_most_one, counted, place_is}
 
 -- ---- one more entry of who 0
@@ -54,8 +56,8 @@ no_commit s log read name is no_metadata noted = absurd (never name is)
 
 -- the desk's invariant after one that is no report of a failure
 pub keeps_alone : {X S F H T : Type 0} {r : reading.Counts F T} {v : checking.Counts S F} (c : Counts S F H T) (s : Start) (own new : List Moment) (read : Read) (ok : X → Reply) (result : Result X StepRefusal) (faults : List (Fault S F H T)) (left took all : ℕ)
-    → (length own + left ≡ all) × AreAllShown c r v s own faults × AreOnce s own × NoneTwice own × Numbered 1 s.world × AreTested s own → left ≢ 0 → took ≡ turns_of result → ((x : X) → IsNoReportOf (ReadStep read) (ok x)) → Did s own new 0 (ReadStep read) ok result → TestsBy s own new (ReadStep read) result
-    → (length new + (left - took) ≡ all) × AreAllShown c r v s new faults × AreOnce s new × NoneTwice new × Numbered 1 s.world × AreTested s new
+    → (length own + left ≡ all) × AreAllShown c r v s own faults × AreOnce s own × NoneTwice own × Numbered 1 s.world × AreTested s own × AreRemovedOnce own → left ≢ 0 → took ≡ turns_of result → ((x : X) → IsNoReportOf (ReadStep read) (ok x)) → Did s own new 0 (ReadStep read) ok result → TestsBy s own new (ReadStep read) result
+    → (length new + (left - took) ≡ all) × AreAllShown c r v s new faults × AreOnce s new × NoneTwice new × Numbered 1 s.world × AreTested s new × AreRemovedOnce new
 keeps_alone c s own new read ok result faults left took all h some turns none d tests = (
   counted (length own) (length new) left took all some (subst (λ (n : ℕ). n ≤ 1) (sym turns) (at_most_one result)) h.0 (grown s own new 0 (ReadStep read) ok result d ∙ ap (λ (n : ℕ). length own + n) (sym turns)),
   did c s own new 0 (ReadStep read) ok result faults none d h.1,
@@ -63,6 +65,7 @@ keeps_alone c s own new read ok result faults left took all h some turns none d 
   did_alone NoneTwice s own new read ok result (λ m alone is. single_alone own m alone h.3) d h.3,
   h.4,
   tested_did s own new 0 (ReadStep read) ok result tests d h.5,
+  removed_did s own new 0 (ReadStep read) ok result tt d h.6,
 )
 
 -- ---- the report that a verification or a check failed
@@ -78,8 +81,8 @@ shown_by {S} {F} {H} {T} {u} {r} c s own new why (Err e) faults b h shown d =
 
 -- the desk's invariant after it
 pub keeps_verify_report : {S F H T : Type 0} {u : Counts S F H T} {r : reading.Counts F T} (c : checking.Counts S F) (s : Start) (own log new : List Moment) (why : Why) (result : Result Unit StepRefusal) (faults roomy after : List (Fault S F H T)) (left took all : ℕ) (b : By S F H T)
-    → (length own + left ≡ all) × AreAllShown u r c s own faults × AreOnce s own × NoneTwice own × Numbered 1 s.world × AreTested s own → left ≢ 0 → took ≡ turns_of result → own ≡ log → IsEndShown c s log why b → roomy ≡ faults → after ≡ roomy ++ kept_by (all - left) b result → Did s own new 0 (ReadStep (ReadFails why)) (λ _. HasEnded) result
-    → (length new + (left - took) ≡ all) × AreAllShown u r c s new after × AreOnce s new × NoneTwice new × Numbered 1 s.world × AreTested s new
+    → (length own + left ≡ all) × AreAllShown u r c s own faults × AreOnce s own × NoneTwice own × Numbered 1 s.world × AreTested s own × AreRemovedOnce own → left ≢ 0 → took ≡ turns_of result → own ≡ log → IsEndShown c s log why b → roomy ≡ faults → after ≡ roomy ++ kept_by (all - left) b result → Did s own new 0 (ReadStep (ReadFails why)) (λ _. HasEnded) result
+    → (length new + (left - took) ≡ all) × AreAllShown u r c s new after × AreOnce s new × NoneTwice new × Numbered 1 s.world × AreTested s new × AreRemovedOnce new
 keeps_verify_report {S} {F} {H} {T} {u} {r} c s own log new why result faults roomy after left took all b h some turns view shown same is d =
     let n : all - left ≡ length own = place_is (length own) left all (all - left) h.0 refl in
     let e : after ≡ faults ++ kept_by (length own) b result = is ∙ ap (λ (l : List (Fault S F H T)). l ++ kept_by (all - left) b result) same ∙ ap (λ (k : ℕ). faults ++ kept_by k b result) n in (
@@ -90,4 +93,5 @@ keeps_verify_report {S} {F} {H} {T} {u} {r} c s own log new why result faults ro
       did_alone NoneTwice s own new (ReadFails why) (λ _. HasEnded) result (λ m alone is. single_alone own m alone h.3) d h.3,
       h.4,
       tested_did s own new 0 (ReadStep (ReadFails why)) (λ _. HasEnded) result tt d h.5,
+      removed_did s own new 0 (ReadStep (ReadFails why)) (λ _. HasEnded) result tt d h.6,
     )

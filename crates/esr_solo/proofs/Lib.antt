@@ -2,6 +2,8 @@ pub mod Showing
 pub mod Committing
 pub mod Single
 pub mod Testing
+pub mod Removing
 pub mod Stepping
 pub mod Reading
 pub mod Alone
+pub mod Deletes

@@ -16,6 +16,7 @@ use Rattle.esr_desk.specs.Shown as desk
 use Rattle.esr_reading.specs.Outcome.{Waited, Stepped, Outcome}
 use Rattle.esr_reading.specs.Shown.{Counts, IsShown}
 use Rattle.esr_checking.specs.Shown as checking
+use Rattle.esr_deleting.specs.Once.{AreRemovedOnce}
 use Rattle.esr_checking.specs.Tested.{AreTested}
 use Rattle.esr_checking.specs.AllShown.{AreAllShown}
 use Rattle.esr_repo.specs.Next.{Added, Did}
@@ -26,6 +27,7 @@ use Rattle.esr_solo.proofs.Showing.{added_or, read_reports}
 use Rattle.esr_solo.proofs.Committing.{IsNew, once_did}
 use Rattle.esr_solo.proofs.Single.{single_did}
 use Rattle.esr_solo.proofs.Testing.{tested_did}
+use Rattle.esr_solo.proofs.Removing.{removed_did}
 use Rattle.esr_solo.proofs.Stepping.{grown, at_most_one, counted, place_is}
 
 -- nothing was added
@@ -88,8 +90,8 @@ no_commit s log who why name is no_metadata noted = absurd (never why name is)
 
 -- the desk's invariant after the report of a restore
 pub keeps_read_report : {S F H T : Type 0} {u : desk.Counts S F H T} {v : checking.Counts S F} (c : Counts F T) (s : Start) (own log new : List Moment) (who : ℕ) (why : Why) (result : Result Unit StepRefusal) (faults roomy after : List (Fault S F H T)) (left took all : ℕ) (b : By S F H T)
-    → (length own + left ≡ all) × AreAllShown u c v s own faults × AreOnce s own × NoneTwice own × Numbered 1 s.world × AreTested s own → left ≢ 0 → took ≡ turns_of result → own ≡ log → OnOk result (1 ≤ who) → IsShown c s log who why b → roomy ≡ faults → after ≡ roomy ++ kept_by (all - left) b result → Did s own new who (ReadStep (ReadFails why)) (λ _. HasEnded) result
-    → (length new + (left - took) ≡ all) × AreAllShown u c v s new after × AreOnce s new × NoneTwice new × Numbered 1 s.world × AreTested s new
+    → (length own + left ≡ all) × AreAllShown u c v s own faults × AreOnce s own × NoneTwice own × Numbered 1 s.world × AreTested s own × AreRemovedOnce own → left ≢ 0 → took ≡ turns_of result → own ≡ log → OnOk result (1 ≤ who) → IsShown c s log who why b → roomy ≡ faults → after ≡ roomy ++ kept_by (all - left) b result → Did s own new who (ReadStep (ReadFails why)) (λ _. HasEnded) result
+    → (length new + (left - took) ≡ all) × AreAllShown u c v s new after × AreOnce s new × NoneTwice new × Numbered 1 s.world × AreTested s new × AreRemovedOnce new
 keeps_read_report {S} {F} {H} {T} {u} {v} c s own log new who why result faults roomy after left took all b h some turns view ticket shown same is d =
     let n : all - left ≡ length own = place_is (length own) left all (all - left) h.0 refl in
     let e : after ≡ faults ++ kept_by (length own) b result = is ∙ ap (λ (l : List (Fault S F H T)). l ++ kept_by (all - left) b result) same ∙ ap (λ (k : ℕ). faults ++ kept_by k b result) n in (
@@ -100,4 +102,5 @@ keeps_read_report {S} {F} {H} {T} {u} {v} c s own log new who why result faults 
       single_did s own new who (ReadStep (ReadFails why)) (λ _. HasEnded) result (λ single. absurd single) d h.3,
       h.4,
       tested_did s own new who (ReadStep (ReadFails why)) (λ _. HasEnded) result tt d h.5,
+      removed_did s own new who (ReadStep (ReadFails why)) (λ _. HasEnded) result tt d h.6,
     )

@@ -1,7 +1,7 @@
 -- Failures stay shown as the history goes on.
 use Rattle.std.proofs.Common.{◌≡◌, ◌⊎◌, ℕ, ◌≤◌, List, [], ◌∷◌, ◌++◌, length, Option, Some, None, Result, Ok, Err, refl, sym, ap, ◌∙◌, subst, inl, inr, ⊎_elim, append_assoc, arith}
 use Rattle.esr_model.specs.Values.{Has}
-use Rattle.esr_core.specs.Entry.{Step, Reply, Refused, Refusal, FailedStep, ReadStep, ReadFails, HasEnded, Why, Moment}
+use Rattle.esr_core.specs.Entry.{Step, Reply, Refused, Refusal, FailedStep, ReadStep, ReadFails, PruneStep, DeleteFails, HasEnded, Why, Moment}
 use Rattle.esr_desk.specs.declared.fault.Fault.{Fault}
 use Rattle.esr_desk.specs.declared.fault.By.{By}
 use Rattle.esr_desk.specs.declared.fault.By.TheVariants as by
@@ -12,9 +12,11 @@ use Rattle.esr_desk.specs.Start.{Start}
 use Rattle.esr_desk.specs.Shown.{Counts, IsShown, IsListed, IsReport, IsShownAt}
 use Rattle.esr_reading.specs.Shown as reading
 use Rattle.esr_reading.specs.Reports.{IsReadReport, IsReadShownAt}
+use Rattle.esr_deleting.specs.Shown.{IsDeleteShown}
+use Rattle.esr_deleting.specs.Reports.{IsDeleteReport, IsDeleteShownAt}
 use Rattle.esr_checking.specs.Shown as checking
 use Rattle.esr_checking.specs.Reports.{IsVerifyReport, IsEndShown, IsEndShownAt}
-use Rattle.esr_checking.specs.AllShown.{ShowsReport, OfUnit, OfRestore, OfVerification, AreAllShown}
+use Rattle.esr_checking.specs.AllShown.{ShowsReport, OfUnit, OfRestore, OfDelete, OfVerification, AreAllShown}
 use Rattle.esr_repo.specs.Next.{Added, AddedOr, Did}
 use Rattle.esr_solo.specs.Kept.{listed_at}
 
@@ -86,6 +88,20 @@ longer_read log m place who why r =
       reply = r.reply;
     }
 
+-- of a delete
+longer_delete : (log : List Moment) (m : Moment) (place who : ℕ) (why : Why) → IsDeleteReport log place who why → IsDeleteReport (log ++ m ∷ []) place who why
+longer_delete log m place who why r =
+    record {
+      front = r.front;
+      moment = r.moment;
+      back = r.back ++ m ∷ [];
+      is = ap (λ (l : List Moment). l ++ m ∷ []) r.is ∙ append_assoc r.front (r.moment ∷ r.back) (m ∷ []);
+      place_is = r.place_is;
+      of = r.of;
+      step = r.step;
+      reply = r.reply;
+    }
+
 -- and of a verification
 longer_verify : (log : List Moment) (m : Moment) (place : ℕ) (why : Why) → IsVerifyReport log place why → IsVerifyReport (log ++ m ∷ []) place why
 longer_verify log m place why r =
@@ -102,9 +118,10 @@ longer_verify log m place why r =
 
 -- and is shown as it was
 shows_longer : {S F H T : Type 0} (u : Counts S F H T) (r : reading.Counts F T) (v : checking.Counts S F) (s : Start) (log : List Moment) (m : Moment) (place : ℕ) (b : By S F H T) → ShowsReport u r v s log place b → ShowsReport u r v s (log ++ m ∷ []) place b
-unfolding longer longer_read longer_verify
+unfolding longer longer_read longer_delete longer_verify
 shows_longer u r v s log m place b (OfUnit who why report shown) = OfUnit who why (longer log m place who why report) shown
 shows_longer u r v s log m place b (OfRestore who why report shown) = OfRestore who why (longer_read log m place who why report) shown
+shows_longer u r v s log m place b (OfDelete who why report shown) = OfDelete who why (longer_delete log m place who why report) shown
 shows_longer u r v s log m place b (OfVerification why report shown) = OfVerification why (longer_verify log m place why report) shown
 
 -- a longer list of objects shows as much
@@ -137,6 +154,7 @@ own_shows Shows place by.Nothing fault none h = absurd none
 abbrev pub why_told : Step → Option Why
 why_told (FailedStep why) = Some why
 why_told (ReadStep (ReadFails why)) = Some why
+why_told (PruneStep (DeleteFails why)) = Some why
 why_told step = None
 
 -- a step by its answer, which reports no failure where it was made
@@ -146,12 +164,15 @@ IsNoReportOf step reply = (why : Why) → why_told step ≡ Some why → reply �
 abbrev pub IsNoReport : Moment → Type 0
 IsNoReport m = IsNoReportOf m.entry.step m.entry.reply
 
--- of a unit, of a restore, whose ticket reports it, or of a verification, which who 0 reports
+-- of a unit, of a restore, whose ticket reports it, of a delete, or of a verification, which who 0 reports
 abbrev pub IsOfNoUnit : Moment → Type 0
 IsOfNoUnit m = (why : Why) → m.entry.step ≡ FailedStep why → m.entry.reply ≡ HasEnded → ⊥
 
 abbrev pub IsOfNoRestore : Moment → Type 0
 IsOfNoRestore m = (why : Why) → 1 ≤ m.entry.who → m.entry.step ≡ ReadStep (ReadFails why) → m.entry.reply ≡ HasEnded → ⊥
+
+abbrev pub IsOfNoDelete : Moment → Type 0
+IsOfNoDelete m = (why : Why) → m.entry.step ≡ PruneStep (DeleteFails why) → m.entry.reply ≡ HasEnded → ⊥
 
 abbrev pub IsOfNoVerification : Moment → Type 0
 IsOfNoVerification m = (why : Why) → m.entry.who ≡ 0 → m.entry.step ≡ ReadStep (ReadFails why) → m.entry.reply ≡ HasEnded → ⊥
@@ -162,16 +183,22 @@ no_unit m none why step = none why (ap why_told step)
 no_restore : (m : Moment) → IsNoReport m → IsOfNoRestore m
 no_restore m none why ticket step = none why (ap why_told step)
 
+no_delete : (m : Moment) → IsNoReport m → IsOfNoDelete m
+no_delete m none why step = none why (ap why_told step)
+
 no_verification : (m : Moment) → IsNoReport m → IsOfNoVerification m
 no_verification m none why alone step = none why (ap why_told step)
 
--- ---- the causes of units, of restores and of verifications
+-- ---- the causes of units, of restores, of deletes and of verifications
 
 abbrev pub AreUnitsShown : {S F H T : Type 0} → Counts S F H T → Start → List Moment → List (Fault S F H T) → Type 0
 AreUnitsShown c s log faults = (place who : ℕ) (why : Why) (report : IsReport log place who why) → IsShownAt c s report.front place who why faults
 
 abbrev pub AreRestoresShown : {S F H T : Type 0} → reading.Counts F T → Start → List Moment → List (Fault S F H T) → Type 0
 AreRestoresShown r s log faults = (place who : ℕ) (why : Why) (report : IsReadReport log place who why) → IsReadShownAt r s report.front place who why faults
+
+abbrev pub AreDeletesShown : {S F H T : Type 0} → Counts S F H T → Start → List Moment → List (Fault S F H T) → Type 0
+AreDeletesShown c s log faults = (place who : ℕ) (why : Why) (report : IsDeleteReport log place who why) → IsDeleteShownAt c s report.front place who why faults
 
 abbrev pub AreVerificationsShown : {S F H T : Type 0} → checking.Counts S F → Start → List Moment → List (Fault S F H T) → Type 0
 AreVerificationsShown v s log faults = (place : ℕ) (why : Why) (report : IsVerifyReport log place why) → IsEndShownAt v s report.front place why faults
@@ -203,6 +230,14 @@ restores_go_on c s log m faults more still none h place who why r =
     (λ d. let (b, shown, listed) = h place who why (record { front = r.front; moment = r.moment; back = d.0; is = d.1; place_is = r.place_is; ticket = r.ticket; of = r.of; step = r.step; reply = r.reply }) in (b, shown, still place b listed))
     (last_or log m r.front r.moment r.back r.is)
 
+-- or none of a delete
+deletes_go_on : {S F H T : Type 0} (c : Counts S F H T) (s : Start) (log : List Moment) (m : Moment) (faults more : List (Fault S F H T)) → AreListedStill faults more → IsOfNoDelete m → AreDeletesShown c s log faults → AreDeletesShown c s (log ++ m ∷ []) more
+deletes_go_on c s log m faults more still none h place who why r =
+    ⊎_elim
+    (λ d. absurd (none why (ap (λ (x : Moment). x.entry.step) d.1 ∙ r.step) (ap (λ (x : Moment). x.entry.reply) d.1 ∙ r.reply)))
+    (λ d. let (b, shown, listed) = h place who why (record { front = r.front; moment = r.moment; back = d.0; is = d.1; place_is = r.place_is; of = r.of; step = r.step; reply = r.reply }) in (b, shown, still place b listed))
+    (last_or log m r.front r.moment r.back r.is)
+
 -- or none of a verification
 verifications_go_on : {S F H T : Type 0} (c : checking.Counts S F) (s : Start) (log : List Moment) (m : Moment) (faults more : List (Fault S F H T)) → AreListedStill faults more → IsOfNoVerification m → AreVerificationsShown c s log faults → AreVerificationsShown c s (log ++ m ∷ []) more
 verifications_go_on c s log m faults more still none h place why r =
@@ -217,6 +252,7 @@ goes_on {r = r} {v = v} c s log m faults none h =
     record {
       units = units_go_on c s log m faults faults (λ place b listed. listed) (no_unit m none) h.units;
       restores = restores_go_on r s log m faults faults (λ place b listed. listed) (no_restore m none) h.restores;
+      deletes = deletes_go_on c s log m faults faults (λ place b listed. listed) (no_delete m none) h.deletes;
       verifications = verifications_go_on v s log m faults faults (λ place b listed. listed) (no_verification m none) h.verifications;
       listed = λ fault there. still_of c r v s log m fault (h.listed fault there);
     }
@@ -228,6 +264,9 @@ same_why a b e = cc
 
 same_read_why : (a b : Why) → ReadStep (ReadFails a) ≡ ReadStep (ReadFails b) → a ≡ b
 same_read_why a b e = cc
+
+same_delete_why : (a b : Why) → PruneStep (DeleteFails a) ≡ PruneStep (DeleteFails b) → a ≡ b
+same_delete_why a b e = cc
 
 -- what shows the report that is made now
 now_shown : {S F H T : Type 0} (c : Counts S F H T) (s : Start) (log : List Moment) (faults : List (Fault S F H T)) (who0 : ℕ) (why0 : Why) (b : By S F H T) → IsShown c s log who0 why0 b
@@ -246,6 +285,15 @@ now_read_shown {S} {F} {H} {T} c s log faults who0 why0 b shown front place who 
     (subst (λ (n : ℕ). IsReadShownAt {S = S} {F = F} {H = H} {T = T} c s log n who why (faults ++ listed_at (length log) b)) (sym (ap length is) ∙ at)
     (subst (λ (k : ℕ). IsReadShownAt {S = S} {F = F} {H = H} {T = T} c s log (length log) k why (faults ++ listed_at (length log) b)) of
     (subst (λ (y : Why). IsReadShownAt {S = S} {F = F} {H = H} {T = T} c s log (length log) who0 y (faults ++ listed_at (length log) b)) same
+    (b, shown, own_listed faults (length log) b))))
+
+now_delete_shown : {S F H T : Type 0} (c : Counts S F H T) (s : Start) (log : List Moment) (faults : List (Fault S F H T)) (who0 : ℕ) (why0 : Why) (b : By S F H T) → IsDeleteShown c s log who0 why0 b
+    → (front : List Moment) (place who : ℕ) (why : Why) → front ≡ log → length front ≡ place → who0 ≡ who → why0 ≡ why → IsDeleteShownAt c s front place who why (faults ++ listed_at (length log) b)
+now_delete_shown {S} {F} {H} {T} c s log faults who0 why0 b shown front place who why is at of same =
+    subst (λ (l : List Moment). IsDeleteShownAt {S = S} {F = F} {H = H} {T = T} c s l place who why (faults ++ listed_at (length log) b)) (sym is)
+    (subst (λ (n : ℕ). IsDeleteShownAt {S = S} {F = F} {H = H} {T = T} c s log n who why (faults ++ listed_at (length log) b)) (sym (ap length is) ∙ at)
+    (subst (λ (k : ℕ). IsDeleteShownAt {S = S} {F = F} {H = H} {T = T} c s log (length log) k why (faults ++ listed_at (length log) b)) of
+    (subst (λ (y : Why). IsDeleteShownAt {S = S} {F = F} {H = H} {T = T} c s log (length log) who0 y (faults ++ listed_at (length log) b)) same
     (b, shown, own_listed faults (length log) b))))
 
 now_verify_shown : {S F H T : Type 0} (c : checking.Counts S F) (s : Start) (log : List Moment) (faults : List (Fault S F H T)) (why0 : Why) (b : By S F H T) → IsEndShown c s log why0 b
@@ -272,6 +320,20 @@ no_read_failed why other m e d = never (sym e ∙ d)
     never : FailedStep why ≡ ReadStep (ReadFails other) → ⊥
     never x = cc
 
+-- nor one of a delete
+no_delete_failed : (why other : Why) (m : Moment) → m.entry.step ≡ FailedStep why → m.entry.step ≡ PruneStep (DeleteFails other) → ⊥
+no_delete_failed why other m e d = never (sym e ∙ d)
+  where
+    never : FailedStep why ≡ PruneStep (DeleteFails other) → ⊥
+    never x = cc
+
+-- which isn't one of a restore or a verification
+no_delete_read : (why other : Why) (m : Moment) → m.entry.step ≡ ReadStep (ReadFails why) → m.entry.step ≡ PruneStep (DeleteFails other) → ⊥
+no_delete_read why other m e d = never (sym e ∙ d)
+  where
+    never : ReadStep (ReadFails why) ≡ PruneStep (DeleteFails other) → ⊥
+    never x = cc
+
 -- tickets are numbered from 1 on
 no_ticket : (who : ℕ) → who ≡ 0 → 1 ≤ who → ⊥
 no_ticket who is some = omega (arith, is, some)
@@ -287,6 +349,7 @@ reports {r = r} {v = v} c s log m faults why b step reply shown h =
           (b1, shown1, more_listed faults (listed_at (length log) b) place b1 listed1))
           (last_or log m report.front report.moment report.back report.is);
       restores = restores_go_on r s log m faults (faults ++ listed_at (length log) b) (more_listed faults (listed_at (length log) b)) (λ other ticket is _. no_read_failed why other m step is) h.restores;
+      deletes = deletes_go_on c s log m faults (faults ++ listed_at (length log) b) (more_listed faults (listed_at (length log) b)) (λ other is _. no_delete_failed why other m step is) h.deletes;
       verifications = verifications_go_on v s log m faults (faults ++ listed_at (length log) b) (more_listed faults (listed_at (length log) b)) (λ other alone is _. no_read_failed why other m step is) h.verifications;
       listed = listed_with c r v s log m faults b h.listed (OfUnit m.entry.who why (record { front = log; moment = m; back = []; is = refl; place_is = refl; of = refl; step = step; reply = reply }) shown);
     }
@@ -302,8 +365,25 @@ read_reports {u = u} {v = v} c s log m faults why b ticket step reply shown h =
           (λ d. let (b1, shown1, listed1) = h.restores place who why1 (record { front = report.front; moment = report.moment; back = d.0; is = d.1; place_is = report.place_is; ticket = report.ticket; of = report.of; step = report.step; reply = report.reply }) in
           (b1, shown1, more_listed faults (listed_at (length log) b) place b1 listed1))
           (last_or log m report.front report.moment report.back report.is);
+      deletes = deletes_go_on u s log m faults (faults ++ listed_at (length log) b) (more_listed faults (listed_at (length log) b)) (λ other is _. no_delete_read why other m step is) h.deletes;
       verifications = verifications_go_on v s log m faults (faults ++ listed_at (length log) b) (more_listed faults (listed_at (length log) b)) (λ other alone is _. no_ticket m.entry.who alone ticket) h.verifications;
       listed = listed_with u c v s log m faults b h.listed (OfRestore m.entry.who why (record { front = log; moment = m; back = []; is = refl; place_is = refl; ticket = ticket; of = refl; step = step; reply = reply }) shown);
+    }
+
+-- of a delete
+pub delete_reports : {S F H T : Type 0} {r : reading.Counts F T} {v : checking.Counts S F} (c : Counts S F H T) (s : Start) (log : List Moment) (m : Moment) (faults : List (Fault S F H T)) (why : Why) (b : By S F H T) → m.entry.step ≡ PruneStep (DeleteFails why) → m.entry.reply ≡ HasEnded
+    → IsDeleteShown c s log m.entry.who why b → AreAllShown c r v s log faults → AreAllShown c r v s (log ++ m ∷ []) (faults ++ listed_at (length log) b)
+delete_reports {r = r} {v = v} c s log m faults why b step reply shown h =
+    record {
+      units = units_go_on c s log m faults (faults ++ listed_at (length log) b) (more_listed faults (listed_at (length log) b)) (λ other is _. no_delete_failed other why m is step) h.units;
+      restores = restores_go_on r s log m faults (faults ++ listed_at (length log) b) (more_listed faults (listed_at (length log) b)) (λ other ticket is _. no_delete_read other why m is step) h.restores;
+      deletes = λ place who why1 report. ⊎_elim
+          (λ d. now_delete_shown c s log faults m.entry.who why b shown report.front place who why1 d.0 report.place_is (ap (λ (x : Moment). x.entry.who) d.1 ∙ report.of) (same_delete_why why why1 (sym step ∙ ap (λ (x : Moment). x.entry.step) d.1 ∙ report.step)))
+          (λ d. let (b1, shown1, listed1) = h.deletes place who why1 (record { front = report.front; moment = report.moment; back = d.0; is = d.1; place_is = report.place_is; of = report.of; step = report.step; reply = report.reply }) in
+          (b1, shown1, more_listed faults (listed_at (length log) b) place b1 listed1))
+          (last_or log m report.front report.moment report.back report.is);
+      verifications = verifications_go_on v s log m faults (faults ++ listed_at (length log) b) (more_listed faults (listed_at (length log) b)) (λ other alone is _. no_delete_read other why m is step) h.verifications;
+      listed = listed_with c r v s log m faults b h.listed (OfDelete m.entry.who why (record { front = log; moment = m; back = []; is = refl; place_is = refl; of = refl; step = step; reply = reply }) shown);
     }
 
 -- of a verification or a check
@@ -313,6 +393,7 @@ verify_reports {u = u} {r = r} c s log m faults why b alone step reply shown h =
     record {
       units = units_go_on u s log m faults (faults ++ listed_at (length log) b) (more_listed faults (listed_at (length log) b)) (λ other is _. no_read_failed other why m is step) h.units;
       restores = restores_go_on r s log m faults (faults ++ listed_at (length log) b) (more_listed faults (listed_at (length log) b)) (λ other ticket is _. no_ticket m.entry.who alone ticket) h.restores;
+      deletes = deletes_go_on u s log m faults (faults ++ listed_at (length log) b) (more_listed faults (listed_at (length log) b)) (λ other is _. no_delete_read why other m step is) h.deletes;
       verifications = λ place why1 report. ⊎_elim
           (λ d. now_verify_shown c s log faults why b shown report.front place why1 d.0 report.place_is (same_read_why why why1 (sym step ∙ ap (λ (x : Moment). x.entry.step) d.1 ∙ report.step)))
           (λ d. let (b1, shown1, listed1) = h.verifications place why1 (record { front = report.front; moment = report.moment; back = d.0; is = d.1; place_is = report.place_is; of = report.of; step = report.step; reply = report.reply }) in
@@ -327,6 +408,7 @@ none_shown c r v s =
     record {
       units = λ place who why report. absurd (no_end report.front report.moment report.back report.is);
       restores = λ place who why report. absurd (no_end report.front report.moment report.back report.is);
+      deletes = λ place who why report. absurd (no_end report.front report.moment report.back report.is);
       verifications = λ place why report. absurd (no_end report.front report.moment report.back report.is);
       listed = λ fault there. absurd there;
     }

@@ -15,6 +15,7 @@ use Rattle.esr_desk.specs.Numbered.{Numbered}
 use Rattle.esr_desk.specs.Shown.{Counts, NeverFailed, IsShown}
 use Rattle.esr_reading.specs.Shown as reading
 use Rattle.esr_checking.specs.Shown as checking
+use Rattle.esr_deleting.specs.Once.{AreRemovedOnce}
 use Rattle.esr_checking.specs.Tested.{AreTested}
 use Rattle.esr_checking.specs.AllShown.{AreAllShown}
 use Rattle.esr_repo.specs.Next.{Added, Did}
@@ -24,6 +25,7 @@ use Rattle.esr_solo.proofs.Showing.{IsNoReportOf, did, added_or, reports}
 use Rattle.esr_solo.proofs.Committing.{IsNew, once_did}
 use Rattle.esr_solo.proofs.Single.{IsNewIf, single_did}
 use Rattle.esr_solo.proofs.Testing.{TestsBy, tested_did}
+use Rattle.esr_solo.proofs.Removing.{RemovesBy, removed_did}
 
 -- nothing was added
 pub waited : (s : Start) (own log : List Moment) (who : ℕ) → own ≡ log → Legal s own → Waited s log log who
@@ -112,15 +114,16 @@ counted n k left took all some few e d = omega (arith, some, few, e, d)
 
 -- the desk's invariant after a step that is no report of a failure
 pub keeps : {X S F H T : Type 0} {r : reading.Counts F T} {v : checking.Counts S F} (c : Counts S F H T) (s : Start) (own new : List Moment) (who : ℕ) (step : Step) (ok : X → Reply) (result : Result X StepRefusal) (faults : List (Fault S F H T)) (left took all : ℕ)
-    → (length own + left ≡ all) × AreAllShown c r v s own faults × AreOnce s own × NoneTwice own × Numbered 1 s.world × AreTested s own → left ≢ 0 → took ≡ turns_of result → ((x : X) → IsNoReportOf step (ok x)) → IsNew s own who step → IsNewIf own who step → Did s own new who step ok result → TestsBy s own new step result
-    → (length new + (left - took) ≡ all) × AreAllShown c r v s new faults × AreOnce s new × NoneTwice new × Numbered 1 s.world × AreTested s new
-keeps c s own new who step ok result faults left took all h some turns none unnoted fresh d tests = (
+    → (length own + left ≡ all) × AreAllShown c r v s own faults × AreOnce s own × NoneTwice own × Numbered 1 s.world × AreTested s own × AreRemovedOnce own → left ≢ 0 → took ≡ turns_of result → ((x : X) → IsNoReportOf step (ok x)) → IsNew s own who step → IsNewIf own who step → Did s own new who step ok result → TestsBy s own new step result → RemovesBy own who step
+    → (length new + (left - took) ≡ all) × AreAllShown c r v s new faults × AreOnce s new × NoneTwice new × Numbered 1 s.world × AreTested s new × AreRemovedOnce new
+keeps c s own new who step ok result faults left took all h some turns none unnoted fresh d tests removals = (
   counted (length own) (length new) left took all some (subst (λ (n : ℕ). n ≤ 1) (sym turns) (at_most_one result)) h.0 (grown s own new who step ok result d ∙ ap (λ (n : ℕ). length own + n) (sym turns)),
   did c s own new who step ok result faults none d h.1,
   once_did s own new who step ok result unnoted d h.2,
   single_did s own new who step ok result fresh d h.3,
   h.4,
   tested_did s own new who step ok result tests d h.5,
+  removed_did s own new who step ok result removals d h.6,
 )
 
 -- the report of a failure whose cause is shown, by its answer
@@ -144,8 +147,8 @@ no_commit s log who why name is no_metadata noted = absurd (never why name is)
 
 -- the desk's invariant after it
 pub keeps_report : {S F H T : Type 0} {r : reading.Counts F T} {v : checking.Counts S F} (c : Counts S F H T) (s : Start) (own log new : List Moment) (who : ℕ) (why : Why) (result : Result Unit StepRefusal) (faults roomy after : List (Fault S F H T)) (left took all : ℕ) (b : By S F H T)
-    → (length own + left ≡ all) × AreAllShown c r v s own faults × AreOnce s own × NoneTwice own × Numbered 1 s.world × AreTested s own → left ≢ 0 → took ≡ turns_of result → own ≡ log → IsShown c s log who why b → roomy ≡ faults → after ≡ roomy ++ kept_by (all - left) b result → Did s own new who (FailedStep why) (λ _. HasEnded) result
-    → (length new + (left - took) ≡ all) × AreAllShown c r v s new after × AreOnce s new × NoneTwice new × Numbered 1 s.world × AreTested s new
+    → (length own + left ≡ all) × AreAllShown c r v s own faults × AreOnce s own × NoneTwice own × Numbered 1 s.world × AreTested s own × AreRemovedOnce own → left ≢ 0 → took ≡ turns_of result → own ≡ log → IsShown c s log who why b → roomy ≡ faults → after ≡ roomy ++ kept_by (all - left) b result → Did s own new who (FailedStep why) (λ _. HasEnded) result
+    → (length new + (left - took) ≡ all) × AreAllShown c r v s new after × AreOnce s new × NoneTwice new × Numbered 1 s.world × AreTested s new × AreRemovedOnce new
 keeps_report {S} {F} {H} {T} {r} {v} c s own log new who why result faults roomy after left took all b h some turns view shown same is d =
     let n : all - left ≡ length own = place_is (length own) left all (all - left) h.0 refl in
     let e : after ≡ faults ++ kept_by (length own) b result = is ∙ ap (λ (l : List (Fault S F H T)). l ++ kept_by (all - left) b result) same ∙ ap (λ (k : ℕ). faults ++ kept_by k b result) n in (
@@ -156,4 +159,5 @@ keeps_report {S} {F} {H} {T} {r} {v} c s own log new who why result faults roomy
       single_did s own new who (FailedStep why) (λ _. HasEnded) result (λ single. absurd single) d h.3,
       h.4,
       tested_did s own new who (FailedStep why) (λ _. HasEnded) result tt d h.5,
+      removed_did s own new who (FailedStep why) (λ _. HasEnded) result tt d h.6,
     )

@@ -3,6 +3,7 @@
 
 mod check;
 mod checking;
+mod deleting;
 mod desk;
 mod faults;
 mod restoring;

@@ -1,6 +1,7 @@
 //! A repository with a count of turns, and the objects that failed.
 ghost use Rattle.std.specs.Prelude.{◌≡◌, ◌+◌, ◌≤◌, ◌^◌, [], length};
 ghost use Rattle.esr_desk.specs.Once.{AreOnce, NoneTwice};
+ghost use Rattle.esr_deleting.specs.Once.{AreRemovedOnce};
 ghost use Rattle.esr_checking.specs.Tested.{AreTested};
 ghost use Rattle.esr_checking.specs.AllShown.{AreAllShown};
 ghost use Rattle.esr_solo.specs.Turns.{turns_of};
@@ -37,6 +38,7 @@ impl<D: Depot, K: Told, H: Shard, T: Target> Model for Solo<D, K, H, T> {
     ghost use Rattle.std.specs.Prelude.{◌≡◌, ◌+◌, ◌^◌, length};
     ghost use Rattle.esr_desk.specs.Once.{AreOnce, NoneTwice};
     ghost use Rattle.esr_desk.specs.Numbered.{Numbered};
+    ghost use Rattle.esr_deleting.specs.Once.{AreRemovedOnce};
     ghost use Rattle.esr_checking.specs.Tested.{AreTested};
     ghost use Rattle.esr_checking.specs.AllShown.{AreAllShown};
 
@@ -48,7 +50,8 @@ impl<D: Depot, K: Told, H: Shard, T: Target> Model for Solo<D, K, H, T> {
         × AreOnce K.start s.repo
         × NoneTwice s.repo
         × Numbered 1 K.start.world
-        × AreTested K.start s.repo };
+        × AreTested K.start s.repo
+        × AreRemovedOnce s.repo };
 }
 
 impl<D: Depot, K: Told, H: Shard, T: Target> Solo<D, K, H, T> {
@@ -80,6 +83,7 @@ impl<D: Depot, K: Told, H: Shard, T: Target> Solo<D, K, H, T> {
         ensures once { AreOnce K.start result.0 }
         ensures single { NoneTwice result.0 }
         ensures tested { AreTested K.start result.0 }
+        ensures removed { AreRemovedOnce result.0 }
     {
         let Solo {
             repo,

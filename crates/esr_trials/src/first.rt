@@ -41,6 +41,7 @@ $ run
 exit 0
 ? blobs=14
 ? blob index-1={"indices":{"logs":{"id":"AAAAAAAAAAEAAAAAAAAAAQ","shard_generations":["AAAAAAAAAAEAAAAAAAAABQ"],"snapshots":["AAAAAAAAAAEAAAAAAAAAAA","AAAAAAAAAAEAAAAAAAAABA"]}},"snapshots":[{"name":"s1","state":1,"uuid":"AAAAAAAAAAEAAAAAAAAAAA"},{"name":"s2","state":1,"uuid":"AAAAAAAAAAEAAAAAAAAABA"}]}
+? blob indices/AAAAAAAAAAEAAAAAAAAAAQ/0/index-AAAAAAAAAAEAAAAAAAAABQ={"files":[{"length":3,"name":"__AAAAAAAAAAEAAAAAAAAAAg","part_size":16777216,"physical_name":"_0.cfs","sha256":"ba7816bf8f01cfea414140de5dae2223b00361a396177a9cb410ff61f20015ad"}],"snapshots":[{"files":["__AAAAAAAAAAEAAAAAAAAAAg"],"uuid":"AAAAAAAAAAEAAAAAAAAAAA"},{"files":["__AAAAAAAAAAEAAAAAAAAAAg"],"uuid":"AAAAAAAAAAEAAAAAAAAABA"}]}
 
 bad words touch nothing
 > snapshot s1 logs/1/src

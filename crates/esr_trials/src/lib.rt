@@ -8,6 +8,8 @@ mod failing;
 #[cfg(test)]
 mod first;
 #[cfg(test)]
+mod kept;
+#[cfg(test)]
 mod many;
 #[cfg(test)]
 mod names;

@@ -59,9 +59,16 @@ exit 0
 ? there index-2=true
 
 a root that lacks its last byte cannot be opened
-! put index-0={"indices":{"logs":{"id":"AAAAAAAAAAEAAAAAAAAAAQ","shard_generations":["AAAAAAAAAAEAAAAAAAAAAw"],"snapshots":["AAAAAAAAAAEAAAAAAAAAAA"]}},"snapshots":[{"name":"s1","state":1,"uuid":"AAAAAAAAAAEAAAAAAAAAAA"}]
-! put a=1
-! record {"ops":[],"pending":0,"safe":0,"term":1}
+> snapshot s1 logs/1/src
+> wait
+> list
+$ run
+1 snapshot s1 ok AAAAAAAAAAEAAAAAAAAAAA
+2 wait
+3 list 1
+- s1 AAAAAAAAAAEAAAAAAAAAAA success
+exit 0
+! shorten index-0
 > list
 $ run
 damaged index-0
@@ -79,8 +86,6 @@ exit 4
 ? record={}
 
 a container whose last term has come cannot be opened
-! put index-0={"indices":{"logs":{"id":"AAAAAAAAAAEAAAAAAAAAAQ","shard_generations":["AAAAAAAAAAEAAAAAAAAAAw"],"snapshots":["AAAAAAAAAAEAAAAAAAAAAA"]}},"snapshots":[{"name":"s1","state":1,"uuid":"AAAAAAAAAAEAAAAAAAAAAA"}]}
-! put a=1
 ! record {"ops":[],"pending":-1,"safe":-1,"term":9223372036854775807}
 > list
 $ run
@@ -128,6 +133,10 @@ fn runs_over_what_was_left(rt: HostRuntime) -> Result<(), Fail> {
     play_all(&rt, rt.alloc(), SCENARIOS)
 }
 
+/// What the run shows that a crash cuts.
+const TOLD: &str =
+    "1 snapshot s1 ok AAAAAAAAAAEAAAAAAAAAAA\n2 wait\n3 list 1\n- s1 AAAAAAAAAAEAAAAAAAAAAA success\nexit 0\n";
+
 const LISTED: &str = "1 list 1\n- s1 AAAAAAAAAAEAAAAAAAAAAA success\nexit 0\n";
 
 const UNLISTED: &str = "1 list 0\nexit 0\n";
@@ -158,11 +167,12 @@ fn listed(
 fn each_crash_lists_the_snapshot_or_not(rt: HostRuntime) -> Result<(), Fail> {
     let alloc = rt.alloc();
     let depot = MemDepot::new(alloc, Seq::new(alloc));
-    let (first, _) = run_shown(&rt, alloc, depot, "run", SCRIPT, calm(1000))?;
+    let (first, told) = run_shown(&rt, alloc, depot, "run", SCRIPT, calm(1000))?;
+    assert_eq!(rt; told.as_str(), TOLD);
     let settle = moment_of(alloc, &first, RECORD)?;
     // The settle is the last call.
     for moment in 0..settle.saturating_add(3) {
-        for leaves in [Leaves::Old, Leaves::New] {
+        for leaves in [Leaves::Old, Leaves::New, Leaves::First(1)] {
             let shown = listed(&rt, alloc, &first, moment, leaves)?;
             let wanted = listing_after(moment, settle, leaves);
             assert_eq!(rt; shown.as_str(), wanted, "{moment} {leaves:?}");

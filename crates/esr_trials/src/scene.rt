@@ -10,21 +10,21 @@
 //! - `! put NAME=TEXT`, `! remove NAME`, `! shorten NAME` (by its last byte) or `! record TEXT`, which changes the container, or
 //!   `! cut TEXT`, a crash just before the swap that brought that record;
 //! - `! container CALL NTH LEAVES`, a call of the container that fails, and the `old` state or the `new` one that it leaves;
-//! - `! source-CALL NTH`, `! reader NTH`, `! output NTH`, a call of the source `src`, a read of the script or a write of the
-//!   output that fails, and `! room BYTES`, what the output takes;
+//! - `! source-CALL NTH`, `! target-CALL NTH`, `! reader NTH`, `! output NTH`, a call of the source `src`, of the target of `logs`
+//!   below `out`, a read of the script or a write of the output that fails, and `! room BYTES`, what the output takes;
 //! - each other line is one that is shown.
 use crate::setting::{Mishaps, calm, run_shown};
 use esr_depot::{CallError, Counted, Depot, Fetch, Names, Stage};
 use esr_memdepot::{Call, Failing, Leaves, MemDepot, Plan};
 use esr_seq::{Bytes, Seq, Text};
-use esr_source::{Call as SourceCall, Failing as SourceFailing};
+use esr_source::{Call as OutsideCall, Failing as OutsideFailing};
 use std::alloc::{AllocError, Global};
 use std::process::Abort;
 use std::sync::Wait;
 use std::test::Fail;
 
-/// More moments than two runs have.
-const MOMENTS: u64 = 100;
+/// More moments than the runs of a scenario have.
+const MOMENTS: u64 = 300;
 
 /// The calls of a container, by their names.
 static CALLS: [(&str, Call); 16] = [
@@ -192,9 +192,12 @@ fn set(
 
 fn set_mishap(mishaps: &mut Mishaps, what: &str, nth: u64) -> Result<(), Fail> {
     match what {
-        "source-list" => mishaps.source = source_failing(SourceCall::List, nth),
-        "source-start" => mishaps.source = source_failing(SourceCall::Start, nth),
-        "source-read" => mishaps.source = source_failing(SourceCall::Read, nth),
+        "source-list" => mishaps.source = outside_failing(OutsideCall::List, nth),
+        "source-start" => mishaps.source = outside_failing(OutsideCall::Start, nth),
+        "source-read" => mishaps.source = outside_failing(OutsideCall::Read, nth),
+        "target-create" => mishaps.target = outside_failing(OutsideCall::Create, nth),
+        "target-write" => mishaps.target = outside_failing(OutsideCall::Write, nth),
+        "target-end" => mishaps.target = outside_failing(OutsideCall::End, nth),
         "reader" => mishaps.read = nth,
         "output" => mishaps.write = nth,
         "room" => mishaps.room = nth as usize,
@@ -203,8 +206,8 @@ fn set_mishap(mishaps: &mut Mishaps, what: &str, nth: u64) -> Result<(), Fail> {
     Ok(())
 }
 
-fn source_failing(call: SourceCall, nth: u64) -> SourceFailing {
-    SourceFailing { call, nth }
+fn outside_failing(call: OutsideCall, nth: u64) -> OutsideFailing {
+    OutsideFailing { call, nth }
 }
 
 /// Changes a blob: what is done with it, and its name, with its text where it is put.
@@ -218,7 +221,12 @@ fn change(alloc: Global, depot: &mut MemDepot, what: &str, blob: &str) -> Result
 }
 
 /// Puts a blob of these bytes.
-fn put(alloc: Global, depot: &mut MemDepot, name: &str, bytes: &[u8]) -> Result<(), CallError> {
+pub(crate) fn put(
+    alloc: Global,
+    depot: &mut MemDepot,
+    name: &str,
+    bytes: &[u8],
+) -> Result<(), CallError> {
     let mut stage = depot.begin(alloc, name, bytes.len())?;
     stage.write(bytes)?;
     depot.replace(alloc, stage)

@@ -35,11 +35,12 @@ eight logs _0.cfs=abcdefgh
 long logs _0.cfs=abcdefghi _1.cfs=
 b other _0.cfs=abc";
 
-/// Which call of the source `src`, which read of the script and which write of the output fails, each counted from 1, and how
-/// many bytes the output takes.
+/// Which call of the source `src`, of the target of `logs` below `out`, which read of the script and which write of the output
+/// fails, each counted from 1, and how many bytes the output takes.
 #[derive(Clone, Copy)]
 pub(crate) struct Mishaps {
     pub source: Failing,
+    pub target: Failing,
     pub read: u64,
     pub write: u64,
     pub room: usize,
@@ -47,11 +48,13 @@ pub(crate) struct Mishaps {
 
 /// No call fails, and the output has room for that many bytes.
 pub(crate) fn calm(room: usize) -> Mishaps {
+    let none = Failing {
+        call: Call::List,
+        nth: 0,
+    };
     Mishaps {
-        source: Failing {
-            call: Call::List,
-            nth: 0,
-        },
+        source: none,
+        target: none,
         read: 0,
         write: 0,
         room,
@@ -98,16 +101,22 @@ fn shard_of(alloc: Global, line: &str) -> Result<MemSource, AllocError> {
     Ok(MemSource { address, files })
 }
 
+/// The plan of that call of the first shard of `logs` at a place.
+fn failing_at(alloc: Global, place: &str, failing: Failing) -> Result<Seq<FailingAt>, AllocError> {
+    let Failing { call, nth } = failing;
+    let address = Address::new(alloc, place, "logs", 0)?;
+    let mut plan = Seq::new(alloc);
+    plan.push(FailingAt { address, call, nth })?;
+    Ok(plan)
+}
+
 /// The shards of the table, of which that call of `src` fails.
 fn sources_of(alloc: Global, failing: Failing) -> Result<MemSources, AllocError> {
     let mut shards = Seq::new(alloc);
     for line in SHARDS.lines() {
         shards.push(shard_of(alloc, line)?)?;
     }
-    let Failing { call, nth } = failing;
-    let address = Address::new(alloc, "src", "logs", 0)?;
-    let mut plan = Seq::new(alloc);
-    plan.push(FailingAt { address, call, nth })?;
+    let plan = failing_at(alloc, "src", failing)?;
     Ok(MemSources::new(shards, plan))
 }
 
@@ -134,7 +143,7 @@ pub(crate) fn run_over(
     let sources = sources_of(alloc, mishaps.source)?;
     let bytes = Bytes::from_slice(alloc, script.as_bytes())?;
     let mut lines = MemLines::new(bytes, plan_of(alloc, Call::Read, mishaps.read)?);
-    let targets = MemTargets::new(Seq::new(alloc));
+    let targets = MemTargets::new(failing_at(alloc, "out", mishaps.target)?);
     Ok(run(
         rt, alloc, &words, &mut lines, depot, &sources, &targets, &NoGate, 0, out,
     ))
@@ -170,7 +179,7 @@ fn shown_by(alloc: Global, report: &[u8], left: &Left) -> Result<String, AllocEr
     Ok(text)
 }
 
-/// A line with what an object is that failed, and how often it did.
+/// A line with what an object is that failed, how often it did, and the files of a target.
 fn push_failed(alloc: Global, text: &mut String, fault: &Failed) -> Result<(), AllocError> {
     let (object, count) = match &fault.object {
         FailedObject::Stage { stage } => ("stage", stage.fault_count()),
@@ -183,7 +192,11 @@ fn push_failed(alloc: Global, text: &mut String, fault: &Failed) -> Result<(), A
     } else {
         ""
     };
-    text.push_str(format!(in alloc; "failed {object}{place} {count}\n")?.as_str())
+    text.push_str(format!(in alloc; "failed {object}{place} {count}")?.as_str())?;
+    if let FailedObject::Target { target } = &fault.object {
+        push_files(alloc, text, target)?;
+    }
+    text.push_str("\n")
 }
 
 /// A line with the number of the script's line, index, shard and files of a target.
@@ -195,10 +208,16 @@ fn push_restored(
     let (line, shard) = (restored.line, restored.shard);
     let index = restored.index.as_str();
     text.push_str(format!(in alloc; "restored {line} {index} {shard}")?.as_str())?;
-    for file in restored.target.files() {
+    push_files(alloc, text, &restored.target)?;
+    text.push_str("\n")
+}
+
+/// The names and texts of the files that a target has.
+fn push_files(alloc: Global, text: &mut String, target: &MemTarget) -> Result<(), AllocError> {
+    for file in target.files() {
         let bytes = str::from_utf8(file.bytes.as_slice()).unwrap_or("?");
         let name = file.name.as_str();
         text.push_str(format!(in alloc; " {name}={bytes}")?.as_str())?;
     }
-    text.push_str("\n")
+    Ok(())
 }

@@ -26,6 +26,7 @@ use Rattle.esr_desk.specs.Taken.{after_writes}
 use Rattle.esr_upload.specs.Surveyed.{printed, TellsAll}
 use Rattle.esr_upload.specs.Stored.{IsAt, AreBelow}
 use Rattle.esr_desk.specs.Damage.{IsAhead}
+use Rattle.esr_upload.specs.declared.trouble.Flaw.TheVariants as flaws
 use Rattle.esr_upload.specs.Trouble.{BadBase}
 use Rattle.esr_upload.specs.Entries.{new_count, entries_at, all_blobs, StoredAll}
 use Rattle.esr_upload.specs.Published.{HasDrawn, snap_blob, index_blob, last_blobs, sum_planned, outcome_of}
@@ -229,7 +230,7 @@ module _ (s : Start) (told : Option (List (Bytes × Bytes))) (listed : Option (L
   drew_last n count = let a = up_first in let b = up_drawn in record { from = omega (arith, a, count); below = omega (arith, a, b, count) }
 
   -- entries that are no snapshot show that the base is ahead
-  pub bad_end : (log : List Moment) (who : ℕ) → up ≡ ticket_of s log who → size ≤ 2 ^ 30 → are_snap_files [] es ≡ false → BadBase s log who
+  pub bad_end : (log : List Moment) (who : ℕ) → up ≡ ticket_of s log who → size ≤ 2 ^ 30 → are_snap_files [] es ≡ false → BadBase s log who flaws.Ahead
   bad_end log who is most refused = by_base old.base refl
     where
       ahead : (e : CodeEntry) × Has base.files e × (first ≤ e.name.number)
@@ -243,7 +244,7 @@ module _ (s : Start) (told : Option (List (Bytes × Bytes))) (listed : Option (L
       at_up : IsAt up at.index.number at.number
       at_up = writes_at s (all_blobs at.index.number at.number size first ps stored.files) old up at.index.number at.number stored.is drawn.at
 
-      by_base : (b : Option ℕ) → old.base ≡ b → BadBase s log who
+      by_base : (b : Option ℕ) → old.base ≡ b → BadBase s log who flaws.Ahead
       by_base None none = absurd (subst (λ (v : IndexValue). Has v.files ahead.0) (drawn.none none) ahead.1)
       by_base (Some g) some =
           bad_base s log who at.index.number at.number g base (subst (λ (t : Ticket). IsAt t at.index.number at.number) is at_up) (ap (λ (t : Ticket). t.base) (sym is) ∙ up_base ∙ some)

@@ -3,7 +3,7 @@ use Rattle.std.proofs.Common.{◌≡◌, inl, inr, ℕ, suc, ◌+◌, ◌≤◌,
 use Rattle.esr_names.specs.declared.ids.Id.{Id}
 use Rattle.esr_names.specs.declared.blob.ShardId.{ShardId}
 use Rattle.esr_model.specs.Values.{Bytes}
-use Rattle.esr_core.specs.World.{Ticket, Shard}
+use Rattle.esr_core.specs.World.{Ticket, Shard, Deleting}
 use Rattle.esr_core.specs.Ready.{IsShard}
 use Rattle.esr_core.specs.Entry.{Moment}
 use Rattle.esr_core.specs.Allowed.{Based}
@@ -20,14 +20,14 @@ use Rattle.esr_progress.specs.declared.unit.Work.TheVariants as works
 use Rattle.esr_progress.specs.declared.unit.Copied.{Copied}
 use Rattle.esr_reuse.specs.declared.reuse.Planned.{Planned}
 use Rattle.esr_desk.specs.Start.{Start, formats_of, ticket_of}
-use Rattle.esr_desk.specs.Conditions.{CanDraw}
+use Rattle.esr_desk.specs.Conditions.{CanDraw, CanFail}
 use Rattle.esr_desk.specs.Taken.{TookWork}
 use Rattle.esr_desk.specs.Grew.{GrewBy}
 use Rattle.esr_desk.specs.Sources.{AreSources}
 use Rattle.esr_desk.specs.Shown.{IsOf}
 use Rattle.esr_upload.specs.Surveyed.{TellsAll}
 use Rattle.esr_upload.specs.Stored.{IsAt}
-use Rattle.esr_upload.specs.Worked.{Went}
+use Rattle.esr_upload.specs.Worked.{Worked, Went}
 use Rattle.esr_upload.specs.Entries.{new_count}
 use Rattle.esr_upload.specs.Published.{IsUnit, IsPlanned, HasIndex, HasDrawn}
 use Rattle.esr_upload.proofs.Planning.{count_le}
@@ -114,6 +114,19 @@ pub took_shard : (work : CodeWork) (root : Option Root) (op : ℕ) (copy : Copie
 took_shard work root op copy t uuid at name place is took =
     let took_it = subst (λ (w : CodeWork). TookWork w root op copy t) is took in
     (ap (λ (x : Ticket). x.work) took_it.1, ap (λ (x : Ticket). x.base) took_it.1)
+
+-- it may fail, however far it went
+pub shard_fails : (work : CodeWork) (root : Option Root) (op : ℕ) (copy : Copied) (old new : Ticket) (uuid : Id) (at : ShardId) (name place : Bytes) → work ≡ works.Shard uuid at name place → TookWork work root op copy old → Worked old new
+    → CanFail new
+shard_fails work root op copy old new uuid at name place is took worked =
+    let took_it = subst (λ (w : CodeWork). TookWork w root op copy old) is took in
+    let work_is : new.work ≡ Shard at.index.number at.number = ap (λ (x : Ticket). x.work) worked.is ∙ ap (λ (x : Ticket). x.work) took_it.1 in
+    record {
+      out = ap (λ (x : Ticket). x.out) worked.is ∙ ap (λ (x : Ticket). x.out) took_it.1;
+      unsettled = ap (λ (x : Ticket). x.settled) worked.is ∙ ap (λ (x : Ticket). x.settled) took_it.1;
+      unit = inl (subst IsShard (sym work_is) tt);
+      unpruned = λ uuids plan deletes. let same : Shard at.index.number at.number ≡ Deleting uuids plan = sym work_is ∙ deletes in cc;
+    }
 
 -- a shard's unit that was taken, with what is told of its shard
 pub took_unit : (s : Start) (files : Bytes → Bytes → ℕ → Option (List (Bytes × Bytes))) (is_there : Bytes → Bytes → ℕ → Option Bool) (is_quiet : Bool) (work : CodeWork) (root : Option Root) (op : ℕ) (copy : Copied) (t : Ticket) (uuid : Id) (at : ShardId) (name place : Bytes)

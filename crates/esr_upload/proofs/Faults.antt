@@ -16,9 +16,10 @@ use Rattle.esr_formats.specs.Formats.{formats}
 use Rattle.esr_formats.specs.Shards.{entry_of, snap_list_of, shard_index_of, shard_index_kind}
 use Rattle.esr_formats.proofs.ShardTexts.{shard_index_reads_back}
 use Rattle.esr_desk.specs.Start.{Start, formats_of, ticket_of}
-use Rattle.esr_desk.specs.Damage.{IsAhead, BaseFault}
+use Rattle.esr_desk.specs.Damage.{IsAhead, WasAhead}
 use Rattle.esr_upload.specs.Base.{HasBase}
 use Rattle.esr_upload.specs.Stored.{IsAt}
+use Rattle.esr_upload.specs.declared.trouble.Flaw.TheVariants as flaws
 use Rattle.esr_upload.specs.Trouble.{BadBase}
 use Rattle.esr_upload.specs.Published.{HasIndex}
 
@@ -44,18 +45,18 @@ has_file (x ∷ es) e (inr has) = inr (has_file es e has)
 
 -- ---- the fault
 
-read_fault : (s : Start) (log : List Moment) (who index number g : ℕ) (value : ShardFiles) → Based (formats_of s) (ticket_of s log who) index number (Some g) value → IsAhead (ticket_of s log who) value → BaseFault s log who (ShardIndex index number g)
+read_fault : (s : Start) (t : Ticket) (index number g : ℕ) (value : ShardFiles) → Based (formats_of s) t index number (Some g) value → IsAhead t value → WasAhead s t (ShardIndex index number g)
 unfolding formats
-read_fault s log who index number g value based ahead = inr (based.0, λ tells. based.1, inr (value, based.2, ahead))
+read_fault s t index number g value based ahead = (based.0, λ tells. based.1, value, based.2, ahead)
 
-text_fault : (s : Start) (log : List Moment) (who index number g : ℕ) (value : ShardFiles) → s.tells ≡ false → ReadsBack shard_index_kind value → IsAhead (ticket_of s log who) value → BaseFault s log who (ShardIndex index number g)
-text_fault s log who index number g value untold back ahead = inr (shard_index_kind.text value, λ tells. absurd (contra s.tells tells untold), inr (value, back, ahead))
+text_fault : (s : Start) (t : Ticket) (index number g : ℕ) (value : ShardFiles) → s.tells ≡ false → ReadsBack shard_index_kind value → IsAhead t value → WasAhead s t (ShardIndex index number g)
+text_fault s t index number g value untold back ahead = (shard_index_kind.text value, λ tells. absurd (contra s.tells tells untold), value, back, ahead)
   where
     contra : (b : Bool) → b ≡ true → b ≡ false → ⊥
     contra b x y = cc (x, y)
 
 pub bad_base : (s : Start) (log : List Moment) (who index number g : ℕ) (base : IndexValue) → IsAt (ticket_of s log who) index number → (ticket_of s log who).base ≡ Some g
-    → (s.tells ≡ true → Based (formats_of s) (ticket_of s log who) index number (ticket_of s log who).base (shard_index_of base)) → IsShardIndex base → IsAhead (ticket_of s log who) (shard_index_of base) → BadBase s log who
+    → (s.tells ≡ true → Based (formats_of s) (ticket_of s log who) index number (ticket_of s log who).base (shard_index_of base)) → IsShardIndex base → IsAhead (ticket_of s log who) (shard_index_of base) → BadBase s log who flaws.Ahead
 bad_base s log who index number g base at is based whole ahead = record {
   index = index;
   number = number;
@@ -63,8 +64,8 @@ bad_base s log who index number g base at is based whole ahead = record {
   work = at.work;
   base_is = is;
   fault = elim (cases_Bool s.tells) [
-    | inl tells ↦ read_fault s log who index number g (shard_index_of base) (subst (λ (b : Option ℕ). Based (formats_of s) (ticket_of s log who) index number b (shard_index_of base)) is (based tells)) ahead
-    | inr untold ↦ text_fault s log who index number g (shard_index_of base) untold (shard_index_reads_back base whole) ahead
+    | inl tells ↦ read_fault s (ticket_of s log who) index number g (shard_index_of base) (subst (λ (b : Option ℕ). Based (formats_of s) (ticket_of s log who) index number b (shard_index_of base)) is (based tells)) ahead
+    | inr untold ↦ text_fault s (ticket_of s log who) index number g (shard_index_of base) untold (shard_index_reads_back base whole) ahead
   ];
 }
 

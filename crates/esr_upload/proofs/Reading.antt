@@ -7,9 +7,9 @@ use Rattle.esr_names.specs.declared.blob.ShardId.{ShardId}
 use Rattle.esr_names.specs.declared.blob.BlobName.TheVariants as names
 use Rattle.esr_names.specs.Layout.{IsName}
 use Rattle.esr_model.specs.Names.{BlobName, ShardIndex}
-use Rattle.esr_model.specs.Values.{Bytes, Has, Kind, ShardFiles}
+use Rattle.esr_model.specs.Values.{Bytes, Has, ShardFiles}
 use Rattle.esr_core.specs.World.{Ticket}
-use Rattle.esr_core.specs.Entry.{FetchStep, WasAbsent, Moment}
+use Rattle.esr_core.specs.Entry.{FetchStep, Reply, WasFetched, WasAbsent, Moment}
 use Rattle.esr_core.specs.After.{fetching}
 use Rattle.esr_core.specs.Allowed.{Based}
 use Rattle.esr_depot.specs.Calls.{HasCause, has_failed}
@@ -18,14 +18,18 @@ use Rattle.esr_depot.specs.declared.error.CallError.TheVariants.{Failed}
 use Rattle.esr_json.specs.declared.refusal.Reason.{Reason}
 use Rattle.esr_json.specs.declared.refusal.ReadRefusal.{ReadRefusal}
 use Rattle.esr_json.specs.declared.refusal.ReadRefusal.TheVariants as refusals
-use Rattle.esr_formats.specs.Kinds.{IsUnread}
+use Rattle.esr_json.specs.Steps.{Fails}
+use Rattle.esr_shardidx.specs.Indices.{shard_index_from}
+use Rattle.esr_formats.specs.Reasons.{reason_of, refused, unreadable, refused_for}
 use Rattle.esr_formats.specs.Formats.{formats}
 use Rattle.esr_formats.specs.Shards.{shard_index_kind}
 use Rattle.esr_desk.specs.Start.{Start, formats_of, ticket_of, told_bytes}
 use Rattle.esr_desk.specs.Outcome.{Stepped, fetch_reply}
 use Rattle.esr_desk.specs.Taken.{fetched_by}
 use Rattle.esr_desk.specs.Grew.{stepped_grew_by}
+use Rattle.esr_desk.specs.Damage.{HadFetch}
 use Rattle.esr_desk.specs.Shown.{Faulty}
+use Rattle.esr_upload.specs.declared.trouble.Flaw.TheVariants as flaws
 use Rattle.esr_upload.specs.Base.{HasBase}
 use Rattle.esr_upload.specs.Stored.{IsAt}
 use Rattle.esr_upload.specs.Trouble.{BadBase}
@@ -80,24 +84,32 @@ failed_read {T} s before now result e sure is failed cause quiet serves =
 
 -- ---- the base is at fault
 
+had_fetch : (s : Start) (old new : List Moment) (who : ℕ) (name : BlobName) (answer : Reply) → Stepped s old new who (FetchStep name) answer → HadFetch new who name answer
+had_fetch s old new who name answer step = record {
+  front = step.front;
+  moment = record { entry = record { who = who; step = FetchStep name; reply = answer }; image = step.image };
+  back = [];
+  is = step.is;
+  of = refl;
+  step = refl;
+  reply = refl;
+}
+
+-- it was there
+pub was_fetched : {F : Type 0} (o : Option F) (f : F) (s : Start) (old new : List Moment) (who : ℕ) (name : BlobName) → o ≡ Some f → Stepped s old new who (FetchStep name) (fetch_reply o) → HadFetch new who name WasFetched
+was_fetched None f s old new who name is step = absurd cc
+was_fetched (Some g) f s old new who name is step = had_fetch s old new who name WasFetched step
+
 -- it was absent
 pub absent_base : {F : Type 0} (left : F → Option Bytes) (o : Option F) (s : Start) (old new : List Moment) (who index number base : ℕ) → o ≡ None → IsAt (ticket_of s old who) index number → (ticket_of s old who).base ≡ Some base
-    → Stepped s old new who (FetchStep (ShardIndex index number base)) (fetch_reply o) → ticket_of s new who ≡ fetched_by left (ShardIndex index number base) o (ticket_of s old who) → BadBase s new who
+    → Stepped s old new who (FetchStep (ShardIndex index number base)) (fetch_reply o) → ticket_of s new who ≡ fetched_by left (ShardIndex index number base) o (ticket_of s old who) → BadBase s new who flaws.Absent
 absent_base left None s old new who index number base none at is step same = record {
   index = index;
   number = number;
   base = base;
   work = ap (λ (t : Ticket). t.work) same ∙ at.work;
   base_is = ap (λ (t : Ticket). t.base) same ∙ is;
-  fault = inl (record {
-    front = step.front;
-    moment = record { entry = record { who = who; step = FetchStep (ShardIndex index number base); reply = WasAbsent }; image = step.image };
-    back = [];
-    is = step.is;
-    of = refl;
-    step = refl;
-    reply = refl;
-  });
+  fault = had_fetch s old new who (ShardIndex index number base) WasAbsent step;
 }
 absent_base left (Some f) s old new who index number base none at is step same = absurd cc
 
@@ -105,10 +117,13 @@ told_has : (tells : Bool) (old new : Ticket) (name : BlobName) (b : Bytes) → n
 told_has true old new name b is yes_is = subst (λ (t : Ticket). Has t.read (name, b)) (sym is) (inl refl)
 told_has false old new name b is yes_is = absurd cc
 
--- its bytes don't read
-pub damaged_base : (s : Start) (old new : List Moment) (who index number base : ℕ) (b : Bytes) → IsAt (ticket_of s old who) index number → (ticket_of s old who).base ≡ Some base
-    → ticket_of s new who ≡ fetching (ShardIndex index number base) (told_bytes s b) (ticket_of s old who) → shard_index_kind.read b ≡ None → BadBase s new who
-damaged_base s old new who index number base b at is fetched none =
+-- its bytes don't read: the reader's reason is the first there is
+pub damaged_base : (s : Start) (old new : List Moment) (who index number base : ℕ) (b read : Bytes) (e : ReadRefusal) (why : Reason) → IsAt (ticket_of s old who) index number → (ticket_of s old who).base ≡ Some base
+    → ticket_of s new who ≡ fetching (ShardIndex index number base) (told_bytes s b) (ticket_of s old who) → HadFetch new who (ShardIndex index number base) WasFetched
+    → read ≡ b → e ≡ refusals.Damaged why → Fails e (shard_index_from read) → BadBase s new who (flaws.Unreadable why)
+unfolding unreadable
+damaged_base s old new who index number base b read e why at is fetched had one damaged fails =
+    let first = subst (λ (x : Bytes). refused (shard_index_from x) ≡ Some (reason_of why)) one (refused_for (shard_index_from read) e why damaged fails) in
     let worked = fetching_worked (ticket_of s old who) (ShardIndex index number base) (told_bytes s b) in
     let same = fetched ∙ worked.is in record {
       index = index;
@@ -116,7 +131,7 @@ damaged_base s old new who index number base b at is fetched none =
       base = base;
       work = ap (λ (t : Ticket). t.work) same ∙ at.work;
       base_is = ap (λ (t : Ticket). t.base) same ∙ is;
-      fault = inr (b, told_has s.tells (ticket_of s old who) (ticket_of s new who) (ShardIndex index number base) b fetched, inl none);
+      fault = (had, b, told_has s.tells (ticket_of s old who) (ticket_of s new who) (ShardIndex index number base) b fetched, first);
     }
 
 -- ---- the base is read
@@ -143,7 +158,3 @@ has_no_base s t index number is = record {
   is = refl;
   based = λ tells. subst (λ (o : Option ℕ). Based (formats_of s) t index number o (record { files = []; snapshots = [] })) (sym is) refl;
 }
-
--- bytes that were refused as damaged are no index
-pub unread : {V : Type 0} (kind : Kind V) (bytes b : Bytes) (e : ReadRefusal) (why : Reason) → bytes ≡ b → e ≡ refusals.Damaged why → IsUnread kind bytes e → kind.read b ≡ None
-unread kind bytes b e why same is no_value = subst (λ (x : Bytes). kind.read x ≡ None) same (subst (λ (r : ReadRefusal). IsUnread kind bytes r) is no_value)

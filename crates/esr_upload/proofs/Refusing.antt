@@ -1,17 +1,19 @@
 -- How the unit of a shard ends where it isn't done.
-use Rattle.std.proofs.Common.{◌≡◌, ◌≢◌, ◌<◌, inl, inr, ℕ, Bool, true, false, List, [], ◌∷◌, ◌++◌, append_assoc, Option, Some, None, option_map, Result, Ok, Err, IfErr, refl, sym, ap, ◌∙◌, subst, arith}
+use Rattle.std.proofs.Common.{◌≡◌, ◌≢◌, ◌<◌, inl, inr, ℕ, Bool, true, false, List, [], ◌∷◌, ◌++◌, append_assoc, Option, Some, None, option_map, Result, Ok, Err, IfErr, IsSome, refl, sym, ap, ◌∙◌, subst, arith}
 use Rattle.std.proofs.lemmas.Bool.{cases_Bool}
 use Rattle.std.specs.Result.{IsErrAnd}
 use Rattle.esr_hash.specs.declared.print.Print.{Print}
 use Rattle.esr_names.specs.declared.ids.Id.{Id}
 use Rattle.esr_names.specs.declared.blob.ShardId.{ShardId}
+use Rattle.esr_names.specs.declared.blob.BlobName.{BlobName as CodeName}
 use Rattle.esr_names.specs.declared.blob.BlobName.TheVariants as names
 use Rattle.esr_model.specs.Names.{BlobName, ShardIndex}
 use Rattle.esr_model.specs.Values.{Bytes, Has}
 use Rattle.esr_core.specs.World.{Ticket, Work, Shard}
-use Rattle.esr_core.specs.Entry.{Why, OfDepot, OfSource, OfChange, OfDamage, OfTaken, OfIdsSpent, OfGenerationsSpent, OfTarget, OfPrint, OfDisagreement, Step, FailedStep, HasEnded, Refused, Refusal, DepotFault, NameTaken, IdsSpent, GenerationsSpent, Moment}
+use Rattle.esr_core.specs.Entry.{Reason, Why, OfDepot, OfSource, OfChange, OfAbsence, OfUnreadable, OfAhead, OfTaken, OfIdsSpent, OfGenerationsSpent, OfTarget, OfPrint, OfDisagreement, Step, FailedStep, Reply, WasFetched, WasAbsent, HasEnded, Refused, Refusal, DepotFault, NameTaken, IdsSpent, GenerationsSpent, Moment}
 use Rattle.esr_formats.specs.Ids.{number_of}
 use Rattle.esr_formats.specs.Names.{name_of}
+use Rattle.esr_formats.specs.Reasons.{reason_of}
 use Rattle.esr_source.specs.declared.address.Address.{Address}
 use Rattle.esr_source.specs.Address.{address}
 use Rattle.esr_desk.specs.declared.entry.Why.TheVariants as whys
@@ -28,15 +30,17 @@ use Rattle.esr_desk.specs.Sources.{AreSources}
 use Rattle.esr_desk.specs.Outcome.{Waited, Stepped}
 use Rattle.esr_desk.specs.Last.{IsLast}
 use Rattle.esr_desk.specs.Halts.{Halts}
-use Rattle.esr_desk.specs.Damage.{IsBase, IsBad, WasMissing, BaseFault}
+use Rattle.esr_desk.specs.Damage.{IsBase, HadFetch, WasUnreadable, WasAhead}
 use Rattle.esr_desk.specs.Unquiet.{unquiet_last}
 use Rattle.esr_desk.specs.Shown.{Counts, Matters, NeverFailed, HadFault, HadRefusal, IsOf, IsUntold, FaultyShard, DepotShown, SourceShown, ReadShown, StepShown, IsShown}
 use Rattle.esr_upload.specs.declared.cause.Cause.{Cause}
+use Rattle.esr_upload.specs.declared.trouble.Flaw.{Flaw}
+use Rattle.esr_upload.specs.declared.trouble.Flaw.TheVariants as flaws
 use Rattle.esr_upload.specs.declared.trouble.Trouble.{Trouble}
 use Rattle.esr_upload.specs.declared.trouble.Trouble.TheVariants as troubles
-use Rattle.esr_upload.specs.Cause.{cause_refused, damaged_by, cause_by}
+use Rattle.esr_upload.specs.Cause.{cause_refused, flaw_why, damaged_by, cause_by}
 use Rattle.esr_upload.specs.Refused.{IsChangeOfUntold, IsUnitRefused}
-use Rattle.esr_upload.specs.Trouble.{IsWorkRefusal, Shown, BadBase, IsChangeUntold}
+use Rattle.esr_upload.specs.Trouble.{IsWorkRefusal, HasFlaw, Shown, BadBase, IsChangeUntold}
 use Rattle.esr_upload.specs.Worked.{Worked, Went}
 
 pub passed : {T E : Type 0} (r : Result T E) (P : E → Type 0) (e : E) → IsErrAnd r (λ x. x ≡ e) → P e → IfErr r P
@@ -68,9 +72,9 @@ refusal_same (steps.Refused (refusals.RestoreRunning op)) refusal is = cc
 refusal_same (steps.Refused (refusals.BusyOp op)) refusal is = cc
 refusal_same (steps.Refused (refusals.BusyTicket ticket)) refusal is = cc
 
-damaged_memory : {S F H T : Type 0} (at : ShardId) (base : Option Id) (refusal : StepRefusal) → damaged_by {S = S} {F = F} {H = H} {T = T} at base ≡ Err refusal → steps.Memory ≡ refusal
-damaged_memory at None refusal is = cc
-damaged_memory at (Some b) refusal is = cc
+damaged_memory : {S F H T : Type 0} (at : ShardId) (base : Option Id) (flaw : Flaw) (refusal : StepRefusal) → damaged_by {S = S} {F = F} {H = H} {T = T} at base flaw ≡ Err refusal → steps.Memory ≡ refusal
+damaged_memory at None flaw refusal is = cc
+damaged_memory at (Some b) flaw refusal is = cc
 
 -- a step that ends no ticket was refused since a record swap had failed
 work_halts : {S F H T : Type 0} (s : Start) (log : List Moment) (who : ℕ) (e refusal : StepRefusal) → IsWorkRefusal s log who e → cause_refused {S = S} {F = F} {H = H} {T = T} e ≡ Err refusal → Halts s log who e
@@ -91,7 +95,7 @@ stopped stage_faults fetch_faults n files s log who at base shard troubles.Sourc
 stopped stage_faults fetch_faults n files s log who at base shard (troubles.Stage stage) refusal shown is = absurd cc
 stopped stage_faults fetch_faults n files s log who at base shard (troubles.Fetch fetch) refusal shown is = absurd cc
 stopped stage_faults fetch_faults n files s log who at base shard (troubles.Changed first second) refusal shown is = absurd cc
-stopped {S} {F} {H} {T} stage_faults fetch_faults n files s log who at base shard troubles.Base refusal shown is = subst (λ (r : StepRefusal). Halts s log who r) (damaged_memory {S = S} {F = F} {H = H} {T = T} at base refusal is) tt
+stopped {S} {F} {H} {T} stage_faults fetch_faults n files s log who at base shard (troubles.Base flaw) refusal shown is = subst (λ (r : StepRefusal). Halts s log who r) (damaged_memory {S = S} {F = F} {H = H} {T = T} at base flaw refusal is) tt
 
 -- ---- the shard of a steady address
 
@@ -105,8 +109,8 @@ steady_shard s files is_there is_quiet place name number a sure before now sourc
 
 -- ---- what shows a cause goes on while others step
 
-missing_on : (s : Start) (old new : List Moment) (who : ℕ) (name : BlobName) → Waited s old new who → WasMissing old who name → WasMissing new who name
-missing_on s old new who name waited h = record {
+fetch_on : (s : Start) (old new : List Moment) (who : ℕ) (name : BlobName) (answer : Reply) → Waited s old new who → HadFetch old who name answer → HadFetch new who name answer
+fetch_on s old new who name answer waited h = record {
   front = h.front;
   moment = h.moment;
   back = h.back ++ waited.others;
@@ -137,10 +141,9 @@ refusal_on s old new who refusal waited h = record {
   reply = h.reply;
 }
 
-fault_on : (s : Start) (old new : List Moment) (who : ℕ) (name : BlobName) → Waited s old new who → BaseFault s old who name → BaseFault s new who name
-fault_on s old new who name waited (inl missing) = inl (missing_on s old new who name waited missing)
-fault_on s old new who name waited (inr bad) =
-    inr (bad.0, subst (λ (t : Ticket). s.tells ≡ true → Has t.read (name, bad.0)) (sym waited.alone) bad.1, subst (λ (t : Ticket). IsBad t bad.0) (sym waited.alone) bad.2)
+unreadable_on : (s : Start) (old new : List Moment) (who : ℕ) (name : BlobName) (reason : Reason) → Waited s old new who → WasUnreadable s old who name reason → WasUnreadable s new who name reason
+unreadable_on s old new who name reason waited (had, bytes, read, refuses) =
+    (fetch_on s old new who name WasFetched waited had, bytes, subst (λ (t : Ticket). s.tells ≡ true → Has t.read (name, bytes)) (sym waited.alone) read, refuses)
 
 module _ {S F H T : Type 0} (c : Counts S F H T) (s : Start) (old new : List Moment) (who : ℕ) (waited : Waited s old new who) where
   depot_on : (b : By S F H T) → DepotShown c s old who b → DepotShown c s new who b
@@ -151,10 +154,10 @@ module _ {S F H T : Type 0} (c : Counts S F H T) (s : Start) (old new : List Mom
   depot_on shows.Entry h = (had_on s old new who waited h.0, h.1)
   depot_on shows.Nothing h = h
 
-  damage_on : (b : By S F H T) (name : BlobName) → ReadShown b (IsBase (ticket_of s old who) name × BaseFault s old who name) → ReadShown b (IsBase (ticket_of s new who) name × BaseFault s new who name)
-  damage_on (shows.Object object) name h = h
-  damage_on shows.Entry name h = h
-  damage_on shows.Nothing name h = (subst (λ (t : Ticket). IsBase t name) (sym waited.alone) h.0, fault_on s old new who name waited h.1)
+  base_on : (b : By S F H T) (name : BlobName) (before after : Type 0) → (before → after) → ReadShown b (IsBase (ticket_of s old who) name × before) → ReadShown b (IsBase (ticket_of s new who) name × after)
+  base_on (shows.Object object) name before after on h = h
+  base_on shows.Entry name before after on h = h
+  base_on shows.Nothing name before after on h = (subst (λ (t : Ticket). IsBase t name) (sym waited.alone) h.0, on h.1)
 
   change_on : (b : By S F H T) (differ : Type 0) → ReadShown b (differ × IsUntold s (ticket_of s old who)) → ReadShown b (differ × IsUntold s (ticket_of s new who))
   change_on (shows.Object object) differ h = h
@@ -170,7 +173,9 @@ module _ {S F H T : Type 0} (c : Counts S F H T) (s : Start) (old new : List Mom
   shown_on OfDepot b h = depot_on b h
   shown_on OfSource b h = subst (λ (t : Ticket). SourceShown c s t b) (sym waited.alone) h
   shown_on (OfChange first_len first_digest second_len second_digest) b h = change_on b ((first_len ≡ second_len) → (first_digest ≡ second_digest) → ⊥) h
-  shown_on (OfDamage name) b h = damage_on b name h
+  shown_on (OfAbsence name) b h = base_on b name (HadFetch old who name WasAbsent) (HadFetch new who name WasAbsent) (fetch_on s old new who name WasAbsent waited) h
+  shown_on (OfUnreadable name reason) b h = base_on b name (WasUnreadable s old who name reason) (WasUnreadable s new who name reason) (unreadable_on s old new who name reason waited) h
+  shown_on (OfAhead name) b h = base_on b name (WasAhead s (ticket_of s old who) name) (WasAhead s (ticket_of s new who) name) (λ over. subst (λ (t : Ticket). WasAhead s t name) (sym waited.alone) over) h
   shown_on (OfTaken name) b h = step_on b (NameTaken name) h
   shown_on (OfIdsSpent next) b h = step_on b (IdsSpent next) h
   shown_on (OfGenerationsSpent pending) b h = step_on b (GenerationsSpent pending) h
@@ -243,22 +248,29 @@ module _ {S F H T : Type 0} (c : Counts S F H T) (files : Option (List (Bytes ×
   refused_shows index number (steps.Refused (refusals.BusyOp op)) cause never work was is = cc
   refused_shows index number (steps.Refused (refusals.BusyTicket ticket)) cause never work was is = cc
 
-  -- the fault of the base, under its name
-  base_shows : (at : ShardId) (base : Option Id) (cause : Cause S F H T) → (ticket_of s log who).work ≡ Shard at.index.number at.number → (ticket_of s log who).base ≡ option_map number_of base → BadBase s log who
-      → damaged_by {S = S} {F = F} {H = H} {T = T} at base ≡ Ok cause → Caused cause
-  base_shows at None cause work base_is bad is = cc
-  base_shows at (Some b) cause work base_is bad is =
-      let damaged : Cause S F H T = record { why = whys.Damaged (names.ShardIndex at b); by = shows.Nothing } in
+  -- the flaw of a base of this name
+  flaw_shows : (name : BlobName) (code : CodeName) (flaw : Flaw) → name_of code ≡ name → IsBase (ticket_of s log who) name → HasFlaw s log who name flaw → Caused (record { why = flaw_why code flaw; by = shows.Nothing })
+  flaw_shows name code flaws.Absent same base h = (subst (λ (n : BlobName). IsBase (ticket_of s log who) n × HadFetch log who n WasAbsent) (sym same) (base, h), tt)
+  flaw_shows name code (flaws.Unreadable reason) same base h = (subst (λ (n : BlobName). IsBase (ticket_of s log who) n × WasUnreadable s log who n (reason_of reason)) (sym same) (base, h), tt)
+  flaw_shows name code flaws.Ahead same base h = (subst (λ (n : BlobName). IsBase (ticket_of s log who) n × WasAhead s (ticket_of s log who) n) (sym same) (base, h), tt)
+
+  -- that of the ticket's base, under its name
+  base_shows : (at : ShardId) (base : Option Id) (flaw : Flaw) (cause : Cause S F H T) → (ticket_of s log who).work ≡ Shard at.index.number at.number → (ticket_of s log who).base ≡ option_map number_of base → BadBase s log who flaw
+      → damaged_by {S = S} {F = F} {H = H} {T = T} at base flaw ≡ Ok cause → Caused cause
+  base_shows at None flaw cause work base_is bad is = cc
+  base_shows at (Some b) flaw cause work base_is bad is =
+      let damaged : Cause S F H T = record { why = flaw_why (names.ShardIndex at b) flaw; by = shows.Nothing } in
       let same : damaged ≡ cause = cc in
       let place : Shard bad.index bad.number ≡ Shard at.index.number at.number = sym bad.work ∙ work in
       let one : bad.index ≡ at.index.number = cc in
       let two : bad.number ≡ at.number = cc in
       let generation : ◌≡◌ {A = Option ℕ} (Some bad.base) (Some b.number) = sym bad.base_is ∙ base_is in
       let three : bad.base ≡ b.number = cc in
-      let fault : BaseFault s log who (ShardIndex at.index.number at.number b.number) =
-      subst (λ (n : ℕ). BaseFault s log who (ShardIndex n at.number b.number)) one (subst (λ (n : ℕ). BaseFault s log who (ShardIndex bad.index n b.number)) two
-      (subst (λ (n : ℕ). BaseFault s log who (ShardIndex bad.index bad.number n)) three bad.fault)) in
-      subst Caused same ((record { index = at.index.number; number = at.number; base = b.number; work = work; base_is = base_is; name_is = refl }, fault), tt)
+      let fault : HasFlaw s log who (ShardIndex at.index.number at.number b.number) flaw =
+      subst (λ (n : ℕ). HasFlaw s log who (ShardIndex n at.number b.number) flaw) one (subst (λ (n : ℕ). HasFlaw s log who (ShardIndex bad.index n b.number) flaw) two
+      (subst (λ (n : ℕ). HasFlaw s log who (ShardIndex bad.index bad.number n) flaw) three bad.fault)) in
+      let based : IsBase (ticket_of s log who) (ShardIndex at.index.number at.number b.number) = record { index = at.index.number; number = at.number; base = b.number; work = work; base_is = base_is; name_is = refl } in
+      subst Caused same (flaw_shows (ShardIndex at.index.number at.number b.number) (names.ShardIndex at b) flaw refl based fault)
 
   -- the shard has failed, whose address isn't steady
   shard_faulty : (shard : H) → 0 < c.shard shard → (s.steady (c.made_for shard).place (c.made_for shard).index (c.made_for shard).number ≡ true → c.shard shard ≡ 0) → FaultyShard s (c.shard shard) (c.made_for shard)
@@ -286,7 +298,19 @@ module _ {S F H T : Type 0} (c : Counts S F H T) (files : Option (List (Bytes ×
   caused at base shard (troubles.Changed first second) cause never work base_is of quiet shown untold is =
       let made : Cause S F H T = record { why = whys.Changed first second; by = shows.Nothing } in
       let same : made ≡ cause = cc in subst Caused same ((two_parts first second shown.0, untold), shown.1)
-  caused at base shard troubles.Base cause never work base_is of quiet shown untold is = base_shows at base cause work base_is shown is
+  caused at base shard (troubles.Base flaw) cause never work base_is of quiet shown untold is = base_shows at base flaw cause work base_is shown is
+
+-- ---- a base that is at fault is there
+
+some_base : (o : Option Id) (n : ℕ) → ◌≡◌ {A = Option ℕ} (Some n) (option_map number_of o) → IsSome o
+some_base None n is = absurd cc
+some_base (Some b) n is = refl
+
+pub based : {S F : Type 0} (stage_faults : S → ℕ) (fetch_faults : F → ℕ) (n : ℕ) (files : Option (List (Bytes × Bytes))) (s : Start) (log : List Moment) (who : ℕ) (base : Option Id) (trouble : Trouble S F) (flaw : Flaw)
+    → (ticket_of s log who).base ≡ option_map number_of base → Shown stage_faults fetch_faults n files s log who trouble → trouble ≡ troubles.Base flaw → IsSome base
+based {S} {F} stage_faults fetch_faults n files s log who base trouble flaw base_is shown is =
+    let bad : BadBase s log who flaw = subst (λ (t : Trouble S F). Shown stage_faults fetch_faults n files s log who t) is shown in
+    some_base base bad.base (sym bad.base_is ∙ base_is)
 
 -- ---- the end
 

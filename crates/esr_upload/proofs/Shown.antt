@@ -18,7 +18,7 @@ shown_any stage_faults fetch_faults n files s log who troubles.Source h = absurd
 shown_any stage_faults fetch_faults n files s log who (troubles.Stage stage) h = h
 shown_any stage_faults fetch_faults n files s log who (troubles.Fetch fetch) h = h
 shown_any stage_faults fetch_faults n files s log who (troubles.Changed first second) h = absurd (some_none [] h.1)
-shown_any stage_faults fetch_faults n files s log who troubles.Base h = h
+shown_any stage_faults fetch_faults n files s log who (troubles.Base flaw) h = h
 
 pub shown_err : {T St F : Type 0} (result : Result T (Trouble St F)) (stage_faults : St → ℕ) (fetch_faults : F → ℕ) (n : ℕ) (files : Option (List (Bytes × Bytes))) (s : Start) (log : List Moment) (who : ℕ)
     → IfErr result (Shown {St = St} {F = F} stage_faults fetch_faults 0 (Some []) s log who) → IfErr result (Shown {St = St} {F = F} stage_faults fetch_faults n files s log who)

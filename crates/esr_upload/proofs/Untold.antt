@@ -30,7 +30,7 @@ no_change stage_faults fetch_faults s log who t troubles.Source h = tt
 no_change stage_faults fetch_faults s log who t (troubles.Stage stage) h = tt
 no_change stage_faults fetch_faults s log who t (troubles.Fetch fetch) h = tt
 no_change stage_faults fetch_faults s log who t (troubles.Changed first second) h = absurd (some_none [] h.1)
-no_change stage_faults fetch_faults s log who t troubles.Base h = tt
+no_change stage_faults fetch_faults s log who t (troubles.Base flaw) h = tt
 
 -- nor does a first reading
 pub read_once : {S F : Type 0} (faults : ℕ) (s : Start) (t : Ticket) (trouble : Trouble S F) → ReadShown faults trouble → IsChangeUntold s t trouble
@@ -39,7 +39,7 @@ read_once faults s t troubles.Source h = tt
 read_once faults s t (troubles.Stage stage) h = tt
 read_once faults s t (troubles.Fetch fetch) h = tt
 read_once faults s t (troubles.Changed first second) h = absurd h
-read_once faults s t troubles.Base h = tt
+read_once faults s t (troubles.Base flaw) h = tt
 
 untold_at : (s : Start) (told : Option (List (Bytes × Bytes))) (old new : Ticket) (index number : ℕ) → Worked old new → old.work ≡ Shard index number
     → (s.known old.place old.name number ≡ true → told ≡ Some (s.told old.place old.name number)) → told ≡ None → IsUntold s new
@@ -67,4 +67,4 @@ change_untold stage_faults fetch_faults n told listed s old new who index number
 change_untold stage_faults fetch_faults n told listed s old new who index number uuid base ps first (troubles.Fetch fetch) drawn went h = tt
 change_untold stage_faults fetch_faults n told listed s old new who index number uuid base ps first (troubles.Changed one two) drawn went h =
     untold_at s told (ticket_of s old who) (ticket_of s new who) index number went.worked drawn.at.work drawn.tells h.1
-change_untold stage_faults fetch_faults n told listed s old new who index number uuid base ps first troubles.Base drawn went h = tt
+change_untold stage_faults fetch_faults n told listed s old new who index number uuid base ps first (troubles.Base flaw) drawn went h = tt

@@ -33,7 +33,7 @@ IsOfStart faults troubles.Source = 0 < faults
 IsOfStart faults (troubles.Stage stage) = ⊥
 IsOfStart faults (troubles.Fetch fetch) = ⊥
 IsOfStart faults (troubles.Changed first second) = ⊥
-IsOfStart faults troubles.Base = ⊥
+IsOfStart faults (troubles.Base flaw) = ⊥
 
 -- a blob of the name may be stored, whatever its bytes
 pub record CanStore (s : Start) (t : Ticket) (name : CodeName) : Type 0 where

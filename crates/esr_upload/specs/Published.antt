@@ -65,7 +65,7 @@ ReadShown faults troubles.Source = 0 < faults
 ReadShown faults (troubles.Stage stage) = ⊥
 ReadShown faults (troubles.Fetch fetch) = ⊥
 ReadShown faults (troubles.Changed first second) = ⊥
-ReadShown faults troubles.Base = ⊥
+ReadShown faults (troubles.Base flaw) = ⊥
 
 -- the base was read, without a list of the snapshot; it is empty where there is none
 pub record HasIndex (s : Start) (index number : ℕ) (uuid : Id) (old new : Ticket) (base : IndexValue) : Type 0 where

@@ -41,7 +41,9 @@ abbrev pub IsChangeOfUntold : Option (List (Bytes × Bytes)) → Why → Type 0
 IsChangeOfUntold files whys.Depot = Unit {0}
 IsChangeOfUntold files whys.Source = Unit {0}
 IsChangeOfUntold files (whys.Changed first second) = files ≡ None
-IsChangeOfUntold files (whys.Damaged name) = Unit {0}
+IsChangeOfUntold files (whys.Absent name) = Unit {0}
+IsChangeOfUntold files (whys.Unreadable name reason) = Unit {0}
+IsChangeOfUntold files (whys.Ahead name) = Unit {0}
 IsChangeOfUntold files (whys.NameTaken name) = Unit {0}
 IsChangeOfUntold files (whys.IdsSpent next) = Unit {0}
 IsChangeOfUntold files (whys.GenerationsSpent number) = Unit {0}

@@ -2,8 +2,10 @@
 ghost use Rattle.std.specs.Prelude.{◌≡◌, ◌<◌, None, Some, IfOk, IfErr, option_map, []};
 ghost use Rattle.esr_model.specs.Names.{ShardIndex as IndexName};
 ghost use Rattle.esr_core.specs.After.{fetching};
+ghost use Rattle.esr_core.specs.Entry.{WasFetched};
 ghost use Rattle.esr_formats.specs.Ids.{number_of};
 ghost use Rattle.esr_formats.specs.Shards.{shard_index_of};
+ghost use Rattle.esr_desk.specs.Damage.{HadFetch};
 ghost use Rattle.esr_desk.specs.Start.{ticket_of, told_bytes};
 ghost use Rattle.esr_desk.specs.Once.{HasMadeNone};
 ghost use Rattle.esr_desk.specs.Told.{TellsAll};
@@ -13,7 +15,7 @@ ghost use Rattle.esr_upload.specs.Trouble.{Shown};
 ghost use Rattle.esr_upload.specs.Worked.{Went};
 
 use crate::law::refusals;
-use crate::trouble::Trouble;
+use crate::trouble::{Flaw, Trouble};
 use esr_depot::CallError;
 use esr_desk::{Desk, StepRefusal};
 use esr_fetch::read_whole;
@@ -38,6 +40,7 @@ fn fetch_bytes<Q: Desk>(
     requires few { shard.number < 1024 }
     requires new { HasMadeNone (Q.seen desk.old) ticket }
     ensures fetched { IfOk result (λ b. ticket_of Q.start (Q.seen desk.new) ticket ≡ fetching (IndexName shard.index.number shard.number base.number) (told_bytes Q.start b) (ticket_of Q.start (Q.seen desk.old) ticket)) }
+    ensures found { IfOk result (λ b. HadFetch (Q.seen desk.new) ticket (IndexName shard.index.number shard.number base.number) WasFetched) }
     ensures tells { IfOk result (λ b. TellsAll Q.start (Q.seen desk.new) ticket) }
     ensures trouble { IfErr result (Shown Q.Stage.faults Q.Fetch.faults 0 (Some []) Q.start (Q.seen desk.new) ticket) }
     ensures went { Went Q.start (Q.seen desk.old) (Q.seen desk.new) ticket }
@@ -46,7 +49,10 @@ fn fetch_bytes<Q: Desk>(
     refusals();
     let mut fetch = match desk.fetch(alloc, ticket, BlobName::ShardIndex(shard, base))? {
         Some(fetch) => fetch,
-        None => return Err(Trouble::Base),
+        None => {
+            let flaw = Flaw::Absent;
+            return Err(Trouble::Base { flaw });
+        }
     };
     match read_whole(alloc, &mut fetch) {
         Ok(bytes) => Ok(bytes),
@@ -78,7 +84,10 @@ fn fetch_index<Q: Desk>(
     match read_shard_index(alloc, bytes.as_slice()) {
         Ok(index) => Ok(index),
         Err(ReadRefusal::Memory) => Err(Trouble::Step(StepRefusal::Memory)),
-        Err(ReadRefusal::Damaged { .. }) => Err(Trouble::Base),
+        Err(ReadRefusal::Damaged { why: reason }) => {
+            let flaw = Flaw::Unreadable { reason };
+            Err(Trouble::Base { flaw })
+        }
     }
 }
 

@@ -1,9 +1,10 @@
 //! Why the unit of a shard failed.
 ghost use Rattle.std.specs.Prelude.{◌≡◌, IsSome};
-ghost use Rattle.esr_upload.specs.Cause.{cause_by};
+ghost use Rattle.esr_upload.specs.Cause.{damaged_by, cause_by};
+ghost use Rattle.esr_upload.specs.declared.trouble.Flaw.{Flaw as BaseFlaw};
 ghost use Rattle.esr_upload.specs.declared.trouble.Trouble.TheVariants.{Base};
 
-use crate::trouble::Trouble;
+use crate::trouble::{Flaw, Trouble};
 use esr_desk::{By, EntryRefusal, FailedObject, StepRefusal, Why};
 use esr_names::{BlobName, Id, ShardId};
 
@@ -23,7 +24,7 @@ pub fn cause_of<S: Drop, F: Drop, H: Drop, T: Drop>(
     shard: H,
     trouble: Trouble<S, F>,
 ) -> Result<Cause<S, F, H, T>, StepRefusal>
-    requires { trouble ≡ Base → IsSome base }
+    requires { (flaw : BaseFlaw) → trouble ≡ Base flaw → IsSome base }
     ensures { result ≡ cause_by at base shard trouble }
 {
     let (why, by) = match trouble {
@@ -48,13 +49,37 @@ pub fn cause_of<S: Drop, F: Drop, H: Drop, T: Drop>(
             (Why::Depot, By::Object { object })
         }
         Trouble::Changed { first, second } => (Why::Changed { first, second }, By::Nothing),
-        Trouble::Base => {
-            let Some(base) = base else {
-                unreachable!();
-            };
-            let name = BlobName::ShardIndex(at, base);
-            (Why::Damaged { name }, By::Nothing)
-        }
+        Trouble::Base { flaw } => return base_cause(at, base, flaw),
     };
     Ok(Cause { why, by })
+}
+
+/// Why a base with this flaw ends the ticket.
+fn base_cause<S: Drop, F: Drop, H: Drop, T: Drop>(
+    at: ShardId,
+    base: Option<Id>,
+    flaw: Flaw,
+) -> Result<Cause<S, F, H, T>, StepRefusal>
+    requires { IsSome base }
+    ensures { result ≡ damaged_by at base flaw }
+{
+    let Some(base) = base else {
+        unreachable!();
+    };
+    let name = BlobName::ShardIndex(at, base);
+    let by = By::Nothing;
+    match flaw {
+        Flaw::Absent => {
+            let why = Why::Absent { name };
+            Ok(Cause { why, by })
+        }
+        Flaw::Unreadable { reason } => {
+            let why = Why::Unreadable { name, reason };
+            Ok(Cause { why, by })
+        }
+        Flaw::Ahead => {
+            let why = Why::Ahead { name };
+            Ok(Cause { why, by })
+        }
+    }
 }

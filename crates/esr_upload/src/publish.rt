@@ -15,12 +15,13 @@ ghost use Rattle.esr_desk.specs.Taken.{after_writes};
 ghost use Rattle.esr_upload.specs.Published.{snap_blob, index_blob, last_blobs};
 ghost use Rattle.esr_upload.specs.Refused.{HasDone};
 ghost use Rattle.esr_upload.specs.Stored.{IsAt, AreBelow};
+ghost use Rattle.esr_upload.specs.declared.trouble.Flaw.TheVariants.{Ahead};
 ghost use Rattle.esr_upload.specs.Trouble.{BadBase, Shown};
 ghost use Rattle.esr_upload.specs.Worked.{Went};
 
 use crate::law::refusals;
 use crate::put::put;
-use crate::trouble::Trouble;
+use crate::trouble::{Flaw, Trouble};
 use esr_desk::Desk;
 use esr_formats::{write_shard_index, write_shard_snap};
 use esr_names::{BlobName, Id, ShardId};
@@ -137,7 +138,7 @@ pub fn finish<Q: Desk>(
     requires uuid { (ticket_of Q.start (Q.seen desk.old) ticket).uuid ≡ uuid.number }
     requires drew { Drew (ticket_of Q.start (Q.seen desk.old) ticket) outcome.now.generation.number }
     requires files { AreBelow (ticket_of Q.start (Q.seen desk.old) ticket) outcome.now.generation.number }
-    requires ahead { are_snap_files [] entries ≡ false → BadBase Q.start (Q.seen desk.old) ticket }
+    requires ahead { are_snap_files [] entries ≡ false → BadBase Q.start (Q.seen desk.old) ticket Ahead }
     requires ready { ReadsBack shard_snap_kind (shard_snap_of (record { files = entries; uuid = uuid })) → ReadsBack shard_index_kind (shard_index_of (with_snap_of base.now (record { files = entries; uuid = uuid })))
         → CanEnd Q.start (after_writes Q.start (last_blobs outcome.now.shard outcome.now.generation (record { files = entries; uuid = uuid }) (with_snap_of base.now (record { files = entries; uuid = uuid }))) (ticket_of Q.start (Q.seen desk.old) ticket)) (result_of outcome.now) }
     requires tells { TellsAll Q.start (Q.seen desk.old) ticket }
@@ -148,7 +149,8 @@ pub fn finish<Q: Desk>(
     ensures holds { Q.holds desk.new ticket }
 {
     let Some(snap) = ShardSnap::new(entries, uuid) else {
-        return Err(Trouble::Base);
+        let flaw = Flaw::Ahead;
+        return Err(Trouble::Base { flaw });
     };
     let index = base.with_snap(alloc, &snap)?;
     publish(alloc, desk, ticket, &snap, &index, outcome)

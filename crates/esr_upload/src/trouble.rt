@@ -5,7 +5,19 @@ ghost use Rattle.esr_upload.specs.declared.trouble.Trouble.TheVariants.{Step};
 
 use esr_desk::StepRefusal;
 use esr_hash::Print;
+use esr_json::Reason;
 use std::alloc::{AllocError, AllocFailed};
+
+/// What is wrong with the base of a shard.
+#[derive(Clone, Copy)]
+pub enum Flaw {
+    /// It is absent.
+    Absent,
+    /// It doesn't read, for this reason.
+    Unreadable { reason: Reason },
+    /// It reads, but has what it can't have yet.
+    Ahead,
+}
 
 /// What ends the unit of a shard before its time. `S` is the type of stages, `F` that of fetches.
 #[derive(Drop)]
@@ -20,8 +32,8 @@ pub enum Trouble<S, F> {
     Fetch { fetch: F },
     /// A file had these two prints, one after the other.
     Changed { first: Print, second: Print },
-    /// The base is absent, doesn't read, or has what it can't have.
-    Base,
+    /// The base has this flaw.
+    Base { flaw: Flaw },
 }
 
 impl<S: Drop, F: Drop> From<StepRefusal> for Trouble<S, F> {

@@ -22,7 +22,7 @@ use crate::files::{count_new, store_files, sum_of};
 use crate::law::refusals;
 use crate::publish::finish;
 use crate::survey::survey;
-use crate::trouble::Trouble;
+use crate::trouble::{Flaw, Trouble};
 use esr_depot::CallError;
 use esr_desk::{Desk, StepRefusal, Unit, UnitRefusal};
 use esr_names::{Id, ShardId};
@@ -60,7 +60,10 @@ fn base_of<Q: Desk>(
     }
     let index = read_base(alloc, desk, ticket, at, base)?;
     match index.list(uuid) {
-        Some(_) => Err(Trouble::Base),
+        Some(_) => {
+            let flaw = Flaw::Ahead;
+            Err(Trouble::Base { flaw })
+        }
         None => Ok(index),
     }
 }
@@ -182,7 +185,7 @@ fn work<Q: Desk, S: Shard, G: Gate>(
 }
 
 /// Stores the files of a shard that its base doesn't have, the snapshot of the shard and its next index, and ends the ticket.
-/// Where an object failed, a file changed, the base is at fault, a name is taken or too few ids are left, the ticket ends as
+/// Where an object failed, a file changed, the base is absent, doesn't read or is ahead, a name is taken or too few ids are left, the ticket ends as
 /// failed, and the object is handed over.
 pub fn run_unit<Q: Desk<Shard = S::Shard>, S: Sources, G: Gate>(
     alloc: Global,

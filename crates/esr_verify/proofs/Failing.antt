@@ -1,7 +1,7 @@
 -- How a verification ends that went wrong.
 use Rattle.std.proofs.Common.{◌≡◌, ℕ, true, List, [], ◌∷◌, ◌++◌, Result, Ok, Err, IfOk, inl, inr, refl, sym, ap, ◌∙◌, subst}
 use Rattle.esr_core.specs.World.{Caller}
-use Rattle.esr_core.specs.Entry.{Why, OfDepot, OfSource, OfChange, OfDamage, OfTaken, OfIdsSpent, OfGenerationsSpent, OfTarget, OfPrint, OfDisagreement, Step, ReadStep, DrawTest, ReadFails, HasEnded, Refused, DeposedAt, IdsSpent, NameTaken, Moment}
+use Rattle.esr_core.specs.Entry.{BadId, Why, OfDepot, OfSource, OfChange, OfAbsence, OfUnreadable, OfAhead, OfTaken, OfIdsSpent, OfGenerationsSpent, OfTarget, OfPrint, OfDisagreement, Step, ReadStep, DrawTest, ReadFails, HasEnded, Refused, DeposedAt, IdsSpent, NameTaken, Moment}
 use Rattle.esr_desk.specs.declared.entry.Why.{Why as CodeWhy}
 use Rattle.esr_desk.specs.declared.entry.Why.TheVariants as whys
 use Rattle.esr_desk.specs.declared.refusal.StepRefusal.{StepRefusal}
@@ -20,7 +20,7 @@ use Rattle.esr_desk.specs.Outcome.{Stepped, Refusing, Spends}
 use Rattle.esr_desk.specs.Shown.{NeverFailed, ReadShown, StepShown}
 use Rattle.esr_desk.specs.Unquiet.{unquiet}
 use Rattle.esr_checking.specs.Caller.{caller_of, drawn_by}
-use Rattle.esr_checking.specs.Shown.{Counts, HadReply, HadNoId, DepotShown, IsDamaged, IsMisprinted, IsShown}
+use Rattle.esr_checking.specs.Shown.{Counts, HadReply, HadNoId, DepotShown, IsAbsent, IsOther, IsMisprinted, IsShown}
 use Rattle.esr_verify.specs.declared.cause.Cause.{Cause}
 use Rattle.esr_verify.specs.declared.trouble.Trouble.{Trouble}
 use Rattle.esr_verify.specs.declared.trouble.Trouble.TheVariants as troubles
@@ -41,7 +41,9 @@ found_shown : (H T : Type 0) {S F : Type 0} (c : Counts S F) (s : Start) (log : 
 found_shown H T c s log whys.Depot h = h
 found_shown H T c s log whys.Source h = h
 found_shown H T c s log (whys.Changed first second) h = h
-found_shown H T c s log (whys.Damaged name) h = h
+found_shown H T c s log (whys.Absent name) h = h
+found_shown H T c s log (whys.Unreadable name reason) h = h
+found_shown H T c s log (whys.Ahead name) h = h
 found_shown H T c s log (whys.NameTaken name) h = h
 found_shown H T c s log (whys.IdsSpent next) h = h
 found_shown H T c s log (whys.GenerationsSpent number) h = h
@@ -216,7 +218,8 @@ module _ {S F H T : Type 0} (c : Counts S F) (s : Start) (log : List Moment) whe
 
   plain_shown : (why : Why) (b : By S F H T) → IsShown c s log (caller_of s log) why b → IsShown c s log (caller_of s log) why (plain b)
   plain_shown OfDepot b h = plain_depot b h
-  plain_shown (OfDamage name) b h = plain_read b (IsDamaged s log (caller_of s log) name) h
+  plain_shown (OfAbsence name) b h = plain_read b (IsAbsent log (caller_of s log) name) h
+  plain_shown (OfUnreadable name reason) b h = plain_read b (IsOther s (caller_of s log) name × (reason ≡ BadId)) h
   plain_shown (OfPrint name stated_len stated_digest found_len found_digest) b h = plain_read b (IsMisprinted s (caller_of s log) name stated_len stated_digest found_len found_digest) h
   plain_shown (OfTaken name) b h = plain_step b ((step : Step) × HadReply log (caller_of s log) step (Refused (NameTaken name))) h
   plain_shown OfSource b h = absurd h
@@ -224,6 +227,7 @@ module _ {S F H T : Type 0} (c : Counts S F) (s : Start) (log : List Moment) whe
   plain_shown (OfIdsSpent next) b h = plain_step b (HadNoId log (caller_of s log) next) h
   plain_shown (OfGenerationsSpent pending) b h = absurd h
   plain_shown OfTarget b h = absurd h
+  plain_shown (OfAhead name) b h = absurd h
   plain_shown (OfDisagreement name other) b h = absurd h
 
 -- the last entry tells it

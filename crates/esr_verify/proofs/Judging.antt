@@ -19,7 +19,7 @@ use Rattle.esr_desk.specs.declared.refusal.StepRefusal.TheVariants.{Memory}
 use Rattle.esr_desk.specs.Start.{Start, told_bytes}
 use Rattle.esr_desk.specs.Outcome.{Stepped, fetch_reply}
 use Rattle.esr_checking.specs.Caller.{caller_of, fetched_by}
-use Rattle.esr_checking.specs.Shown.{IsAbsent, IsOther, IsDamaged, IsMisprinted}
+use Rattle.esr_checking.specs.Shown.{IsAbsent, IsOther, IsMisprinted}
 use Rattle.esr_verify.specs.Went.{Drew}
 use Rattle.esr_verify.specs.Done.{Fetched}
 use Rattle.esr_verify.specs.Trouble.{IsStepRefusal, IsFound, HasOtherPrint, IsNoText, Judged, Shown}
@@ -58,8 +58,8 @@ absent_so s old new id name alone drew committed unremoved step own = record {
 }
 
 pub absent : {F : Type 0} (left : F → Option Bytes) (o : Option F) (s : Start) (old new : List Moment) (id : ℕ) (name : BlobName) → o ≡ None → s.alone ≡ true → Drew s old id → Has (caller_of s old).committed name → (caller_of s old).removed ≡ []
-    → Stepped s old new 0 (ReadStep (ReadBlob name)) (fetch_reply o) → caller_of s new ≡ fetched_by left name o (caller_of s old) → IsDamaged s new (caller_of s new) name
-absent left None s old new id name is alone drew committed unremoved step own = inl (absent_so s old new id name alone drew committed unremoved step own)
+    → Stepped s old new 0 (ReadStep (ReadBlob name)) (fetch_reply o) → caller_of s new ≡ fetched_by left name o (caller_of s old) → IsAbsent new (caller_of s new) name
+absent left None s old new id name is alone drew committed unremoved step own = absent_so s old new id name alone drew committed unremoved step own
 absent left (Some f) s old new id name is alone drew committed unremoved step own = absurd cc
 
 -- ---- one is there, and read to its end
@@ -131,9 +131,7 @@ wanting s log refusal is = subst (λ (r : StepRefusal). IsStepRefusal s log r) (
 judged_why : (s : Start) (old new : List Moment) (id : ℕ) (name : CodeName) (bytes : Bytes) → Drew s new id → Has (caller_of s old).committed (name_of name) → Fetched s old new (name_of name) bytes
     → (why : Why) → HasOtherPrint id name bytes why ⊎ IsNoText id name bytes why → IsFound s new why
 judged_why s old new id name bytes drew committed got why (inl h) = subst (λ (w : Why). IsFound s new w) (sym h.0) (misprinted s old new id (name_of name) bytes drew committed got h.1)
-judged_why s old new id name bytes drew committed got why (inr h) =
-    let found : IsDamaged s new (caller_of s new) (name_of name) = inr (other s old new id (name_of name) bytes drew committed got h.1 h.2) in
-    subst (λ (w : Why). IsFound s new w) (sym h.0) found
+judged_why s old new id name bytes drew committed got why (inr h) = subst (λ (w : Why). IsFound s new w) (sym h.0) (other s old new id (name_of name) bytes drew committed got h.1 h.2, refl)
 
 judged_one : {S F : Type 0} (stage_faults : S → ℕ) (fetch_faults : F → ℕ) (s : Start) (old new : List Moment) (id : ℕ) (name : CodeName) (bytes : Bytes) → Drew s new id → Has (caller_of s old).committed (name_of name) → Fetched s old new (name_of name) bytes
     → (trouble : Trouble S F) → Judged id name bytes trouble → Shown stage_faults fetch_faults s new trouble

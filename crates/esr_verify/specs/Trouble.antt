@@ -1,11 +1,13 @@
 -- What shows a trouble.
 use Rattle.std.specs.Prelude.{◌≡◌, ◌⊎◌, ◌≤◌, ◌^◌, ℕ, List, length}
 use Rattle.esr_model.specs.Values.{Bytes}
-use Rattle.esr_core.specs.Entry.{Step, Refused, NameTaken, Moment}
+use Rattle.esr_core.specs.Entry.{BadId, Step, Refused, NameTaken, Moment}
 use Rattle.esr_hash.specs.Prints.{print_of}
 use Rattle.esr_names.specs.IdText.{id_text}
 use Rattle.esr_names.specs.declared.blob.BlobName.{BlobName}
 use Rattle.esr_formats.specs.Names.{name_of}
+use Rattle.esr_formats.specs.Reasons.{reason_of}
+use Rattle.esr_json.specs.declared.refusal.Reason.TheVariants as reasons
 use Rattle.esr_desk.specs.declared.entry.Why.{Why}
 use Rattle.esr_desk.specs.declared.entry.Why.TheVariants as whys
 use Rattle.esr_desk.specs.declared.refusal.EntryRefusal.TheVariants as refusals
@@ -15,7 +17,7 @@ use Rattle.esr_desk.specs.Start.{Start}
 use Rattle.esr_desk.specs.Outcome.{Spends}
 use Rattle.esr_desk.specs.Shown.{Faulty}
 use Rattle.esr_checking.specs.Caller.{caller_of}
-use Rattle.esr_checking.specs.Shown.{HadReply, HadFault, IsDamaged, IsMisprinted}
+use Rattle.esr_checking.specs.Shown.{HadReply, HadFault, IsAbsent, IsOther, IsMisprinted}
 use Rattle.esr_verify.specs.declared.trouble.Trouble.{Trouble}
 use Rattle.esr_verify.specs.declared.trouble.Trouble.TheVariants as troubles
 
@@ -30,7 +32,8 @@ IsStepRefusal s log (steps.Refused refusal) = ⊥
 
 -- a test blob is absent, or holds something else than the text of its id
 abbrev pub IsFound : Start → List Moment → Why → Type 0
-IsFound s log (whys.Damaged name) = IsDamaged s log (caller_of s log) (name_of name)
+IsFound s log (whys.Absent name) = IsAbsent log (caller_of s log) (name_of name)
+IsFound s log (whys.Unreadable name reason) = IsOther s (caller_of s log) (name_of name) × (reason_of reason ≡ BadId)
 IsFound s log (whys.Misprinted name stated found) = IsMisprinted s (caller_of s log) (name_of name) stated.len stated.sha256 found.len found.sha256
 IsFound s log why = ⊥
 
@@ -47,7 +50,7 @@ HasOtherPrint id name bytes why = (why ≡ whys.Misprinted name (print_of (id_te
 
 -- they aren't that text, though they have its print, or are too many to have one
 abbrev pub IsNoText : ℕ → BlobName → Bytes → Why → Type 0
-IsNoText id name bytes why = (why ≡ whys.Damaged name) × (bytes ≡ id_text id → ⊥) × ((2 ^ 61 ≤ length bytes) ⊎ (print_of (id_text id) ≡ print_of bytes))
+IsNoText id name bytes why = (why ≡ whys.Unreadable name reasons.BadId) × (bytes ≡ id_text id → ⊥) × ((2 ^ 61 ≤ length bytes) ⊎ (print_of (id_text id) ≡ print_of bytes))
 
 -- what is found where the bytes aren't the text of the id
 abbrev pub Judged : {S F : Type 0} → ℕ → BlobName → Bytes → Trouble S F → Type 0

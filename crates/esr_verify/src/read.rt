@@ -19,6 +19,7 @@ use esr_depot::CallError;
 use esr_desk::{Desk, StepRefusal, Why};
 use esr_fetch::read_whole;
 use esr_hash::{Hasher, Print};
+use esr_json::Reason;
 use esr_names::{BlobName, Id, id_text};
 use esr_seq::{Bytes, Seq};
 use std::alloc::Global;
@@ -44,7 +45,7 @@ fn fetch_bytes<Q: VerifyDesk>(
     let mut blob = match desk.fetch_test(alloc, name)? {
         Some(blob) => blob,
         None => {
-            let why = Why::Damaged { name };
+            let why = Why::Absent { name };
             return Err(Trouble::Found { why });
         }
     };
@@ -66,7 +67,7 @@ fn print_bytes(bytes: &[u8]) -> Print
 }
 
 /// Whether the bytes that were read of a test blob are the text of the id. Other bytes are told with their print; where that is
-/// the text's own, or they are too many to have one, the blob is told as damaged.
+/// the text's own, or they are too many to have one, the blob is told as no text of an id.
 fn judge<S: Drop, F: Drop>(id: Id, name: BlobName, bytes: &[u8]) -> Result<(), Trouble<S, F>>
     ensures same { OnOk result (bytes.now ≡ id_text id.number) }
     ensures other { IfErr result (Judged id.number name bytes.now) }
@@ -75,14 +76,15 @@ fn judge<S: Drop, F: Drop>(id: Id, name: BlobName, bytes: &[u8]) -> Result<(), T
     if bytes == text.as_slice() {
         return Ok(());
     }
+    let reason = Reason::BadId;
     if bytes.len() >= 1 << 61 {
-        let why = Why::Damaged { name };
+        let why = Why::Unreadable { name, reason };
         return Err(Trouble::Found { why });
     }
     let stated = print_bytes(&text);
     let found = print_bytes(bytes);
     if stated == found {
-        let why = Why::Damaged { name };
+        let why = Why::Unreadable { name, reason };
         return Err(Trouble::Found { why });
     }
     let why = Why::Misprinted {

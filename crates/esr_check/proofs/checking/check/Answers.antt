@@ -11,7 +11,7 @@ use Rattle.esr_check.specs.declared.checking.Checked.{Checked}
 use Rattle.esr_check.specs.Names.{IsAny}
 use Rattle.esr_check.proofs.Living.{look_safe, look_same_safe}
 use Rattle.esr_check.proofs.Counting.{look_so_far, look_unfetched}
-use Rattle.esr_check.proofs.Beginning.{of_check_on, went_of_check, of_check_grew, outcome_of_check, begun_on, asks_begun, asks_look, unchecked_on, went_unchecked, outcome_unchecked, refusing_unchecked}
+use Rattle.esr_check.proofs.Beginning.{since_look, of_check_on, went_of_check, of_check_grew, outcome_of_check, begun_on, asks_begun, asks_look, unchecked_on, went_unchecked, outcome_unchecked, refusing_unchecked}
 use Rattle.esr_check.proofs.Failing.{may_fail}
 use Rattle.esr_check.proofs.Closing.{look_as, look_count, went_alive, went_open, can_end, trouble_ends, end_stops, look_stops, has_checked}
 use Rattle.esr_check.proofs.checking.check.Goals as goal
@@ -58,7 +58,8 @@ fail-requires-clause-may g c κs within =
     let first = g.Q.Desk.seen c.look.new.self in
     let mid = g.Q.Desk.seen c.read_all.new.desk in
     may_fail g.row.Q-Shard.Denot g.row.Q-Target.Denot (record { stage = g.Q.Stage.Counted.faults; fetch = g.Q.Fetch.Counted.faults }) s mid c.in-Err-read_all.trouble c.never_fails.ensures
-    (went_alive s old first mid (map root_snap_of c.in-Ok.look.listing) (count_of c.in-Ok.look.safe) c.requires.alone c.in-Ok.ensures.step c.read_all.ensures.went) (went_open s old first mid (map root_snap_of c.in-Ok.look.listing) (count_of c.in-Ok.look.safe) c.requires.alone c.in-Ok.ensures.step c.read_all.ensures.went) c.in-Err-read_all.ensures.trouble
+    (went_alive s old first mid (map root_snap_of c.in-Ok.look.listing) (count_of c.in-Ok.look.safe) c.requires.alone c.in-Ok.ensures.step c.read_all.ensures.went) (went_open s old first mid (map root_snap_of c.in-Ok.look.listing) (count_of c.in-Ok.look.safe) c.requires.alone c.in-Ok.ensures.step c.read_all.ensures.went)
+    (since_look s old first mid (Looked (map root_snap_of c.in-Ok.look.listing) (count_of c.in-Ok.look.safe)) IsAny c.requires.alone c.in-Ok.ensures.step c.read_all.ensures.went) c.in-Err-read_all.ensures.trouble
 
 pub returns-in-Err-read_all-clause-refused : goal.returns-in-Err-read_all-clause-refused
 returns-in-Err-read_all-clause-refused g c =

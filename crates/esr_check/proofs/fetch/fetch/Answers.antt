@@ -1,4 +1,4 @@
-use Rattle.std.proofs.Common.{◌≡◌, ◌+◌, ◌<◌, ◌^◌, inl, true, arith}
+use Rattle.std.proofs.Common.{◌≡◌, ◌+◌, ◌<◌, ◌^◌, true, arith}
 use Rattle.std.specs.Prelude.{IsTrue}
 use Rattle.esr_model.specs.Values.{Bytes}
 use Rattle.esr_formats.specs.Names.{name_of}
@@ -76,7 +76,7 @@ returns-in-Some-clause-went g c =
 
 pub returns-in-None-clause-trouble : goal.returns-in-None-clause-trouble
 returns-in-None-clause-trouble g c =
-    inl (absent c.in_ok-fetch.field-0 g.Q.Desk.start (g.Q.Desk.seen c.args.desk.now) (g.Q.Desk.seen c.fetch_reached.new.self) c.args.count.now (name_of c.args.name) c.in-None.is c.requires.alone c.requires.so_far c.in_ok-fetch.ensures.step)
+    absent c.in_ok-fetch.field-0 g.Q.Desk.start (g.Q.Desk.seen c.args.desk.now) (g.Q.Desk.seen c.fetch_reached.new.self) c.args.count.now (name_of c.args.name) c.in-None.is c.requires.alone c.requires.so_far c.in_ok-fetch.ensures.step
 
 pub returns-in-None-clause-went : goal.returns-in-None-clause-went
 returns-in-None-clause-went g c =

@@ -22,4 +22,4 @@ returns-in-Ok-clause-read g c =
 
 pub returns-clause-trouble : goal.returns-clause-trouble
 returns-clause-trouble g c =
-    snap_unread g.Q.Fetch.Counted.faults g.Q.Desk.start (g.Q.Desk.seen c.fetch_whole.new.desk) c.in_ok-bytes.bytes c.as_slice.result.now c.in-Err.refusal c.unread.result c.as_slice.ensures c.args.at c.args.list.now.uuid c.unread.ensures c.in_ok-bytes.ensures.fetched c.in-Err.ensures.read
+    snap_unread g.Q.Fetch.Counted.faults g.Q.Desk.start (g.Q.Desk.seen c.fetch_whole.new.desk) c.in_ok-bytes.bytes c.as_slice.result.now c.in-Err.refusal c.unread.result c.as_slice.ensures c.args.at c.args.list.now.uuid c.unread.ensures c.in_ok-bytes.ensures.fetched c.in-Err.ensures.reason

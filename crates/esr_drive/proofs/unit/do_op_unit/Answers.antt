@@ -1,5 +1,6 @@
 use Rattle.esr_upload.specs.Refused.{told_of}
-use Rattle.esr_drive.proofs.Halting.{upload_stopped, finish_stopped}
+use Rattle.esr_drive.proofs.Halting.{upload_stopped, finish_stopped, delete_stopped}
+use Rattle.esr_drive.proofs.Taken.{deleted_ended}
 use Rattle.esr_drive.proofs.unit.do_op_unit.Goals as goal
 
 pub returns-in-Shard-clause-stopped : goal.returns-in-Shard-clause-stopped
@@ -15,3 +16,15 @@ returns-in-Finalize-clause-stopped g c =
     let seen = g.Q.Desk.seen in
     let run = c.run_unit-in-Finalize in
     finish_stopped g.Q.Desk.start g.Q.Stage.Counted.faults (seen c.args.desk.now) (seen run.new.desk) c.args.unit.now.ready.ticket run.result run.ensures.refused
+
+pub returns-in-Delete-clause-stopped : goal.returns-in-Delete-clause-stopped
+returns-in-Delete-clause-stopped g c =
+    let seen = g.Q.Desk.seen in
+    let run = c.run_unit-in-Delete in
+    delete_stopped g.Q.Desk.start g.Q.Stage.Counted.faults g.Q.Fetch.Counted.faults (seen c.args.desk.now) (seen run.new.desk) c.args.unit.now.ready.ticket run.result run.ensures.refused
+
+pub returns-in-Delete-clause-ended : goal.returns-in-Delete-clause-ended
+returns-in-Delete-clause-ended g c =
+    let seen = g.Q.Desk.seen in
+    let run = c.run_unit-in-Delete in
+    deleted_ended g.Q.Desk.start g.Q.Stage.Counted.faults g.Q.Fetch.Counted.faults (seen c.args.desk.now) (seen run.new.desk) c.args.unit.now.ready.ticket run.result run.ensures.ok run.ensures.refused

@@ -26,7 +26,7 @@ put-requires-clause-may g c κs within =
     let t = ticket_of s (g.Q.Desk.seen c.args.desk.now) c.args.ticket in
     let blob = index_blob (formats_of s) c.args.uuid.number (ref_of_code c.args.index.now) in
     let is = index_blob_is s c.args.index.now c.args.uuid.number c.as_slice.result.now (c.as_slice.ensures ∙ c.in_ok-text.ensures) in
-    subst (λ (b : BlobName × Bytes). CanCommit s t b.0 b.1) (sym is) (may_commit s t blob c.requires.may (λ same. cc) (c.args.uuid.number, inr (inr (c.args.index.now.id.number, refl))))
+    (c.as_slice.result.now, refl, subst (λ (b : BlobName × Bytes). CanCommit s t b.0 b.1) (sym is) (may_commit s t blob c.requires.may (λ same. cc) (c.args.uuid.number, inr (inr (c.args.index.now.id.number, refl)))))
 
 pub returns-clause-ok : goal.returns-clause-ok
 returns-clause-ok g c =

@@ -28,7 +28,7 @@ put-requires-clause-may g c κs within =
     let t = ticket_of s (g.Q.Desk.seen c.args.desk.now) c.args.ticket in
     let blob = info_blob (formats_of s) (info_of_code c.args.info.now) in
     let is : ◌≡◌ {A = BlobName × Bytes} (Snap c.info.inside.uuid.number, c.as_slice.result.now) blob = info_blob_is s c.args.info.now c.info.inside.uuid c.as_slice.result.now (ap (λ (i : Info). i.uuid) c.info.view_is) (c.as_slice.ensures ∙ c.in_ok-text.ensures.text) in
-    subst (λ (b : BlobName × Bytes). CanCommit s t b.0 b.1) (sym is) (may_commit s t blob c.requires.may (λ same. cc) (c.args.info.now.uuid.number, inl refl))
+    (c.as_slice.result.now, refl, subst (λ (b : BlobName × Bytes). CanCommit s t b.0 b.1) (sym is) (may_commit s t blob c.requires.may (λ same. cc) (c.args.info.now.uuid.number, inl refl)))
 
 pub returns-clause-ok : goal.returns-clause-ok
 returns-clause-ok g c =

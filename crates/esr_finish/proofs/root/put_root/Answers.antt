@@ -1,4 +1,4 @@
-use Rattle.std.proofs.Common.{[], ◌∷◌, ◌∙◌, subst}
+use Rattle.std.proofs.Common.{[], ◌∷◌, refl, ◌∙◌, subst}
 use Rattle.esr_core.specs.World.{Ticket}
 use Rattle.esr_model.specs.Names.{Root}
 use Rattle.esr_model.specs.Values.{Bytes}
@@ -25,8 +25,10 @@ put-requires-clause-may g c κs within =
     let s = g.Q.Desk.start in
     let root = root_of c.args.root.now in
     let n = c.in_ok-generation.generation in
+    let can =
     root_commits s (ticket_of s (g.Q.Desk.seen c.args.desk.now) c.args.ticket) (ticket_of s (g.Q.Desk.seen c.raise.new.self) c.args.ticket) root n c.as_slice.result.now c.requires.may c.in_ok-generation.ensures.own
-    (root_text_is s n root c.as_slice.result.now (c.as_slice.ensures ∙ c.in_ok-text.ensures.text))
+    (root_text_is s n root c.as_slice.result.now (c.as_slice.ensures ∙ c.in_ok-text.ensures.text)) in
+    (c.as_slice.result.now, refl, can)
 
 pub returns-clause-ok : goal.returns-clause-ok
 returns-clause-ok g c =

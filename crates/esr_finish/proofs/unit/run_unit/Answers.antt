@@ -8,7 +8,7 @@ use Rattle.esr_finish.specs.Ticket.{MayWrite}
 use Rattle.esr_finish.specs.Refused.{failed_by, IsUnitRefused}
 use Rattle.esr_desk.specs.Grew.{grew_by_on}
 use Rattle.esr_finish.proofs.Runs.{left_cases}
-use Rattle.esr_finish.proofs.Swaps.{took_writes, settle_next}
+use Rattle.esr_finish.proofs.Swaps.{took_writes, settle_next, took_unpruned, worked_unpruned, final_fails, final_ends}
 use Rattle.esr_finish.proofs.Ends.{stopped_err, settle_grew, finish_grew, settle_refused, finish_refused, fail_ends, by_stage, by_step, step_shown, was_refused, put_refused}
 use Rattle.std.proofs.Common.{ap}
 use Rattle.esr_core.specs.World.{Ticket}
@@ -135,3 +135,36 @@ settle-requires-clause-new g c =
     let mid = g.Q.Desk.seen c.write_swap.new.desk in
     let who = c.args.unit.now.ready.ticket in
     settle_new s mid who c.in-Ok.ensures.tells (ap (λ (t : Ticket). t.settled) c.in-Ok.ensures.ok.is ∙ (may_write g (goal.at.settle-requires-clause-new g c).In-Some).swaps.unsettled)
+
+pub settle-requires-clause-unpruned : goal.settle-requires-clause-unpruned
+settle-requires-clause-unpruned g c =
+    let s = g.Q.Desk.start in
+    let unit = c.args.unit.now in
+    let ready = unit.ready in
+    let old = ticket_of s (g.Q.Desk.seen c.args.desk.now) ready.ticket in
+    worked_unpruned old (ticket_of s (g.Q.Desk.seen c.write_swap.new.desk) ready.ticket) c.write_swap.ensures.went.worked (took_unpruned old ready.work unit.new_root ready.op ready.copy c.in-Finalize.info c.in-Finalize.shards c.in-Finalize.is c.requires.fresh)
+
+pub finish-requires-clause-may : goal.finish-requires-clause-may
+finish-requires-clause-may g c =
+    let s = g.Q.Desk.start in
+    let unit = c.args.unit.now in
+    let ready = unit.ready in
+    let who = ready.ticket in
+    final_ends (ticket_of s (g.Q.Desk.seen c.args.desk.now) who) (ticket_of s (g.Q.Desk.seen c.write_swap.new.desk) who) (ticket_of s (g.Q.Desk.seen c.settle.new.self) who) ready.work unit.new_root ready.op ready.copy c.in-Finalize.info c.in-Finalize.shards
+    c.in-Finalize.is c.requires.fresh c.write_swap.ensures.went.worked c.in_ok-settle-in-Ok.ensures.own
+
+pub fail-requires-clause-may : goal.fail-requires-clause-may
+fail-requires-clause-may g c κs within =
+    let s = g.Q.Desk.start in
+    let unit = c.args.unit.now in
+    let ready = unit.ready in
+    let old = ticket_of s (g.Q.Desk.seen c.args.desk.now) ready.ticket in
+    final_fails old (ticket_of s (g.Q.Desk.seen c.write_swap.new.desk) ready.ticket) ready.work unit.new_root ready.op ready.copy c.in-Finalize.info c.in-Finalize.shards c.in-Finalize.is c.requires.fresh c.write_swap.ensures.went.worked
+
+pub fail-requires-in-Some-failed_by-clause-may : goal.fail-requires-in-Some-failed_by-clause-may
+fail-requires-in-Some-failed_by-clause-may g c κs within =
+    let s = g.Q.Desk.start in
+    let unit = c.args.unit.now in
+    let ready = unit.ready in
+    let old = ticket_of s (g.Q.Desk.seen c.args.desk.now) ready.ticket in
+    final_fails old (ticket_of s (g.Q.Desk.seen c.write_swap.new.desk) ready.ticket) ready.work unit.new_root ready.op ready.copy c.in-Finalize.info c.in-Finalize.shards c.in-Finalize.is c.requires.fresh c.write_swap.ensures.went.worked

@@ -16,7 +16,7 @@ made-requires-clause-begun g c κs within =
 
 pub made-requires-clause-sources : goal.made-requires-clause-sources
 made-requires-clause-sources g c κs within =
-    are_sources (record { files = g.S.Sources.files c.args.sources.now; is_there = g.S.Sources.is_there c.args.sources.now; is_quiet = g.S.Sources.is_quiet c.args.sources.now; targets_quiet = false; targets_told = false }) 16777216 (is_calm_by (g.D.Depot.look c.in-Ok.opening.depot).sure) (g.D.Depot.look c.in-Ok.opening.depot) (begun_world (now (g.D.Depot.look c.in-Ok.opening.depot)) (cluster_of c.in-Ok.opening.cluster) (root_of c.in-Ok.opening.root))
+    are_sources (record { files = g.S.Sources.files c.args.sources.now; is_there = g.S.Sources.is_there c.args.sources.now; is_quiet = g.S.Sources.is_quiet c.args.sources.now; targets_quiet = false; targets_told = false }) 16777216 (is_calm_by (g.D.Depot.look c.in-Ok.opening.depot).sure) (g.D.Depot.look c.in-Ok.opening.depot) (begun_world (now (g.D.Depot.look c.in-Ok.opening.depot)) (cluster_of c.in-Ok.opening.cluster) (root_of c.in-Ok.opening.root) c.in-Ok.opening.progress)
 
 pub made-requires-clause-calm : goal.made-requires-clause-calm
 made-requires-clause-calm g c κs within = calm_enough (g.D.Depot.look c.in-Ok.opening.depot).sure

@@ -9,7 +9,7 @@ use Rattle.esr_interleaved.proofs.two.made_in.Given as goal
 abbrev pub ghosts-made : goal.ghosts-made
 ghosts-made g a = record {
   start = start_of (record { files = g.S.Sources.files a.sources.now; is_there = g.S.Sources.is_there a.sources.now; is_quiet = g.S.Sources.is_quiet a.sources.now; targets_quiet = false; targets_told = false }) 16777216 (is_calm_by (g.D.Depot.look a.opening.depot).sure) (g.D.Depot.look a.opening.depot)
-      (begun_world (now (g.D.Depot.look a.opening.depot)) (cluster_of a.opening.cluster) (root_of a.opening.root));
+      (begun_world (now (g.D.Depot.look a.opening.depot)) (cluster_of a.opening.cluster) (root_of a.opening.root) a.opening.progress);
   clock = (g.D.Depot.look a.opening.depot).clock;
   faults = g.D.Counted.faults a.opening.depot;
   past = (g.D.Depot.look a.opening.depot).since;

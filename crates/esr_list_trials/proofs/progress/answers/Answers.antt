@@ -1,8 +1,8 @@
-use Rattle.std.proofs.Common.{◌≡◌, ℕ, suc, ◌+◌, ◌^◌, ◌<◌, [], false, None, Some, option_map, map, refl, sym, ap, subst, ◌∙◌, arith, nat_cmp}
+use Rattle.std.proofs.Common.{◌≡◌, ℕ, suc, ◌+◌, ◌^◌, ◌<◌, None, option_map, map, sym, ap, subst, ◌∙◌, arith, nat_cmp}
 use Rattle.std.specs.FinMap as fin
 use Rattle.esr_model.specs.Values.{RootData}
 use Rattle.esr_model.specs.Kept.{first_id}
-use Rattle.esr_core.specs.World.{World, Op, Restoring, no_caller}
+use Rattle.esr_core.specs.World.{World, Restoring, no_root}
 use Rattle.esr_core.specs.After.{asked_op, new_names}
 use Rattle.esr_core.specs.Tracked.{Named}
 use Rattle.esr_core.proofs.Naming.{named_asked}
@@ -13,83 +13,8 @@ use Rattle.esr_progress.specs.declared.command.Command.TheVariants as commands
 use Rattle.esr_progress.specs.Asked.{asked_of, asked_index_of, IsAskable}
 use Rattle.esr_progress.specs.Plan.{Plan, RestorePlan, IsAskedIn, seat_of, restore_plan, reader_seat}
 use Rattle.esr_progress.specs.Accepting.{MayAccept, IsAccepted, name_asked}
-use Rattle.esr_progress.proofs.Lists.{none_some}
+use Rattle.esr_list_trials.proofs.Worlds.{nothing_named, world_with, NoRestore, asked_in}
 use Rattle.esr_list_trials.proofs.progress.answers.Goals as goal
-
-nothing_open : (o : ℕ) (op : Op) → fin.get (fin.empty {K = ℕ} {X = Op} {R = nat_cmp}) o ≡ Some op → ⊥
-nothing_open o op got = none_some op (sym (fin.get-empty nat_cmp o) ∙ got)
-
-nothing_named : (next : ℕ) → Named (record { snapshots = []; indices = [] }) fin.empty next
-nothing_named next = record {
-  unlisted = λ o op s got there. absurd there;
-  apart = λ o p a b got. absurd (nothing_open o a got);
-  unused = λ o op x got there. absurd there;
-  indices = λ o p a b r q got. absurd (nothing_open o a got);
-  once = λ o op r q got. absurd (nothing_open o op got);
-  rooted = λ o op r x got. absurd (nothing_open o op got);
-  root_indices = λ x y there. absurd there;
-  shards = λ o op got. absurd (nothing_open o op got);
-  distinct = λ o op s z got. absurd (nothing_open o op got);
-  results = λ o op s r got. absurd (nothing_open o op got);
-  below = λ o op got. absurd (nothing_open o op got);
-  root_below = record {
-    generations = λ i k g e. absurd (none_some g e);
-    snapshots = λ s there. absurd there;
-    ids = λ x there. absurd there;
-    uuids = λ x u there. absurd there;
-    one_name = λ x y there. absurd there;
-  };
-}
-
-abbrev no_root : RootData
-no_root = record { snapshots = []; indices = [] }
-
--- a world of term 1 with this plan, in which no ticket was given
-abbrev world_with : Plan → ℕ → World
-world_with p next =
-    record {
-      blobs = fin.empty;
-      safe = 0;
-      pending = 0;
-      term = 1;
-      root = no_root;
-      ops = p.ops;
-      deletes = p.deletes;
-      completed = p.completed;
-      tickets = fin.empty;
-      next_op = p.next_op;
-      next_ticket = p.next_ticket;
-      next_id = next;
-      doomed = [];
-      deposed = false;
-      restores = fin.empty;
-      readers = fin.empty;
-      caller = no_caller;
-    }
-
--- no restore is in the plan
-record NoRestore (p : Plan) : Type 0 where
-  restores : (o : ℕ) → fin.get p.restores o ≡ None
-  count : fin.len p.restores ≡ 0
-  readers : (k : ℕ) → fin.get p.readers k ≡ None
-
-asked_in : (p : Plan) (next : ℕ) → ((k : ℕ) → fin.get p.seats k ≡ None) → NoRestore p → IsAskedIn p no_root 1 next (world_with p next)
-asked_in p next none unrestored = record {
-  plan = record {
-    ops = refl;
-    deletes = refl;
-    completed = refl;
-    seats = λ k. none k ∙ sym (ap (option_map seat_of) (fin.get-empty nat_cmp k));
-    next_op = refl;
-    next_ticket = refl;
-    restores = λ o. unrestored.restores o ∙ sym (ap (option_map restore_plan) (fin.get-empty nat_cmp o));
-    restore_count = unrestored.count ∙ sym (fin.len-empty nat_cmp Restoring);
-    readers = λ k. unrestored.readers k ∙ sym (ap (option_map reader_seat) (fin.get-empty nat_cmp k));
-  };
-  root_is = refl;
-  term_is = refl;
-  next_is = refl;
-}
 
 named_more : (p new : Plan) (next : ℕ) (accepted : Accepted) (command : Command) → IsAskable (asked_of command) → Named no_root p.ops next → MayAccept (world_with p next) (name_asked (asked_of command)) → IsAccepted (world_with p next) (asked_of command) new accepted
     → Named no_root new.ops (next + accepted.drawn)

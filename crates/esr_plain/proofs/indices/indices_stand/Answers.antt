@@ -29,7 +29,7 @@ loop-index-preserved c = λ known told.
     let root = root_of c.args.root.now in
     let xs = c.as_slice-index-items.result.now in
     let items = c.as_slice-index-items.ensures.items ∙ ap (λ (r : CodeRoot). r.indices) c.root.view_is in
-    every_more (ShardsStand f has) root_index_of xs c.loop-index.index-index c.index-item.result c.loop-index-test.true c.index-item.is (c.loop-index.invariant known told)
+    every_more (ShardsStand f has root) root_index_of xs c.loop-index.index-index c.index-item.result c.loop-index-test.true c.index-item.is (c.loop-index.invariant known told)
     (so c.in_ok-shards_stand.field-0 (c.in_ok-shards_stand.ensures known told) c.if-not-branch.false)
 
 pub returns : goal.returns
@@ -39,5 +39,5 @@ returns c = λ known told.
     let root = root_of c.args.root.now in
     let xs = c.as_slice-index-items.result.now in
     let items = c.as_slice-index-items.ensures.items ∙ ap (λ (r : CodeRoot). r.indices) c.root.view_is in
-    let each = every_all (ShardsStand f has) root_index_of xs c.loop-index.index-index c.loop-index-test.false (c.loop-index.invariant known told) in
-    holds (by_index f has root (subst (λ (is : List CodeIndex). (x : RootIndex) → Has (map root_index_of is) x → ShardsStand f has x) items each))
+    let each = every_all (ShardsStand f has root) root_index_of xs c.loop-index.index-index c.loop-index-test.false (c.loop-index.invariant known told) in
+    holds (by_index f has root (subst (λ (is : List CodeIndex). (x : RootIndex) → Has (map root_index_of is) x → ShardsStand f has root x) items each))

@@ -1,8 +1,8 @@
-use Rattle.std.proofs.Common.{◌≡◌, Some, subst}
+use Rattle.std.proofs.Common.{◌≡◌, ℕ, Bool, Some, subst}
 use Rattle.esr_model.specs.Values.{Bytes}
 use Rattle.esr_formats.specs.Shards.{shard_snap_of, shard_snap_kind}
 use Rattle.esr_desk.specs.Readers.{reader_of}
-use Rattle.esr_restore.proofs.Reading.{has_snap}
+use Rattle.esr_restore.proofs.Reading.{has_snap, no_snap}
 use Rattle.esr_restore.proofs.snap.fetch_snap.Goals as goal
 
 pub returns-in-Ok-clause-snap : goal.returns-in-Ok-clause-snap
@@ -12,3 +12,9 @@ returns-in-Ok-clause-snap g c =
     let value = shard_snap_of c.in-Ok.snap in
     has_snap s (reader_of s (g.Q.Desk.seen c.args.desk.now) who) (reader_of s (g.Q.Desk.seen c.fetch_bytes.new.desk) who) c.args.at.index.number c.args.at.number c.args.uuid.number c.in_ok-bytes.bytes c.in-Ok.snap
     c.requires.at c.in_ok-bytes.ensures.fetched (subst (λ (b : Bytes). shard_snap_kind.read b ≡ Some value) c.as_slice.ensures c.in-Ok.ensures.read)
+
+pub returns-clause-trouble : goal.returns-clause-trouble
+returns-clause-trouble g c =
+    λ (n : ℕ) (sure : Bool).
+    no_snap g.Q.Desk.start (g.Q.Desk.seen c.args.desk.now) (g.Q.Desk.seen c.fetch_bytes.new.desk) c.args.ticket c.args.at.index.number c.args.at.number c.args.uuid.number c.in_ok-bytes.bytes c.as_slice.result.now
+    c.in-Err-Damaged.field-0 c.in-Err-Damaged.reason c.requires.at c.in_ok-bytes.ensures.fetched c.in_ok-bytes.ensures.found c.as_slice.ensures c.in-Err-Damaged.field-0-is c.in-Err-Damaged.ensures.reason

@@ -6,6 +6,7 @@ use Rattle.esr_run.proofs.Making.{rests_by, made_refused, spent_by, accepted_non
 use Rattle.esr_run.specs.Made.{LineMade}
 use Rattle.esr_run.proofs.Verifying.{none_asked, line_verifies}
 use Rattle.esr_run.proofs.Taking.{line_takes}
+use Rattle.esr_run.proofs.Unended.{ends_same, line_ends}
 use Rattle.esr_run.proofs.carry.ask.Goals as goal
 
 pub ask-requires : goal.ask-requires
@@ -48,3 +49,14 @@ returns-in-Ok-ask-clause-takes g c alone =
 pub returns-clause-takes : goal.returns-clause-takes
 returns-clause-takes g c alone =
     line_takes g.Q.Desk.start (g.Q.Desk.seen c.args.desk.now) (g.Q.Desk.seen c.ask.new.self) (AskStep (asked_of c.in-Ok.command)) (λ op. Accepted op) (Err c.in-Err.refusal) (inl (asked_of c.in-Ok.command, refl)) alone c.in-Err.ensures
+
+pub returns-in_default-clause-unchecked : goal.returns-in_default-clause-unchecked
+returns-in_default-clause-unchecked g c alone = ends_same (g.Q.Desk.seen c.args.desk.now) (g.Q.Desk.seen c.args.desk.now) refl
+
+pub returns-in-Ok-ask-clause-unchecked : goal.returns-in-Ok-ask-clause-unchecked
+returns-in-Ok-ask-clause-unchecked g c alone =
+    line_ends g.Q.Desk.start (g.Q.Desk.seen c.args.desk.now) (g.Q.Desk.seen c.ask.new.self) (AskStep (asked_of c.in-Ok.command)) (λ op. Accepted op) (Ok c.in-Ok-ask.field-0) (inl (asked_of c.in-Ok.command, refl)) alone c.in-Ok-ask.ensures
+
+pub returns-clause-unchecked : goal.returns-clause-unchecked
+returns-clause-unchecked g c alone =
+    line_ends g.Q.Desk.start (g.Q.Desk.seen c.args.desk.now) (g.Q.Desk.seen c.ask.new.self) (AskStep (asked_of c.in-Ok.command)) (λ op. Accepted op) (Err c.in-Err.refusal) (inl (asked_of c.in-Ok.command, refl)) alone c.in-Err.ensures

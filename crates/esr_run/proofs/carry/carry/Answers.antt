@@ -18,7 +18,7 @@ returns-in-Ok-clause-done g c = go c.work_out.result c.work_out.ensures.done
   where
     go : (r : Result Unit AllocError) → OnOk r (g.Q.Desk.start.alone ≡ true → AreIn g.Q.Desk.start (g.Q.Desk.seen c.carry_lines.new.desk) → IsIdle g.Q.Desk.start (g.Q.Desk.seen c.work_out.new.desk) ⊎ HasStopped (g.Q.Desk.seen c.work_out.new.desk))
         → OnOk r (g.Q.Desk.start.alone ≡ true → AreIn g.Q.Desk.start (g.Q.Desk.seen c.args.desk.now) → AreDone g.Q.Desk.start c.args.moment c.args.lines.now (g.Q.Desk.seen c.args.desk.now) (g.Q.Desk.seen c.work_out.new.desk) ⊎ WasLeft g.Q.Desk.start c.args.moment c.args.lines.now (g.Q.Desk.seen c.args.desk.now) (g.Q.Desk.seen c.work_out.new.desk))
-    go (Ok x) done = done_then g.Q.Desk.start c.args.moment c.args.lines.now (g.Q.Desk.seen c.args.desk.now) (g.Q.Desk.seen c.carry_lines.new.desk) (g.Q.Desk.seen c.work_out.new.desk) c.in-Ok.ensures.rests c.work_out.ensures.grew done
+    go (Ok x) done = done_then g.Q.Desk.start c.args.moment c.args.lines.now (g.Q.Desk.seen c.args.desk.now) (g.Q.Desk.seen c.carry_lines.new.desk) (g.Q.Desk.seen c.work_out.new.desk) c.in-Ok.ensures.rests c.work_out.ensures.grew (c.work_out.ensures.unchecked c.requires.alone) done
         (λ closed. c.work_out.ensures.closed c.requires.alone (c.carry_lines.ensures.made.grew.legal c.requires.may.legal) closed)
     go (Err e) done = tt
 

@@ -1,4 +1,4 @@
-use Rattle.std.proofs.Common.{◌≡◌, ◌+◌, ◌≤◌, Bool, true, sym, ap, subst, arith}
+use Rattle.std.proofs.Common.{◌≡◌, ◌+◌, ◌≤◌, Bool, true, true≢false, sym, ap, ◌∙◌, subst, arith}
 use Rattle.esr_drive.specs.Takes.{idle_takes}
 use Rattle.esr_run.specs.Checked.{is_check}
 use Rattle.esr_run.specs.Verified.{MayVerify, VerifiesOn}
@@ -72,3 +72,21 @@ pub returns-in-Check-clause-takes : goal.returns-in-Check-clause-takes
 returns-in-Check-clause-takes g c =
     let same : idle_takes (g.Q.Desk.seen c.check.new.desk) ≡ idle_takes (g.Q.Desk.seen c.args.desk.now) = c.check.ensures.takes in
     omega (arith, same)
+
+pub returns-in-Snapshot-clause-unchecked : goal.returns-in-Snapshot-clause-unchecked
+returns-in-Snapshot-clause-unchecked g c other = c.ask.ensures.unchecked c.requires.alone
+
+pub returns-in-Restore-clause-unchecked : goal.returns-in-Restore-clause-unchecked
+returns-in-Restore-clause-unchecked g c other = c.restore.ensures.unchecked c.requires.alone
+
+pub returns-in-Wait-clause-unchecked : goal.returns-in-Wait-clause-unchecked
+returns-in-Wait-clause-unchecked g c other = c.wait.ensures.unchecked c.requires.alone
+
+pub returns-in-List-clause-unchecked : goal.returns-in-List-clause-unchecked
+returns-in-List-clause-unchecked g c other = c.list.ensures.unchecked c.requires.alone
+
+pub returns-in-Verify-clause-unchecked : goal.returns-in-Verify-clause-unchecked
+returns-in-Verify-clause-unchecked g c other = c.verify.ensures.unchecked
+
+pub returns-in-Check-clause-unchecked : goal.returns-in-Check-clause-unchecked
+returns-in-Check-clause-unchecked g c other = absurd (true≢false (sym (ap is_check c.in-Check.is) ∙ other))

@@ -20,7 +20,7 @@ loop-left-preserved-in-Ok g c =
     let new = g.Q.Desk.seen c.carry_line.new.desk in
     let inv = c.loop-left.invariant in
     record {
-      front = front_step s c.args.moment c.line-item.result c.loop-left.left.now c.args.lines.now old mid new c.in-len1-up.len_at_least c.line-item.is inv.front c.in-Ok.ensures.made (λ check. inl (c.in-Ok.ensures.checked check))
+      front = front_step s c.args.moment c.line-item.result c.loop-left.left.now c.args.lines.now old mid new c.in-len1-up.len_at_least c.line-item.is inv.front c.in-Ok.ensures.made (λ check. inl (c.in-Ok.ensures.checked check)) c.carry_line.ensures.unchecked
           (λ alone none. inl (c.in-Ok.ensures.rests alone none, λ wait. c.in-Ok.ensures.ended wait alone));
       good = good_next c.loop-left.left.now inv.good;
       filled = λ alone. fills_on _ s old mid new c.args.filled.now.items c.loop-left.filled.items c.carry_line.new.filled.items (inv.filled alone) (c.in-Ok.ensures.filled alone);
@@ -39,7 +39,7 @@ loop-left-preserved g c =
     let made = as_refused s (steps_of_item c.args.moment item) mid new c.in-Err-Refused.field-0 c.in-Err-Refused.field-0-0 c.in-Err-Refused.field-0-is c.in-Err-Refused.ensures.made in
     record {
       front = front_step s c.args.moment c.line-item.result c.loop-left.left.now c.args.lines.now old mid new c.in-len1-up.len_at_least c.line-item.is inv.front made
-          (λ check. inr (look_refused mid new c.in-Err-Refused.field-0 c.in-Err-Refused.field-0-0 c.in-Err-Refused.field-0-is (c.in-Err-Refused.ensures.checked check)))
+          (λ check. inr (look_refused mid new c.in-Err-Refused.field-0 c.in-Err-Refused.field-0-0 c.in-Err-Refused.field-0-is (c.in-Err-Refused.ensures.checked check))) c.carry_line.ensures.unchecked
           (λ alone none. refused_line s item new
           (rests_refused s new c.in-Err-Refused.field-0 c.in-Err-Refused.field-0-0 c.in-Err-Refused.field-0-is (c.in-Err-Refused.ensures.rests alone none))
           (λ wait. ended_refused new c.in-Err-Refused.field-0 c.in-Err-Refused.field-0-0 c.in-Err-Refused.field-0-is (c.in-Err-Refused.ensures.ended wait alone)));

@@ -5,6 +5,7 @@ use Rattle.esr_desk.specs.declared.unit.AcceptedRestore.{AcceptedRestore as Answ
 use Rattle.esr_run.proofs.Making.{rests_by, made_refused, spent_by, restore_none}
 use Rattle.esr_run.proofs.Verifying.{line_verifies}
 use Rattle.esr_run.proofs.Taking.{line_takes}
+use Rattle.esr_run.proofs.Unended.{line_ends}
 use Rattle.esr_run.proofs.carry.restore.Goals as goal
 
 pub returns-in-Err-clause-rests : goal.returns-in-Err-clause-rests
@@ -38,3 +39,11 @@ returns-in-Err-clause-takes g c alone =
 pub returns-clause-takes : goal.returns-clause-takes
 returns-clause-takes g c alone =
     line_takes g.Q.Desk.start (g.Q.Desk.seen c.args.desk.now) (g.Q.Desk.seen c.restore.new.self) (AskStep (Restore c.args.name.now c.args.place.now)) (λ (a : Answer). AcceptedRestore a.op a.uuid.number (map ref_of_code a.indices)) (Ok c.in_default.field-0) (inl (Restore c.args.name.now c.args.place.now, refl)) alone c.in_default.ensures
+
+pub returns-in-Err-clause-unchecked : goal.returns-in-Err-clause-unchecked
+returns-in-Err-clause-unchecked g c alone =
+    line_ends g.Q.Desk.start (g.Q.Desk.seen c.args.desk.now) (g.Q.Desk.seen c.restore.new.self) (AskStep (Restore c.args.name.now c.args.place.now)) (λ (a : Answer). AcceptedRestore a.op a.uuid.number (map ref_of_code a.indices)) (Err c.in-Err.refusal) (inl (Restore c.args.name.now c.args.place.now, refl)) alone c.in-Err.ensures
+
+pub returns-clause-unchecked : goal.returns-clause-unchecked
+returns-clause-unchecked g c alone =
+    line_ends g.Q.Desk.start (g.Q.Desk.seen c.args.desk.now) (g.Q.Desk.seen c.restore.new.self) (AskStep (Restore c.args.name.now c.args.place.now)) (λ (a : Answer). AcceptedRestore a.op a.uuid.number (map ref_of_code a.indices)) (Ok c.in_default.field-0) (inl (Restore c.args.name.now c.args.place.now, refl)) alone c.in_default.ensures

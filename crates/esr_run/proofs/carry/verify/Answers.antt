@@ -4,6 +4,7 @@ use Rattle.esr_desk.specs.declared.unit.UnitRefusal.{UnitRefusal}
 use Rattle.esr_run.specs.Made.{LineMade, LineRests, LineSpends}
 use Rattle.esr_run.specs.Verified.{VerifiesOn}
 use Rattle.esr_run.proofs.Verifying.{line_result, turns_of, verify_made, verify_rests, verify_spends, verify_none, verify_takes, verify_well, verify_refused}
+use Rattle.esr_run.proofs.Unended.{verify_ends}
 use Rattle.esr_run.proofs.carry.verify.Goals as goal
 
 pub returns-in-Ok-clause-made : goal.returns-in-Ok-clause-made
@@ -56,3 +57,12 @@ returns-in-Err-Failed-clause-takes g c = verify_takes (g.Q.Desk.seen c.args.desk
 
 pub returns-in-Err-Stopped-clause-takes : goal.returns-in-Err-Stopped-clause-takes
 returns-in-Err-Stopped-clause-takes g c = verify_takes (g.Q.Desk.seen c.args.desk.now) (g.Q.Desk.seen c.verify.new.desk) (Err c.in-Err-Stopped.field-0) c.in-Err-Stopped.ensures.asked
+
+pub returns-in-Ok-clause-unchecked : goal.returns-in-Ok-clause-unchecked
+returns-in-Ok-clause-unchecked g c = verify_ends (g.Q.Desk.seen c.args.desk.now) (g.Q.Desk.seen c.verify.new.desk) (Ok c.in-Ok.field-0) c.in-Ok.ensures.asked
+
+pub returns-in-Err-Failed-clause-unchecked : goal.returns-in-Err-Failed-clause-unchecked
+returns-in-Err-Failed-clause-unchecked g c = verify_ends (g.Q.Desk.seen c.args.desk.now) (g.Q.Desk.seen c.verify.new.desk) (Err c.in-Err-Failed.field-0) c.in-Err-Failed.ensures.asked
+
+pub returns-in-Err-Stopped-clause-unchecked : goal.returns-in-Err-Stopped-clause-unchecked
+returns-in-Err-Stopped-clause-unchecked g c = verify_ends (g.Q.Desk.seen c.args.desk.now) (g.Q.Desk.seen c.verify.new.desk) (Err c.in-Err-Stopped.field-0) c.in-Err-Stopped.ensures.asked

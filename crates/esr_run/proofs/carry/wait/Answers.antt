@@ -1,5 +1,6 @@
 use Rattle.esr_run.proofs.Waiting.{rests_by, ends_by, spends_by}
 use Rattle.esr_run.proofs.Verifying.{works_may, works_closed, works_whole, verifies_by}
+use Rattle.esr_run.proofs.Unended.{works_end}
 use Rattle.esr_run.proofs.carry.wait.Goals as goal
 
 pub returns-clause-rests : goal.returns-clause-rests
@@ -36,3 +37,9 @@ returns-then-is_err-clause-takes g c = c.work-worked.ensures.takes
 
 pub returns-clause-takes : goal.returns-clause-takes
 returns-clause-takes g c = c.work-worked.ensures.takes
+
+pub returns-then-is_err-clause-unchecked : goal.returns-then-is_err-clause-unchecked
+returns-then-is_err-clause-unchecked g c alone = works_end (g.Q.Desk.seen c.args.desk.now) (g.Q.Desk.seen c.work-worked.new.desk) (c.work-worked.ensures.only alone)
+
+pub returns-clause-unchecked : goal.returns-clause-unchecked
+returns-clause-unchecked g c alone = works_end (g.Q.Desk.seen c.args.desk.now) (g.Q.Desk.seen c.work-worked.new.desk) (c.work-worked.ensures.only alone)

@@ -1,6 +1,7 @@
 use Rattle.std.proofs.Common.{◌≡◌, ◌⊎◌, List, [], sym, subst}
 use Rattle.esr_core.specs.Entry.{Moment}
 use Rattle.esr_desk.specs.Once.{AreOnce, NoneTwice}
+use Rattle.esr_deleting.specs.Once.{AreRemovedOnce}
 use Rattle.esr_checking.specs.Tested.{AreTested}
 use Rattle.esr_run.specs.Checked.{asks_check}
 use Rattle.esr_run.specs.Verified.{AreWhole}
@@ -24,6 +25,9 @@ returns-clause-tested g c = subst (λ (l : List Moment). AreTested g.K.Told.star
 
 pub returns-clause-single : goal.returns-clause-single
 returns-clause-single g c = subst NoneTwice (sym c.into_parts-depot.ensures.log) c.carry_on-worked.ensures.single
+
+pub returns-clause-removed : goal.returns-clause-removed
+returns-clause-removed g c = subst AreRemovedOnce (sym c.into_parts-depot.ensures.log) c.carry_on-worked.ensures.removed
 
 pub returns-clause-done : goal.returns-clause-done
 returns-clause-done g c =

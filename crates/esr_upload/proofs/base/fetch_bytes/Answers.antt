@@ -8,7 +8,7 @@ use Rattle.esr_upload.specs.Trouble.{Shown}
 use Rattle.esr_upload.specs.declared.trouble.Trouble.TheVariants.{Step}
 use Rattle.esr_upload.proofs.Going.{refusal_last}
 use Rattle.esr_upload.proofs.Ending.{went_same}
-use Rattle.esr_upload.proofs.Reading.{index_name, absent_base, failed_read, fetch_came, fetch_went}
+use Rattle.esr_upload.proofs.Reading.{index_name, was_fetched, absent_base, failed_read, fetch_came, fetch_went}
 use Rattle.esr_upload.proofs.Refusing.{passed}
 use Rattle.esr_desk.specs.Told.{none_new, none_tells, fetch_tells}
 use Rattle.esr_upload.proofs.base.fetch_bytes.Goals as goal
@@ -68,6 +68,11 @@ returns-in-Err-Failed-clause-trouble g c =
 
 pub fetch-requires-clause-new : goal.fetch-requires-clause-new
 fetch-requires-clause-new g c = none_new (g.Q.Desk.seen c.args.desk.now) c.args.ticket (FetchStep (ShardIndex c.args.shard.index.number c.args.shard.number c.args.base.number)) c.requires.new
+
+pub returns-in-Ok-clause-found : goal.returns-in-Ok-clause-found
+returns-in-Ok-clause-found g c =
+    was_fetched c.in_ok-fetch.field-0 c.in-Some.fetch g.Q.Desk.start (g.Q.Desk.seen c.args.desk.now) (g.Q.Desk.seen c.fetch.new.self) c.args.ticket (ShardIndex c.args.shard.index.number c.args.shard.number c.args.base.number) c.in-Some.is
+    c.in_ok-fetch.ensures.step
 
 pub returns-in-Ok-clause-tells : goal.returns-in-Ok-clause-tells
 returns-in-Ok-clause-tells g c =

@@ -2,7 +2,7 @@ use Rattle.std.proofs.Common.{◌≡◌, Some, subst}
 use Rattle.esr_model.specs.Values.{Bytes}
 use Rattle.esr_formats.specs.Shards.{shard_index_of, shard_index_kind}
 use Rattle.esr_desk.specs.Start.{ticket_of}
-use Rattle.esr_upload.proofs.Reading.{has_base, damaged_base, unread}
+use Rattle.esr_upload.proofs.Reading.{has_base, damaged_base}
 use Rattle.esr_upload.proofs.base.fetch_index.Goals as goal
 
 pub returns-in-Ok-clause-based : goal.returns-in-Ok-clause-based
@@ -15,5 +15,5 @@ returns-in-Ok-clause-based g c =
 
 pub returns-clause-trouble : goal.returns-clause-trouble
 returns-clause-trouble g c =
-    damaged_base g.Q.Desk.start (g.Q.Desk.seen c.args.desk.now) (g.Q.Desk.seen c.fetch_bytes.new.desk) c.args.ticket c.args.shard.index.number c.args.shard.number c.args.base.number c.in_ok-bytes.bytes c.requires.at c.requires.base
-    c.in_ok-bytes.ensures.fetched (unread shard_index_kind c.as_slice.result.now c.in_ok-bytes.bytes c.in-Err-Damaged.field-0 c.in-Err-Damaged.field-0-0 c.as_slice.ensures c.in-Err-Damaged.field-0-is c.in-Err-Damaged.ensures.read)
+    damaged_base g.Q.Desk.start (g.Q.Desk.seen c.args.desk.now) (g.Q.Desk.seen c.fetch_bytes.new.desk) c.args.ticket c.args.shard.index.number c.args.shard.number c.args.base.number c.in_ok-bytes.bytes c.as_slice.result.now
+    c.in-Err-Damaged.field-0 c.in-Err-Damaged.reason c.requires.at c.requires.base c.in_ok-bytes.ensures.fetched c.in_ok-bytes.ensures.found c.as_slice.ensures c.in-Err-Damaged.field-0-is c.in-Err-Damaged.ensures.reason

@@ -1,4 +1,4 @@
-use Rattle.std.proofs.Common.{◌≡◌, List, Option, ◌∙◌, sym, ap, subst}
+use Rattle.std.proofs.Common.{◌≡◌, List, Option, IsSome, ◌∙◌, sym, ap, subst}
 use Rattle.esr_model.specs.Values.{Bytes}
 use Rattle.esr_source.specs.Address.{address}
 use Rattle.esr_source.specs.Origin.{Origin}
@@ -12,13 +12,36 @@ use Rattle.esr_desk.specs.Grew.{grew_by_none, grew_by_on, outcome_grew_by}
 use Rattle.esr_upload.specs.Refused.{told_of, IsUnitRefused}
 use Rattle.esr_upload.specs.Worked.{Worked}
 use Rattle.esr_upload.specs.Trouble.{Shown}
+use Rattle.esr_upload.specs.declared.trouble.Flaw.{Flaw}
+use Rattle.esr_upload.specs.declared.trouble.Trouble.TheVariants.{Base}
 use Rattle.esr_upload.proofs.Going.{worked_none, failed_refusal}
-use Rattle.esr_upload.proofs.Drawing.{took_shard, took_of, took_unit}
-use Rattle.esr_upload.proofs.Refusing.{passed, cause_shown, failed_end, steady_shard, stopped}
+use Rattle.esr_upload.proofs.Drawing.{took_shard, shard_fails, took_of, took_unit}
+use Rattle.esr_upload.proofs.Refusing.{passed, based, cause_shown, failed_end, steady_shard, stopped}
 use Rattle.esr_upload.proofs.unit.run_unit.Goals as goal
 
 pub returns-in-Err-clause-refused : goal.returns-in-Err-clause-refused
 returns-in-Err-clause-refused g c = (worked_none (ticket_of g.Q.Desk.start (g.Q.Desk.seen c.args.desk.now) c.args.unit.now.ready.ticket), tt)
+
+pub cause_of-requires : goal.cause_of-requires
+cause_of-requires g c =
+    let s = g.Q.Desk.start in
+    let ready = c.args.unit.now.ready in
+    let who = ready.ticket in
+    let old = g.Q.Desk.seen c.args.desk.now in
+    let mid = g.Q.Desk.seen c.work.new.desk in
+    let refused = c.in-Err-work.ensures in
+    let took = took_shard ready.work c.args.unit.now.new_root ready.op ready.copy (ticket_of s old who) c.in-Shard.uuid c.in-Shard.at c.in-Shard.index c.in-Shard.place c.in-Shard.is c.requires.fresh in
+    let some : (flaw : Flaw) → c.in-Err-work.trouble ≡ Base flaw → IsSome ready.copy.base =
+    λ flaw is. based g.Q.Stage.Counted.faults g.Q.Fetch.Counted.faults (g.S.Shard.Counted.faults c.work.new.shard) (g.S.Shard.Shard.origin c.in-Ok.shard).files s mid who ready.copy.base c.in-Err-work.trouble flaw
+    (ap (λ (t : Ticket). t.base) refused.went.worked.is ∙ took.1) refused.trouble is in
+    search some
+
+pub failed-requires-clause-may : goal.failed-requires-clause-may
+failed-requires-clause-may g c =
+    let s = g.Q.Desk.start in
+    let ready = c.args.unit.now.ready in
+    shard_fails ready.work c.args.unit.now.new_root ready.op ready.copy (ticket_of s (g.Q.Desk.seen c.args.desk.now) ready.ticket) (ticket_of s (g.Q.Desk.seen c.work.new.desk) ready.ticket) c.in-Shard.uuid c.in-Shard.at c.in-Shard.index c.in-Shard.place
+    c.in-Shard.is c.requires.fresh c.in-Err-work.ensures.went.worked
 
 pub failed-requires-clause-shown : goal.failed-requires-clause-shown
 failed-requires-clause-shown g c =

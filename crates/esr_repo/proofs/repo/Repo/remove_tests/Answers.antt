@@ -1,5 +1,5 @@
 use Rattle.std.proofs.Common.{List, map, refl, sym, subst}
-use Rattle.esr_core.specs.Entry.{ReadStep, RemoveTests, WasRemoved}
+use Rattle.esr_core.specs.Entry.{Step, ReadStep, RemoveTests, WasRemoved}
 use Rattle.esr_names.specs.declared.blob.BlobName.{BlobName as CodeName}
 use Rattle.esr_formats.specs.Names.{name_of}
 use Rattle.esr_desk.specs.Entries.{step_of}
@@ -11,8 +11,9 @@ use Rattle.esr_repo.proofs.repo.Repo.remove_tests.Goals as goal
 
 pub call_remove-requires-clause-may : goal.call_remove-requires-clause-may
 call_remove-requires-clause-may g c =
-    subst (λ (names : List CodeName). MayRemove g.K.Told.start c.check.new.self (map name_of names)) (sym c.as_slice-names.ensures)
-    (may_remove_tests g.K.Told.start c.args.self.now c.check.new.self (map name_of c.args.names.now) c.in_ok-check.ensures.step.0 c.rules.ensures.read_tracked c.requires.may)
+    subst (λ (step : Step). MayRemove g.K.Told.start c.check.new.self 0 step (map name_of c.as_slice-names.result.now)) (sym c.in_ok-step.ensures)
+    (subst (λ (names : List CodeName). MayRemove g.K.Told.start c.check.new.self 0 (ReadStep (RemoveTests (map name_of names))) (map name_of names)) (sym c.as_slice-names.ensures)
+    (may_remove_tests g.K.Told.start c.args.self.now c.check.new.self (map name_of c.args.names.now) c.in_ok-check.ensures.step.0 c.rules.ensures.read_tracked c.requires.may))
 
 pub returns-clause-step : goal.returns-clause-step
 returns-clause-step g c =

@@ -1,7 +1,9 @@
-use Rattle.std.proofs.Common.{rules}
-use Rattle.esr_core.specs.Entry.{SettleStep, WasSettled}
+use Rattle.std.proofs.Common.{rules, List, sym, subst}
+use Rattle.esr_core.specs.Entry.{SettleStep, WasSettled, Moment}
 use Rattle.esr_formats.specs.Roots.{root_of}
 use Rattle.esr_progress.specs.Plan.{seat_of_code}
+use Rattle.esr_desk.specs.Conditions.{IsUnpruned}
+use Rattle.esr_desk.specs.Start.{ticket_of}
 use Rattle.esr_repo.proofs.Stepping.{on_done, did_from}
 use Rattle.esr_repo.proofs.Swapping.{may_refuse_settle, settled_ticket, settle_left}
 use Rattle.esr_repo.proofs.repo.Repo.settle.Goals as goal
@@ -9,6 +11,9 @@ use Rattle.esr_repo.proofs.repo.Repo.settle.Goals as goal
 pub refuse-requires-clause-may : goal.refuse-requires-clause-may
 refuse-requires-clause-may g c =
     may_refuse_settle g.K.Told.start c.args.self.now c.check.new.self c.args.ticket (root_of c.args.root.now) (seat_of_code c.seat-own.result) c.term-now.result c.in_ok-check.ensures.step.0 c.requires.may c.seat-own.ensures c.term-now.ensures.term (search rules)
+
+pub settled-requires-clause-unpruned : goal.settled-requires-clause-unpruned
+settled-requires-clause-unpruned g c = subst (λ (log : List Moment). IsUnpruned (ticket_of g.K.Told.start log c.args.ticket)) (sym c.in_ok-check.ensures.step.0) c.requires.unpruned
 
 pub returns-clause-own : goal.returns-clause-own
 returns-clause-own g c =

@@ -6,16 +6,11 @@ use Rattle.std.proofs.Common.{subst}
 use Rattle.esr_root.specs.Root.{Root}
 use Rattle.esr_desk.specs.Conditions.{CanSettle}
 use Rattle.esr_desk.specs.Start.{ticket_of}
-use Rattle.esr_repo.proofs.Swapping.{settled_deletes, may_swap_settle}
+use Rattle.esr_repo.proofs.Swapping.{may_swap_settle}
 use Rattle.esr_repo.proofs.repo.Repo.settled.Goals as goal
-
-pub record_ops-requires : goal.record_ops-requires
-record_ops-requires g c = record {
-  no_delete = settled_deletes g.K.Told.start c.args.self.now c.args.ticket (root_of c.args.root.now) c.plan.result.now c.in_ok-progress.progress c.requires.may c.plan.ensures c.rules.ensures.no_deletes c.in_ok-progress.ensures;
-}
 
 pub returns : goal.returns
 returns g c =
-    may_swap_settle g.K.Told.start c.args.self.now c.args.ticket c.in_ok-root.root c.in_ok-info.info _ c.plan.result.now c.in_ok-progress.progress c.next_id.result.number c.in_ok-info.ensures c.rules.ensures.tracked c.rules.ensures.no_deleting
+    may_swap_settle g.K.Told.start c.args.self.now c.args.ticket c.in_ok-root.root c.in_ok-info.info _ c.plan.result.now c.in_ok-progress.progress c.next_id.result.number c.in_ok-info.ensures c.rules.ensures.tracked c.requires.unpruned
     (subst (λ (r : Root). CanSettle g.K.Told.start (ticket_of g.K.Told.start c.args.self.now c.args.ticket) (root_of r)) (sym c.in_ok-root.ensures) c.requires.may) c.requires.present c.plan.ensures c.in_ok-progress.ensures
     (λ n own. ap (λ (r : Record). (cluster_of r).ledger) c.cluster.view_is ∙ c.in_ok-cluster.ensures n own) c.in_ok-cluster-inside.ensures c.next_id.ensures.number

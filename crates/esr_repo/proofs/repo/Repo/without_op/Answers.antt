@@ -2,11 +2,8 @@ use Rattle.std.proofs.Common.{ap, ◌∙◌}
 use Rattle.esr_model.specs.Values.{ClusterRecord}
 use Rattle.esr_record.specs.Record.{Record}
 use Rattle.esr_formats.specs.Clusters.{cluster_of}
-use Rattle.esr_repo.proofs.Swapping.{dropped_deletes, may_swap_drop}
+use Rattle.esr_repo.proofs.Swapping.{may_swap_drop}
 use Rattle.esr_repo.proofs.repo.Repo.without_op.Goals as goal
-
-pub record_ops-requires : goal.record_ops-requires
-record_ops-requires g c = record { no_delete = dropped_deletes g.K.Told.start c.args.self.now c.args.ticket c.plan.result.now c.in_ok-progress.progress c.requires.may c.plan.ensures c.rules.ensures.no_deletes c.in_ok-progress.ensures }
 
 pub returns : goal.returns
 returns g c =

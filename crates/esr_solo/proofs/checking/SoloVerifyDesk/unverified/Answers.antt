@@ -16,7 +16,7 @@ pub returns-then-is_err-clause-step : goal.returns-then-is_err-clause-step
 returns-then-is_err-clause-step g c = (waited_as g.K.Told.start c.self.inside.repo c.args.self.now 0 c.self.view_is c.is_legal.ensures, tt)
 
 pub invariant_of-self : goal.invariant_of-self
-invariant_of-self g c = (c.self.invariant.0, same_objects _ g.K.Told.start c.self.inside.repo c.self.inside.faults.items c.reserve.new.self.items c.reserve.ensures.items c.self.invariant.1, c.self.invariant.2, c.self.invariant.3, c.self.invariant.4, c.self.invariant.5)
+invariant_of-self g c = (c.self.invariant.0, same_objects _ g.K.Told.start c.self.inside.repo c.self.inside.faults.items c.reserve.new.self.items c.reserve.ensures.items c.self.invariant.1, c.self.invariant.2, c.self.invariant.3, c.self.invariant.4, c.self.invariant.5, c.self.invariant.6)
 
 pub invariant_of-self-2 : goal.invariant_of-self-2
 invariant_of-self-2 g c =

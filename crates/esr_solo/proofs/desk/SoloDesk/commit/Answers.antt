@@ -13,7 +13,7 @@ returns-then-self-eq0-clause-step g c = (
 
 pub invariant_of-self : goal.invariant_of-self
 invariant_of-self g c =
-    keeps _ g.K.Told.start c.self.inside.repo c.commit-answer.new.self c.args.ticket _ _ c.commit-answer.result c.self.inside.faults.items c.self.inside.left c.turns.result _ c.self.invariant c.if-self-eq0.false c.turns.ensures (λ x why e d. cc) (commit_new g.K.Told.start c.self.inside.repo c.args.self.now c.args.ticket (name_of c.args.name) c.self.view_is c.requires.may.2.once) (new_own c.self.inside.repo c.args.self.now c.args.ticket (CommitStep (name_of c.args.name)) c.self.view_is c.requires.new) c.commit-answer.ensures.step tt
+    keeps _ g.K.Told.start c.self.inside.repo c.commit-answer.new.self c.args.ticket _ _ c.commit-answer.result c.self.inside.faults.items c.self.inside.left c.turns.result _ c.self.invariant c.if-self-eq0.false c.turns.ensures (λ x why e d. cc) (commit_new g.K.Told.start c.self.inside.repo c.args.self.now c.args.ticket (name_of c.args.name) c.self.view_is c.requires.may.2.once) (new_own c.self.inside.repo c.args.self.now c.args.ticket (CommitStep (name_of c.args.name)) c.self.view_is c.requires.new) c.commit-answer.ensures.step tt tt
 
 pub returns-clause-step : goal.returns-clause-step
 returns-clause-step g c = outcome g.K.Told.start c.self.inside.repo c.args.self.now c.commit-answer.new.self c.args.ticket _ _ c.commit-answer.result c.self.view_is c.is_legal.ensures c.commit-answer.ensures.step

@@ -11,7 +11,7 @@ returns-then-self-eq0-clause-step g c = (
 
 pub invariant_of-self : goal.invariant_of-self
 invariant_of-self g c =
-    keeps _ g.K.Told.start c.self.inside.repo c.latest-answer.new.self c.args.ticket _ _ c.latest-answer.result c.self.inside.faults.items c.self.inside.left c.turns.result _ c.self.invariant c.if-self-eq0.false c.turns.ensures (λ x why e d. cc) (λ name e no_metadata noted. cc) (new_own c.self.inside.repo c.args.self.now c.args.ticket LatestStep c.self.view_is c.requires.new) c.latest-answer.ensures.step tt
+    keeps _ g.K.Told.start c.self.inside.repo c.latest-answer.new.self c.args.ticket _ _ c.latest-answer.result c.self.inside.faults.items c.self.inside.left c.turns.result _ c.self.invariant c.if-self-eq0.false c.turns.ensures (λ x why e d. cc) (λ name e no_metadata noted. cc) (new_own c.self.inside.repo c.args.self.now c.args.ticket LatestStep c.self.view_is c.requires.new) c.latest-answer.ensures.step tt tt
 
 pub returns-clause-step : goal.returns-clause-step
 returns-clause-step g c = outcome g.K.Told.start c.self.inside.repo c.args.self.now c.latest-answer.new.self c.args.ticket _ _ c.latest-answer.result c.self.view_is c.is_legal.ensures c.latest-answer.ensures.step

@@ -9,7 +9,7 @@ returns-then-self-eq0 g c = (
 
 pub invariant_of-self : goal.invariant_of-self
 invariant_of-self g c =
-    keeps _ g.K.Told.start c.self.inside.repo c.restore-answer.new.self 0 _ _ c.restore-answer.result c.self.inside.faults.items c.self.inside.left c.turns.result _ c.self.invariant c.if-self-eq0.false c.turns.ensures (λ x why e d. cc) (λ name e no_metadata noted. cc) (λ single. absurd single) c.restore-answer.ensures tt
+    keeps _ g.K.Told.start c.self.inside.repo c.restore-answer.new.self 0 _ _ c.restore-answer.result c.self.inside.faults.items c.self.inside.left c.turns.result _ c.self.invariant c.if-self-eq0.false c.turns.ensures (λ x why e d. cc) (λ name e no_metadata noted. cc) (λ single. absurd single) c.restore-answer.ensures tt tt
 
 pub returns : goal.returns
 returns g c = outcome g.K.Told.start c.self.inside.repo c.args.self.now c.restore-answer.new.self 0 _ _ c.restore-answer.result c.self.view_is c.is_legal.ensures c.restore-answer.ensures

@@ -12,3 +12,6 @@ returns-clause-single g c = c.self.invariant.3
 
 pub returns-clause-tested : goal.returns-clause-tested
 returns-clause-tested g c = c.self.invariant.5
+
+pub returns-clause-removed : goal.returns-clause-removed
+returns-clause-removed g c = c.self.invariant.6

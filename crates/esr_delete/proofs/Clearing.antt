@@ -1,0 +1,138 @@
+-- From the settle of a delete to its end.
+use Rattle.std.proofs.Common.{◌≡◌, ◌↔◌, ⊎_elim, ℕ, true, false, List, ◌++◌, append-nil, map, Some, None, Result, Ok, Err, IfErr, OnOk, OnErr, refl, sym, ap, ◌∙◌, subst}
+use Rattle.std.specs.List.{AllByRecursion}
+use Rattle.std.specs.Result.{IsErrAnd}
+use Rattle.esr_names.specs.declared.blob.BlobName.{BlobName as CodeName}
+use Rattle.esr_names.specs.Layout.{IsName}
+use Rattle.esr_model.specs.Names.{BlobName}
+use Rattle.esr_model.specs.Values.{Has, RootData, Formats}
+use Rattle.esr_core.specs.World.{Ticket, Work, Shard, Finalize, Deleting, Drop}
+use Rattle.esr_core.specs.Pruning.{doomed_by, dooms}
+use Rattle.esr_core.specs.Entry.{SettlePruned, RemoveDoomed, EndDelete, PruneStep, HasEnded, Reply, Moment}
+use Rattle.esr_formats.specs.Names.{name_of}
+use Rattle.esr_reach.specs.Members.{all_has, has_map, in_map}
+use Rattle.esr_desk.specs.declared.refusal.StepRefusal.{StepRefusal}
+use Rattle.esr_desk.specs.Start.{Start, formats_of, ticket_of, world_of}
+use Rattle.esr_desk.specs.Outcome.{Stepped, Outcome}
+use Rattle.esr_desk.specs.Told.{TellsAll, stepped_made, none_removed}
+use Rattle.esr_deleting.specs.Conditions.{CanSettleDelete, CanEndDelete}
+use Rattle.esr_deleting.specs.Once.{IsNewRemoval}
+use Rattle.esr_delete.specs.Ticket.{HasNamed, IsOver}
+use Rattle.esr_delete.specs.Removed.{NoneRemoved, IsSettledPlan, MayRemove, AreNamed, IsCleared}
+
+-- an error that was made of a step's refusal
+pub passed_on : {T E : Type 0} (result : Result T E) (P : E → Type 0) (e : E) → IsErrAnd result (λ x. x ≡ e) → P e → IfErr result P
+passed_on (Ok x) P e is holds = tt
+passed_on (Err y) P e is holds = subst P (sym is) holds
+
+pub any_err : {T E : Type 0} (result : Result T E) (P : Type 0) → P → OnErr result P
+any_err (Ok x) P h = tt
+any_err (Err e) P h = h
+
+-- ---- what it dooms
+
+-- it is the same after the settle
+doomed_settled : (f : Formats) (t : Ticket) (w : Work) → doomed_by f (record t { settled = true }) w ≡ doomed_by f t w
+doomed_settled f t (Deleting uuids (Some s)) = refl
+doomed_settled f t (Deleting uuids None) = refl
+doomed_settled f t (Shard index number) = refl
+doomed_settled f t (Finalize info results made) = refl
+doomed_settled f t Drop = refl
+
+pub dooms_settled : (f : Formats) (old new : Ticket) (names : List BlobName) → new ≡ record old { settled = true } → names ≡ dooms f old → names ≡ dooms f new
+dooms_settled f old new names is names_are = names_are ∙ sym (doomed_settled f old old.work) ∙ ap (dooms f) (sym is)
+
+-- ---- after the settle
+
+pub over_settled : (s : Start) (old new : Ticket) (root : RootData) → CanSettleDelete s old root → new ≡ record old { settled = true } → IsSettledPlan new
+over_settled s old new root may is = record {
+  out = ap (λ (t : Ticket). t.out) is ∙ may.settle.put.out;
+  settled = ap (λ (t : Ticket). t.settled) is;
+  uuids = may.uuids;
+  plan = may.settle.change;
+  work = ap (λ (t : Ticket). t.work) is ∙ may.work;
+}
+
+-- it has removed nothing so far
+no_removal : (was : List BlobName) → PruneStep SettlePruned ≡ PruneStep (RemoveDoomed was) → ⊥
+no_removal was e = cc
+
+pub none_yet : (s : Start) (old new : List Moment) (who : ℕ) (reply : Reply) → TellsAll s old who → (ticket_of s old who).settled ≡ false → Stepped s old new who (PruneStep SettlePruned) reply → NoneRemoved new who
+none_yet s old new who reply tells unsettled h m has by made was is =
+    ⊎_elim
+    (λ (before : Has old m). none_removed s old who m was tells unsettled before by made is)
+    (λ (here : m.entry.step ≡ PruneStep SettlePruned). no_removal was (sym here ∙ is))
+    (stepped_made s old new who (PruneStep SettlePruned) reply m h has by made)
+
+pub new_removal : (log : List Moment) (who : ℕ) (names : List BlobName) → NoneRemoved log who → IsNewRemoval log who names
+new_removal log who names none m has by made was is name mine gone = none m has by made was is
+
+-- ---- the names, each once
+
+-- what is doomed is among them
+pub may_remove : (s : Start) (t : Ticket) (names once : List CodeName) → IsSettledPlan t → (s.tells ≡ true → map name_of names ≡ dooms (formats_of s) t) → ((name : CodeName) → Has once name ↔ Has names name) → MayRemove s t (map name_of once)
+may_remove s t names once over are same = record {
+  over = over;
+  doomed = λ tells name has.
+      let found = has_map name_of once name has in
+      subst (λ (l : List BlobName). Has l name) (are tells)
+      (subst (Has (map name_of names)) found.2 (in_map name_of names found.0 ((same found.0).0 found.1)));
+}
+
+pub once_layout : (items once : List CodeName) → ((name : CodeName) → Has once name ↔ Has items name) → AllByRecursion IsName items → (name : CodeName) → Has once name → IsName name
+once_layout items once same laid name has = all_has IsName items name laid ((same name).0 has)
+
+-- all of it was named
+dooms_named : (s : Start) (log : List Moment) (who : ℕ) (names once : List CodeName) → map name_of names ≡ dooms (formats_of s) (ticket_of s log who) → ((name : CodeName) → Has once name ↔ Has names name) → AreNamed s log (map name_of once)
+    → AreNamed s log (dooms (formats_of s) (ticket_of s log who))
+dooms_named s log who names once are same named name has =
+    let found = has_map name_of names name (subst (λ (l : List BlobName). Has l name) (sym are) has) in
+    subst (Has (world_of s log).removed) found.2 (named (name_of found.0) (in_map name_of once found.0 ((same found.0).1 found.1)))
+
+pub can_end : (s : Start) (old log : List Moment) (who : ℕ) (names once : List CodeName) → ticket_of s log who ≡ ticket_of s old who → IsSettledPlan (ticket_of s old who) → (s.tells ≡ true → map name_of names ≡ dooms (formats_of s) (ticket_of s old who))
+    → ((name : CodeName) → Has once name ↔ Has names name) → AreNamed s log (map name_of once) → CanEndDelete s log who
+can_end s old log who names once kept over are same named =
+    let here : IsSettledPlan (ticket_of s log who) = subst IsSettledPlan (sym kept) over in
+    record {
+      out = here.out;
+      settled = here.settled;
+      uuids = here.uuids;
+      plan = here.plan;
+      work = here.work;
+      removed = λ tells. dooms_named s log who names once (are tells ∙ ap (dooms (formats_of s)) (sym kept)) same named;
+    }
+
+-- ---- the end
+
+has_named : (s : Start) (mid new : List Moment) (who : ℕ) → s.alone ≡ true → CanEndDelete s mid who → Stepped s mid new who (PruneStep EndDelete) HasEnded → HasNamed s new who
+has_named s mid new who alone may h =
+    let same : h.front ≡ mid = h.waited.grew ∙ ap (λ (others : List Moment). mid ++ others) (h.waited.nobody alone) ∙ append-nil mid in
+    record {
+      last = record { front = h.front; image = h.image; is = h.is };
+      named = λ tells name has.
+          subst (λ (log : List Moment). Has (world_of s log).removed name) (sym same)
+          (may.removed tells name (subst (λ (log : List Moment). Has (dooms (formats_of s) (ticket_of s log who)) name) same has));
+    }
+
+-- by its answer
+pub ended_ok : (s : Start) (old mid new : List Moment) (who : ℕ) (result : Result (Unit {0}) StepRefusal) → s.alone ≡ true → ticket_of s mid who ≡ ticket_of s old who → CanEndDelete s mid who
+    → Outcome s mid new who (PruneStep EndDelete) (λ x. HasEnded) result → OnOk result (ticket_of s new who ≡ record (ticket_of s mid who) { out = false }) → OnOk result (IsCleared s old new who)
+ended_ok s old mid new who (Ok x) alone kept may h own = record {
+  own = own ∙ ap (λ (t : Ticket). record t { out = false }) kept;
+  named = has_named s mid new who alone may h;
+}
+ended_ok s old mid new who (Err e) alone kept may h own = tt
+
+pub ended_kept : (a b c : Ticket) (result : Result (Unit {0}) StepRefusal) → b ≡ a → OnErr result (c ≡ b) → OnErr result (c ≡ a)
+ended_kept a b c (Ok x) kept h = tt
+ended_kept a b c (Err e) kept h = h ∙ kept
+
+pub still_settled : (a b c : Ticket) → b ≡ record a { settled = true } → c ≡ b → c ≡ record a { settled = true }
+still_settled a b c settled kept = kept ∙ settled
+
+-- after the settle
+pub over_cleared : (s : Start) (old mid new : List Moment) (who : ℕ) → ticket_of s mid who ≡ record (ticket_of s old who) { settled = true } → IsCleared s mid new who → IsOver s old new who
+over_cleared s old mid new who settled cleared = record {
+  is = cleared.own ∙ ap (λ (t : Ticket). record t { out = false }) settled;
+  named = cleared.named;
+}

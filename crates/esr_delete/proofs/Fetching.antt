@@ -1,0 +1,271 @@
+-- The indices of shards are fetched and read.
+use Rattle.std.proofs.Common.{◌≡◌, ◌<◌, inl, inr, ⊎_elim, ℕ, ◌==◌, ◌&&◌, Bool, true, false, List, [], ◌∷◌, ◌++◌, Option, Some, None, IfSome, Result, Err, refl, sym, ap, ◌∙◌, subst, arith}
+use Rattle.std.specs.Prelude.{if◌then◌else◌, IsTrue}
+use Rattle.std.proofs.lemmas.Bool.{cases_Bool, eq-eqb}
+use Rattle.esr_names.specs.declared.ids.Id.{Id}
+use Rattle.esr_names.specs.declared.blob.ShardId.{ShardId}
+use Rattle.esr_names.specs.declared.blob.BlobName.TheVariants as names
+use Rattle.esr_names.specs.Layout.{IsName}
+use Rattle.esr_model.specs.Names.{BlobName, ShardIndex}
+use Rattle.esr_model.specs.Values.{Bytes, Has, RootData, ShardFiles, Formats}
+use Rattle.esr_model.specs.Image.{Generation, at_shard_of, index_at}
+use Rattle.esr_model.specs.Delete.{PrunedShard, is_index, index_bytes, files_by, files_read}
+use Rattle.esr_core.specs.World.{Ticket}
+use Rattle.esr_core.specs.Entry.{PruneStep, FetchShard, Reply, WasFetched, WasAbsent, Moment}
+use Rattle.esr_core.specs.After.{fetching}
+use Rattle.esr_core.specs.Pruning.{IsToRead, AreOfRoot, bare_shard}
+use Rattle.esr_core.proofs.DeletedRoots.{pair_tells}
+use Rattle.esr_core.proofs.Plans.{in_root}
+use Rattle.esr_depot.specs.Calls.{HasCause, has_failed}
+use Rattle.esr_depot.specs.declared.error.CallError.{CallError}
+use Rattle.esr_depot.specs.declared.error.CallError.TheVariants.{Failed}
+use Rattle.esr_fetch.specs.Told.{Tells}
+use Rattle.esr_json.specs.declared.refusal.Reason.{Reason}
+use Rattle.esr_json.specs.declared.refusal.ReadRefusal.{ReadRefusal}
+use Rattle.esr_json.specs.declared.refusal.ReadRefusal.TheVariants as refusals
+use Rattle.esr_json.specs.Steps.{Fails}
+use Rattle.esr_shardidx.specs.Indices.{shard_index_from}
+use Rattle.esr_formats.specs.Formats.{formats}
+use Rattle.esr_formats.specs.Reasons.{reason_of, refused, unreadable, refused_for}
+use Rattle.esr_formats.specs.Shards.{shard_index_kind}
+use Rattle.esr_reach.specs.Held.{HeldShard, held_at, Holds}
+use Rattle.esr_reach.specs.Members.{has_push, has_left, has_right}
+use Rattle.esr_dooming.specs.Reading.{HasToRead}
+use Rattle.esr_desk.specs.Start.{Start, formats_of, ticket_of, told_bytes}
+use Rattle.esr_desk.specs.Outcome.{Stepped, fetch_reply}
+use Rattle.esr_desk.specs.Taken.{fetched_by}
+use Rattle.esr_desk.specs.Once.{IsNew, HasMadeNone, uncounted}
+use Rattle.esr_desk.specs.Grew.{GrewBy, grew_by_none, grew_by_on}
+use Rattle.esr_desk.specs.Shown.{Faulty}
+use Rattle.esr_deleting.specs.Conditions.{CanFetchShard}
+use Rattle.esr_deleting.specs.Shown.{IsOfDelete, HadShard, WasUnreadable}
+use Rattle.esr_delete.specs.Gathered.{IsUnplanned, HasRead, index_name, MadeFetches, HasMadeFetches, HoldsRead, AreGathered, IsGathered, MadeOneMore, HasFetched, IsSoFar}
+use Rattle.esr_delete.proofs.Going.{read_on, read_same, read_fetched}
+
+-- the name of an index is one of the layout
+pub index_laid : (shard : ShardId) (base : Id) → shard.number < 1024 → IsName (names.ShardIndex shard base)
+unfolding IsName
+index_laid shard base few = few
+
+-- ---- one fetch
+
+-- what is ensured of the fetch that came
+pub fetch_came : {F : Type 0} (o : Option F) (f : F) (P : F → Type 0) → o ≡ Some f → IfSome o P → P f
+fetch_came (Some g) f P is holds = let same : g ≡ f = cc in subst P same holds
+fetch_came None f P is holds = absurd cc
+
+-- where the container is quiet none fails
+pub failed_read : {T : Type 0} (s : Start) (before now : ℕ) (result : Result T CallError) (e : CallError) (sure : Bool) → result ≡ Err e → e ≡ Failed → HasCause before now (has_failed result) → (s.quiet ≡ true → IsTrue sure)
+    → (IsTrue sure → has_failed result ≡ false) → Faulty s now
+failed_read {T} s before now result e sure is failed cause quiet serves =
+    let did : has_failed result ≡ true = ap (λ (r : Result T CallError). has_failed r) is ∙ ap (λ (x : CallError). has_failed {T = T} (Err x)) failed in
+    let rose = cause.rose did in (
+      omega (arith, rose),
+      elim (cases_Bool s.quiet) [
+        | inl calm ↦ absurd (contra (has_failed result) did (serves (quiet calm)))
+        | inr other ↦ other
+      ],
+    )
+  where
+    contra : (b : Bool) → b ≡ true → b ≡ false → ⊥
+    contra b x y = cc (x, y)
+
+-- the bytes that were told are those that were read
+told_same : (tells : Bool) (left : Option Bytes) (bytes b : Bytes) → left ≡ (if tells then Some bytes else None) → Tells left b → left ≡ (if tells then Some b else None)
+told_same true left bytes b is told = let same : bytes ≡ b = subst (λ (o : Option Bytes). Tells o b) is told in is ∙ ap (λ (x : Bytes). Some x) same
+told_same false left bytes b is told = is
+
+pub was_told : {F : Type 0} (s : Start) (left : F → Option Bytes) (o : Option F) (f : F) (old new : Ticket) (name : BlobName) (b : Bytes) → o ≡ Some f → (bytes : Bytes) × (left f ≡ told_bytes s bytes) → Tells (left f) b → new ≡ fetched_by left name o old
+    → new ≡ fetching name (told_bytes s b) old
+was_told s left None f old new name b is told reads own = absurd cc
+was_told s left (Some g) f old new name b is told reads own =
+    let same : g ≡ f = cc in
+    own ∙ ap (λ (x : Option Bytes). fetching name x old) (ap left same ∙ told_same s.tells (left f) told.0 b told.1 reads)
+
+pub fetch_read : {F : Type 0} (left : F → Option Bytes) (o : Option F) (old new : Ticket) (name : BlobName) → new ≡ fetched_by left name o old → HasRead old new
+fetch_read left None old new name own = read_same old new own
+fetch_read left (Some f) old new name own = read_fetched old new name (left f) own
+
+had_shard : (s : Start) (old new : List Moment) (who : ℕ) (name : BlobName) (answer : Reply) → Stepped s old new who (PruneStep (FetchShard name)) answer → HadShard new who name answer
+had_shard s old new who name answer step = record {
+  front = step.front;
+  moment = record { entry = record { who = who; step = PruneStep (FetchShard name); reply = answer }; image = step.image };
+  back = [];
+  is = step.is;
+  of = refl;
+  step = refl;
+  reply = refl;
+}
+
+-- it was there
+pub was_fetched : {F : Type 0} (o : Option F) (f : F) (s : Start) (old new : List Moment) (who : ℕ) (name : BlobName) → o ≡ Some f → Stepped s old new who (PruneStep (FetchShard name)) (fetch_reply o) → HadShard new who name WasFetched
+was_fetched None f s old new who name is step = absurd cc
+was_fetched (Some g) f s old new who name is step = had_shard s old new who name WasFetched step
+
+-- the index is one that the delete is to read
+of_delete : (old new : Ticket) (name : BlobName) → CanFetchShard old name → HasRead old new → IsOfDelete new name
+of_delete old new name can read = subst (λ (t : Ticket). IsOfDelete t name) (sym read.is) (record {
+  uuids = can.uuids;
+  plan = None;
+  work = can.work;
+  index = can.index;
+  number = can.number;
+  base = can.base;
+  to_read = can.to_read;
+  name_is = can.name_is;
+})
+
+-- it was absent
+pub was_absent : {F : Type 0} (left : F → Option Bytes) (o : Option F) (s : Start) (old new : List Moment) (who : ℕ) (name : BlobName) → o ≡ None → CanFetchShard (ticket_of s old who) name → Stepped s old new who (PruneStep (FetchShard name)) (fetch_reply o)
+    → ticket_of s new who ≡ fetched_by left name o (ticket_of s old who) → IsOfDelete (ticket_of s new who) name × HadShard new who name WasAbsent
+was_absent left None s old new who name none can step own = (of_delete (ticket_of s old who) (ticket_of s new who) name can (read_same (ticket_of s old who) (ticket_of s new who) own), had_shard s old new who name WasAbsent step)
+was_absent left (Some f) s old new who name none can step own = absurd cc
+
+told_has : (tells : Bool) (old new : Ticket) (name : BlobName) (b : Bytes) → new ≡ fetching name (if tells then Some b else None) old → tells ≡ true → Has new.read (name, b)
+told_has true old new name b is yes_is = subst (λ (t : Ticket). Has t.read (name, b)) (sym is) (inl refl)
+told_has false old new name b is yes_is = absurd cc
+
+-- its bytes don't read: the reader's reason is the first there is
+pub was_damaged : (s : Start) (old new : List Moment) (who index number base : ℕ) (b read : Bytes) (e : ReadRefusal) (why : Reason) → CanFetchShard (ticket_of s old who) (ShardIndex index number base)
+    → ticket_of s new who ≡ fetching (ShardIndex index number base) (told_bytes s b) (ticket_of s old who) → HadShard new who (ShardIndex index number base) WasFetched → read ≡ b → e ≡ refusals.Damaged why → Fails e (shard_index_from read)
+    → IsOfDelete (ticket_of s new who) (ShardIndex index number base) × WasUnreadable s new who (ShardIndex index number base) (reason_of why)
+unfolding unreadable
+was_damaged s old new who index number base b read e why can fetched had one damaged fails =
+    let name = ShardIndex index number base in
+    let first = subst (λ (x : Bytes). refused (shard_index_from x) ≡ Some (reason_of why)) one (refused_for (shard_index_from read) e why damaged fails) in (
+      of_delete (ticket_of s old who) (ticket_of s new who) name can (read_fetched (ticket_of s old who) (ticket_of s new who) name (told_bytes s b) fetched),
+      (had, b, told_has s.tells (ticket_of s old who) (ticket_of s new who) name b fetched, first),
+    )
+
+-- ---- what is held
+
+-- the index of a shard is found first
+own_index : (p : PrunedShard) (bytes : Bytes) (blobs : List (BlobName × Bytes)) → index_bytes ((index_name p, bytes) ∷ blobs) p ≡ Some bytes
+own_index p bytes blobs =
+    let test : is_index p.index p.number p.base (index_name p) ≡ true = all_equal p.index p.number p.base in
+    ap (λ (b : Bool). if b then Some bytes else index_bytes blobs p) test
+  where
+    all_equal : (i k g : ℕ) → (((i == i) && (k == k)) && (g == g)) ≡ true
+    all_equal i k g = λ j. (eq-eqb i i refl j && eq-eqb k k refl j) && eq-eqb g g refl j
+
+-- that of another is none of its
+other_index : (p q : PrunedShard) (bytes : Bytes) (blobs : List (BlobName × Bytes)) → ((p.index == q.index) && (p.number == q.number)) ≡ false → index_bytes ((index_name p, bytes) ∷ blobs) q ≡ index_bytes blobs q
+other_index p q bytes blobs other =
+    let test : is_index q.index q.number q.base (index_name p) ≡ false = ap (λ (b : Bool). b && (p.base == q.base)) other in
+    ap (λ (b : Bool). if b then Some bytes else index_bytes blobs q) test
+
+tests_apart : (p q : PrunedShard) → (p.index ≡ q.index → p.number ≡ q.number → ⊥) → ((p.index == q.index) && (p.number == q.number)) ≡ false
+tests_apart p q apart = elim (pair_tells p.index q.index p.number q.number) [ inl t ↦ absurd (apart t.1.0 t.1.1) | inr t ↦ t.0 ]
+
+pub no_generation : (f : Formats) (root : RootData) → HoldsRead f root [] []
+no_generation f root index number base h = refl
+
+some_is : (x y : ℕ) → ◌≡◌ {A = Option ℕ} (Some x) (Some y) → x ≡ y
+some_is x y e = cc
+
+-- what is held and what was read go on together
+pub holds_more : (f : Formats) (root : RootData) (blobs : List (BlobName × Bytes)) (held now : List HeldShard) (p : PrunedShard) (bytes : Bytes) (files : ShardFiles) → Generation root p.index p.number p.base → f.shard_index.read bytes ≡ Some files
+    → Holds held now p.index p.number files → HoldsRead f root blobs held → HoldsRead f root ((index_name p, bytes) ∷ blobs) now
+holds_more f root blobs held now p bytes files there reads holds before index number base h =
+    let q = bare_shard index number base in
+    elim (pair_tells p.index index p.number number) [
+      | inl t ↦
+          let base_is : p.base ≡ base = some_is p.base base (sym there ∙ (λ j. at_shard_of (index_at root.indices (t.1.0 j)) (t.1.1 j)) ∙ h) in
+          let now_is : held_at now index number ≡ Some files = holds index number ∙ ap (λ (b : Bool). if b then Some files else held_at held index number) t.0 in
+          let own : index_bytes ((index_name p, bytes) ∷ blobs) q ≡ Some bytes =
+          ap (λ (name : BlobName). index_bytes ((name, bytes) ∷ blobs) q) (λ j. ShardIndex (t.1.0 j) (t.1.1 j) (base_is j)) ∙ own_index q bytes blobs in
+          now_is ∙ sym reads ∙ sym (ap (files_by f) own)
+      | inr t ↦
+          holds index number ∙ ap (λ (b : Bool). if b then Some files else held_at held index number) t.0 ∙ before index number base h ∙ sym (ap (files_by f) (other_index p q bytes blobs t.0))
+    ]
+
+pub gathered_more : (f : Formats) (blobs : List (BlobName × Bytes)) (p : PrunedShard) (bytes : Bytes) (files : ShardFiles) (before : List PrunedShard) → f.shard_index.read bytes ≡ Some files
+    → ((q : PrunedShard) → Has before q → p.index ≡ q.index → p.number ≡ q.number → ⊥) → AreGathered f blobs before → AreGathered f ((index_name p, bytes) ∷ blobs) (before ++ p ∷ [])
+gathered_more f blobs p bytes files before reads apart are q m = elim (has_push before p q m) [
+  | inl earlier ↦
+      let was = are q earlier in
+      (was.0, ap (files_by f) (other_index p q bytes blobs (tests_apart p q (apart q earlier))) ∙ was.1)
+  | inr here ↦ subst (λ (x : PrunedShard). (was : ShardFiles) × (files_read f ((index_name p, bytes) ∷ blobs) x ≡ Some was)) here (files, ap (files_by f) (own_index p bytes blobs) ∙ reads)
+]
+
+-- ---- the shards one after another
+
+-- it may be fetched, where the delete is to read it
+pub can_fetch : (old mid : Ticket) (root : RootData) (uuids : List ℕ) (p : PrunedShard) → IsUnplanned old root uuids → HasRead old mid → IsToRead root uuids p.index p.number p.base → CanFetchShard mid (index_name p)
+can_fetch old mid root uuids p free read h = subst (λ (t : Ticket). CanFetchShard t (index_name p)) (sym read.is) (record {
+  out = free.out;
+  unsettled = free.unsettled;
+  uuids = uuids;
+  work = free.work;
+  index = p.index;
+  number = p.number;
+  base = p.base;
+  to_read = subst (λ (r : RootData). IsToRead r uuids p.index p.number p.base) free.root_is h;
+  name_is = refl;
+})
+
+fetch_same : (i k g j l h : ℕ) → PruneStep (FetchShard (ShardIndex i k g)) ≡ PruneStep (FetchShard (ShardIndex j l h)) → (i ≡ j) × (k ≡ l)
+fetch_same i k g j l h e = (cc, cc)
+
+-- and it wasn't yet
+pub new_fetch : (shards : List PrunedShard) (log : List Moment) (who : ℕ) (p : PrunedShard) → MadeFetches shards log who → ((q : PrunedShard) → Has shards q → p.index ≡ q.index → p.number ≡ q.number → ⊥) → IsNew log who (PruneStep (FetchShard (index_name p)))
+new_fetch shards log who p fetches apart m has by made same =
+    let (q, there, is) = fetches m has by made in
+    let names = fetch_same q.index q.number q.base p.index p.number p.base (sym (ap uncounted is) ∙ same) in
+    apart q there (sym names.0) (sym names.1)
+
+told_more : (tells : Bool) (mid new : Ticket) (name : BlobName) (bytes : Bytes) (blobs : List (BlobName × Bytes)) → new ≡ fetching name (if tells then Some bytes else None) mid → (tells ≡ true → mid.read ≡ blobs) → tells ≡ true → new.read ≡ (name, bytes) ∷ blobs
+told_more true mid new name bytes blobs is so_far yes_is = ap (λ (t : Ticket). t.read) is ∙ ap (λ (read : List (BlobName × Bytes)). (name, bytes) ∷ read) (so_far refl)
+told_more false mid new name bytes blobs is so_far yes_is = absurd cc
+
+reads_as : (s : Start) (bytes : Bytes) (files : ShardFiles) → shard_index_kind.read bytes ≡ Some files → (formats_of s).shard_index.read bytes ≡ Some files
+unfolding formats
+reads_as s bytes files reads = reads
+
+-- nothing is gathered at first
+pub none_so_far : (s : Start) (log : List Moment) (who : ℕ) → (ticket_of s log who).read ≡ [] → HasMadeNone log who → IsSoFar s log log who [] []
+none_so_far s log who unread none = record {
+  blobs = [];
+  told = λ tells. unread;
+  are_held = no_generation (formats_of s) (ticket_of s log who).root;
+  gathered = λ p m. absurd m;
+  made = λ m has by made. absurd (none m has by made);
+  read = read_same (ticket_of s log who) (ticket_of s log who) refl;
+  grew = grew_by_none s who log;
+}
+
+-- one index more
+pub more_so_far : (s : Start) (old mid new : List Moment) (who : ℕ) (before : List PrunedShard) (held now : List HeldShard) (p : PrunedShard) (files : ShardFiles) → IsSoFar s old mid who before held → Generation (ticket_of s old who).root p.index p.number p.base
+    → ((q : PrunedShard) → Has before q → p.index ≡ q.index → p.number ≡ q.number → ⊥) → HasFetched s (ticket_of s mid who) (ticket_of s new who) (index_name p) files → MadeOneMore mid new who (index_name p) → HasRead (ticket_of s mid who) (ticket_of s new who)
+    → GrewBy s who mid new → Holds held now p.index p.number files → IsSoFar s old new who (before ++ p ∷ []) now
+more_so_far s old mid new who before held now p files so_far there apart fetched made read grew holds =
+    let reads = reads_as s fetched.0 files fetched.2 in record {
+      blobs = (index_name p, fetched.0) ∷ so_far.blobs;
+      told = told_more s.tells (ticket_of s mid who) (ticket_of s new who) (index_name p) fetched.0 so_far.blobs fetched.1 so_far.told;
+      are_held = holds_more (formats_of s) (ticket_of s old who).root so_far.blobs held now p fetched.0 files there reads holds so_far.are_held;
+      gathered = gathered_more (formats_of s) so_far.blobs p fetched.0 files before reads apart so_far.gathered;
+      made = λ m has by was. ⊎_elim
+          (λ earlier. let (q, in_before, is) = so_far.made m earlier by was in (q, has_left before (p ∷ []) q in_before, is))
+          (λ last. (p, has_right before (p ∷ []) p (inl refl), last))
+          (made m has by was);
+      read = read_on (ticket_of s old who) (ticket_of s mid who) (ticket_of s new who) so_far.read read;
+      grew = grew_by_on s who old mid new so_far.grew grew;
+    }
+
+-- all are gathered
+pub gathered_all : (s : Start) (old new : List Moment) (who : ℕ) (root : RootData) (uuids : List ℕ) (shards : List PrunedShard) (held : List HeldShard) → IsUnplanned (ticket_of s old who) root uuids → IsSoFar s old new who shards held → HasToRead root uuids shards
+    → IsGathered s (ticket_of s new who) uuids held
+gathered_all s old new who root uuids shards held free so_far all =
+    let same : root ≡ (ticket_of s new who).root = free.root_is ∙ sym (ap (λ (t : Ticket). t.root) so_far.read.is) in record {
+      blobs = so_far.blobs;
+      told = so_far.told;
+      are_held = subst (λ (r : RootData). HoldsRead (formats_of s) r so_far.blobs held) (sym free.root_is ∙ same) so_far.are_held;
+      are_read = λ index number base h. so_far.gathered (bare_shard index number base) (all index number base (subst (λ (r : RootData). IsToRead r uuids index number base) (sym same) h));
+    }
+
+pub only_fetches : (shards : List PrunedShard) (log : List Moment) (who : ℕ) → MadeFetches shards log who → HasMadeFetches log who
+only_fetches shards log who fetches m has by made = let (q, there, is) = fetches m has by made in (index_name q, is)
+
+-- the generation of a shard that is to be read
+pub there_in : (root own : RootData) (shards : List PrunedShard) (p : PrunedShard) → root ≡ own → AreOfRoot root shards → Has shards p → Generation own p.index p.number p.base
+there_in root own shards p same are m = subst (λ (r : RootData). Generation r p.index p.number p.base) same (in_root root shards p are m)

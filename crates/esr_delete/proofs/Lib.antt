@@ -1,0 +1,14 @@
+pub mod Fetching
+pub mod Going
+pub mod Numbered
+pub mod Planning
+pub mod Uuids
+pub mod Indexing
+pub mod Preparing
+pub mod Uniting
+pub mod Passing
+pub mod Removing
+pub mod Clearing
+pub mod Once
+pub mod Causing
+pub mod Rooting

@@ -1,0 +1,123 @@
+-- Names that are removed, one batch after another.
+use Rattle.std.proofs.Common.{◌≡◌, ℕ, ◌-◌, ◌≤◌, List, [], ◌∷◌, ◌++◌, map, length, take, drop, append-nil, append_assoc, inl, inr, ⊎_elim, refl, sym, ap, ◌∙◌, subst, arith}
+use Rattle.std.proofs.lemmas.List.{map-append, length-map, length-drop, length-take-le, take-append-drop, take_all}
+use Rattle.esr_names.specs.declared.blob.BlobName.{BlobName as CodeName}
+use Rattle.esr_names.specs.Layout.{IsName}
+use Rattle.esr_model.specs.Names.{BlobName}
+use Rattle.esr_model.specs.Values.{Has}
+use Rattle.esr_core.specs.World.{Ticket}
+use Rattle.esr_core.specs.Entry.{RemoveDoomed, PruneStep, Moment}
+use Rattle.esr_formats.specs.Names.{name_of}
+use Rattle.esr_reach.specs.Names.{AreOnce}
+use Rattle.esr_reach.specs.Members.{has_left, has_right, has_either, has_map, in_map}
+use Rattle.esr_desk.specs.Start.{Start, ticket_of, world_of}
+use Rattle.esr_desk.specs.Told.{stepped_made}
+use Rattle.esr_deleting.specs.Conditions.{CanRemove}
+use Rattle.esr_deleting.specs.Once.{IsNewRemoval}
+use Rattle.esr_delete.specs.Removed.{MayRemove, Removed, AreNamed}
+
+-- ---- parts of a list
+
+pub has_take : {A : Type 0} (n : ℕ) (xs : List A) (x : A) → Has (take n xs) x → Has xs x
+has_take {A} n xs x has = subst (λ (l : List A). Has l x) (take-append-drop n xs) (has_left (take n xs) (drop n xs) x has)
+
+-- the rest of a list, as a loop cuts it
+abbrev pub rest_of : {A : Type 0} → ℕ → List A → List A
+rest_of n xs = take (length xs - n) (drop n xs)
+
+rest_is : {A : Type 0} (n : ℕ) (xs : List A) → rest_of n xs ≡ drop n xs
+rest_is n xs = take_all (length xs - n) (drop n xs) (omega (arith, length-drop n xs))
+
+parts_are : {A : Type 0} (n : ℕ) (xs : List A) → take n xs ++ rest_of n xs ≡ xs
+parts_are {A} n xs = ap (λ (l : List A). take n xs ++ l) (rest_is n xs) ∙ take-append-drop n xs
+
+-- the names of the parts, one after the other
+names_are : (n : ℕ) (xs : List CodeName) → map name_of xs ≡ map name_of (take n xs) ++ map name_of (rest_of n xs)
+names_are n xs = ap (map name_of) (sym (parts_are n xs)) ∙ map-append name_of (take n xs) (rest_of n xs)
+
+once_rest : {A : Type 0} (xs ys : List A) → AreOnce (xs ++ ys) → AreOnce ys
+once_rest [] ys once = once
+once_rest (x ∷ xs) ys once = once_rest xs ys once.1
+
+once_apart : {A : Type 0} (xs ys : List A) → AreOnce (xs ++ ys) → (y : A) → Has xs y → Has ys y → ⊥
+once_apart [] ys once y none there = none
+once_apart (x ∷ xs) ys once y (inl same) there = once.0 (has_right xs ys x (subst (Has ys) (sym same) there))
+once_apart (x ∷ xs) ys once y (inr later) there = once_apart xs ys once.1 y later there
+
+-- ---- the first of the names
+
+-- they may be removed
+pub can_remove : (s : Start) (log : List Moment) (who : ℕ) (names batch : List CodeName) (n : ℕ) → batch ≡ take n names → 1 ≤ n → n ≤ 1000 → n ≤ length names → MayRemove s (ticket_of s log who) (map name_of names)
+    → IsNewRemoval log who (map name_of names) → CanRemove s log who (map name_of batch)
+can_remove s log who names batch n is some few within may fresh =
+    let each : (name : BlobName) → Has (map name_of batch) name → Has (map name_of names) name =
+    λ name has. let found = has_map name_of batch name has in
+    subst (Has (map name_of names)) found.2 (in_map name_of names found.0 (has_take n names found.0 (subst (λ (l : List CodeName). Has l found.0) is found.1))) in
+    let count : length (map name_of batch) ≡ n = length-map batch name_of ∙ ap (λ (l : List CodeName). length l) is ∙ length-take-le n names within in
+    record {
+      out = may.over.out;
+      settled = may.over.settled;
+      uuids = may.over.uuids;
+      plan = may.over.plan;
+      work = may.over.work;
+      some = omega (arith, count, some);
+      few = omega (arith, count, few);
+      new = λ m has by made was step name mine gone. fresh m has by made was step name (each name mine) gone;
+      doomed = λ tells name mine. may.doomed tells name (each name mine);
+    }
+
+pub batch_layout : (names batch : List CodeName) (n : ℕ) → batch ≡ take n names → ((name : CodeName) → Has names name → IsName name) → (name : CodeName) → Has batch name → IsName name
+batch_layout names batch n is laid name has = laid name (has_take n names name (subst (λ (l : List CodeName). Has l name) is has))
+
+-- ---- the rest of them
+
+same_names : (one other : List BlobName) → PruneStep (RemoveDoomed one) ≡ PruneStep (RemoveDoomed other) → other ≡ one
+same_names one other e = cc
+
+rest_new : (s : Start) (old new : List Moment) (who : ℕ) (names more : List BlobName) → IsNewRemoval old who (names ++ more) → AreOnce (names ++ more) → Removed s old new who names → IsNewRemoval new who more
+rest_new s old new who names more fresh once removed m has by made was is name mine gone =
+    ⊎_elim
+    (λ (before : Has old m). fresh m before by made was is name (has_right names more name mine) gone)
+    (λ (here : m.entry.step ≡ PruneStep (RemoveDoomed names)). once_apart names more once name (subst (λ (l : List BlobName). Has l name) (same_names names was (sym here ∙ is)) gone) mine)
+    (stepped_made s old new who (PruneStep (RemoveDoomed names)) removed.reply m removed.step has by made)
+
+pub still_new : (s : Start) (old new : List Moment) (who : ℕ) (rest : List CodeName) (n : ℕ) → IsNewRemoval old who (map name_of rest) → AreOnce (map name_of rest) → Removed s old new who (map name_of (take n rest)) → IsNewRemoval new who (map name_of (rest_of n rest))
+still_new s old new who rest n fresh once removed =
+    rest_new s old new who (map name_of (take n rest)) (map name_of (rest_of n rest)) (subst (IsNewRemoval old who) (names_are n rest) fresh) (subst AreOnce (names_are n rest) once) removed
+
+pub still_once : (rest : List CodeName) (n : ℕ) → AreOnce (map name_of rest) → AreOnce (map name_of (rest_of n rest))
+still_once rest n once = once_rest (map name_of (take n rest)) (map name_of (rest_of n rest)) (subst AreOnce (names_are n rest) once)
+
+-- what was named so far, and then some more
+pub more_named : (s : Start) (old new : List Moment) (who : ℕ) (front names : List CodeName) → AreNamed s old (map name_of front) → Removed s old new who (map name_of names) → AreNamed s new (map name_of (front ++ names))
+more_named s old new who front names was removed name has =
+    let ns : List BlobName = map name_of names in
+    let before : List BlobName = (world_of s old).removed in
+    subst (λ (l : List BlobName). Has l name) (sym removed.more)
+    (⊎_elim
+    (λ (earlier : Has (map name_of front) name). has_right ns before name (was name earlier))
+    (λ (now : Has ns name). has_left ns before name now)
+    (has_either (map name_of front) ns name (subst (λ (l : List BlobName). Has l name) (map-append name_of front names) has)))
+
+pub whole_more : (all front rest : List CodeName) (n : ℕ) → all ≡ front ++ rest → all ≡ (front ++ take n rest) ++ rest_of n rest
+whole_more all front rest n is = is ∙ ap (λ (l : List CodeName). front ++ l) (sym (parts_are n rest)) ∙ sym (append_assoc front (take n rest) (rest_of n rest))
+
+-- what holds of all names holds of the rest
+pub rest_may : (s : Start) (old new : Ticket) (all front rest : List CodeName) → all ≡ front ++ rest → new ≡ old → MayRemove s old (map name_of all) → MayRemove s new (map name_of rest)
+rest_may s old new all front rest is same may =
+    let each : (name : BlobName) → Has (map name_of rest) name → Has (map name_of all) name =
+    λ name has. let found = has_map name_of rest name has in
+    subst (Has (map name_of all)) found.2 (in_map name_of all found.0 (subst (λ (l : List CodeName). Has l found.0) (sym is) (has_right front rest found.0 found.1))) in
+    subst (λ (t : Ticket). MayRemove s t (map name_of rest)) (sym same) (record { over = may.over; doomed = λ tells name mine. may.doomed tells name (each name mine) })
+
+pub rest_layout : (all front rest : List CodeName) → all ≡ front ++ rest → ((name : CodeName) → Has all name → IsName name) → (name : CodeName) → Has rest name → IsName name
+rest_layout all front rest is laid name has = laid name (subst (λ (l : List CodeName). Has l name) (sym is) (has_right front rest name has))
+
+-- ---- at the end
+
+no_items : {A : Type 0} (xs : List A) → length xs ≡ 0 → xs ≡ []
+no_items [] e = refl
+no_items (x ∷ xs) e = absurd (cc)
+
+pub all_named : (s : Start) (log : List Moment) (all front rest : List CodeName) → all ≡ front ++ rest → length rest ≡ 0 → AreNamed s log (map name_of front) → AreNamed s log (map name_of all)
+all_named s log all front rest is none named = subst (λ (l : List CodeName). AreNamed s log (map name_of l)) (sym (is ∙ ap (λ (l : List CodeName). front ++ l) (no_items rest none) ∙ append-nil front)) named

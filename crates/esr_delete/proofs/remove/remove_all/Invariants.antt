@@ -1,0 +1,28 @@
+use Rattle.std.proofs.Common.{◌≡◌, ◌++◌, List, length, map}
+use Rattle.esr_names.specs.declared.blob.BlobName.{BlobName as CodeName}
+use Rattle.esr_formats.specs.Names.{name_of}
+use Rattle.esr_reach.specs.Names.{AreOnce}
+use Rattle.esr_desk.specs.Start.{ticket_of}
+use Rattle.esr_desk.specs.Grew.{GrewBy}
+use Rattle.esr_deleting.specs.Once.{IsNewRemoval}
+use Rattle.esr_delete.specs.Removed.{AreNamed}
+use Rattle.esr_delete.proofs.remove.remove_all.Given as goal
+
+abbrev pub invariant-loop-rest : goal.invariant-loop-rest
+invariant-loop-rest g l =
+    let s = g.Q.Desk.start in
+    let old = g.Q.Desk.seen l.fn.desk in
+    let now = g.Q.Desk.seen l.desk in
+    record {
+      front : List CodeName;
+      whole : l.fn.names ≡ front ++ l.rest;
+      named : AreNamed s now (map name_of front);
+      once : AreOnce (map name_of l.rest);
+      new : IsNewRemoval now l.ticket (map name_of l.rest);
+      own : ticket_of s now l.ticket ≡ ticket_of s old l.ticket;
+      grew : GrewBy s l.ticket old now;
+      holds : g.Q.Desk.holds l.desk l.ticket;
+    }
+
+abbrev pub decreases-loop-rest : goal.decreases-loop-rest
+decreases-loop-rest g l = length l.rest

@@ -1,0 +1,62 @@
+-- What a delete's ticket has named in its removals, and what it may remove.
+use Rattle.std.specs.Prelude.{◌≡◌, false, ◌⊎◌, ◌↔◌, ℕ, Bool, true, List, ◌++◌, map, Some, Result, Ok, Err}
+use Rattle.esr_names.specs.declared.blob.BlobName.{BlobName as CodeName}
+use Rattle.esr_model.specs.Names.{BlobName}
+use Rattle.esr_model.specs.Values.{Has}
+use Rattle.esr_core.specs.World.{Ticket, Deleting, Swap}
+use Rattle.esr_core.specs.Pruning.{dooms}
+use Rattle.esr_core.specs.Entry.{RemoveDoomed, PruneStep, Reply, Moment}
+use Rattle.esr_formats.specs.Names.{name_of}
+use Rattle.esr_desk.specs.declared.refusal.StepRefusal.{StepRefusal}
+use Rattle.esr_desk.specs.declared.refusal.StepRefusal.TheVariants as steps
+use Rattle.esr_desk.specs.declared.refusal.EntryRefusal.TheVariants.{DepotFault}
+use Rattle.esr_desk.specs.Start.{Start, formats_of, ticket_of, world_of}
+use Rattle.esr_desk.specs.Outcome.{Stepped}
+use Rattle.esr_desk.specs.Once.{WasMade}
+use Rattle.esr_delete.specs.Ticket.{HasNamed}
+
+-- the ticket has made no removal
+abbrev pub NoneRemoved : List Moment → ℕ → Type 0
+NoneRemoved log who = (m : Moment) → Has log m → m.entry.who ≡ who → WasMade m.entry.reply → (was : List BlobName) → m.entry.step ≡ PruneStep (RemoveDoomed was) → ⊥
+
+-- the ticket is out, and has settled its plan
+pub record IsSettledPlan (t : Ticket) : Type 0 where
+  pub out : t.out ≡ true
+  pub settled : t.settled ≡ true
+  pub uuids : List ℕ
+  pub plan : Swap
+  pub work : t.work ≡ Deleting uuids (Some plan)
+
+-- it may remove these names, which it dooms where the container tells
+pub record MayRemove (s : Start) (t : Ticket) (names : List BlobName) : Type 0 where
+  pub over : IsSettledPlan t
+  pub doomed : s.tells ≡ true → (name : BlobName) → Has names name → Has (dooms (formats_of s) t) name
+
+-- these names were named in one removal, whether or not the container failed in it
+pub record Removed (s : Start) (old new : List Moment) (who : ℕ) (names : List BlobName) : Type 0 where
+  pub reply : Reply
+  pub step : Stepped s old new who (PruneStep (RemoveDoomed names)) reply
+  pub more : (world_of s new).removed ≡ names ++ (world_of s old).removed
+
+-- each of these names was named
+abbrev pub AreNamed : Start → List Moment → List BlobName → Type 0
+AreNamed s log names = (name : BlobName) → Has names name → Has (world_of s log).removed name
+
+-- the ticket has ended, and all that it dooms was named before
+pub record IsCleared (s : Start) (old new : List Moment) (who : ℕ) : Type 0 where
+  pub own : ticket_of s new who ≡ record (ticket_of s old who) { out = false }
+  pub named : HasNamed s new who
+
+-- a removal in which the container failed counts as made
+abbrev pub passed_by : Result (Unit {0}) StepRefusal → Result (Unit {0}) StepRefusal
+passed_by (Ok x) = Ok x
+passed_by (Err (steps.Refused DepotFault)) = Ok tt
+passed_by (Err e) = Err e
+
+-- the set has just these names
+abbrev pub IsSetOf : (CodeName → Bool) → List CodeName → Type 0
+IsSetOf has names = (name : CodeName) → (has name ≡ true) ↔ Has (map name_of names) (name_of name)
+
+-- they are the old names, and this one
+abbrev pub IsWith : List CodeName → CodeName → List CodeName → Type 0
+IsWith old x new = (name : CodeName) → Has new name ↔ (Has old name ⊎ (x ≡ name))

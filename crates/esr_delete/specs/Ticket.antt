@@ -1,0 +1,78 @@
+-- What the steps of a delete's ticket make of it.
+use Rattle.std.specs.Prelude.{◌≡◌, ◌⊎◌, ℕ, Bool, true, false, List, [], ◌∷◌, Some, None}
+use Rattle.esr_model.specs.Names.{BlobName, Root}
+use Rattle.esr_model.specs.Values.{Bytes, Has, RootData, Formats}
+use Rattle.esr_model.specs.Delete.{PrunedShard, kept_count}
+use Rattle.esr_core.specs.World.{Ticket, Deleting, Swap, swap}
+use Rattle.esr_core.specs.Entry.{PruneStep, EndDelete, HasEnded, Moment}
+use Rattle.esr_core.specs.Pruning.{AreOfRoot, pruned_shards, delete_swap, dooms}
+use Rattle.esr_desk.specs.Start.{Start, formats_of, ticket_of, world_of}
+use Rattle.esr_desk.specs.Last.{IsLast}
+use Rattle.esr_desk.specs.Taken.{tried}
+use Rattle.esr_finish.specs.Blobs.{root_blob}
+use Rattle.esr_finish.specs.Ticket.{noted_with, Wrote, raised_to}
+use Rattle.esr_delete.specs.Planned.{Notes}
+
+-- a generation was raised, the root committed under it, and `index.latest` tried
+pub record IsRooted (f : Formats) (old new : Ticket) (root : RootData) : Type 0 where
+  pub n : ℕ
+  pub mid : Ticket
+  pub wrote : Wrote (raised_to old n) mid (root_blob f n root ∷ [])
+  pub is : new ≡ tried mid
+
+-- the shard indices of its plan were committed, and then its root so
+pub record HasBlobs (s : Start) (old new : Ticket) : Type 0 where
+  pub change : Swap
+  pub is : swap (formats_of s) old ≡ Some change
+  pub mid : Ticket
+  pub notes : Notes s old mid change.own
+  pub rooted : IsRooted (formats_of s) mid new change.root
+
+-- Over what was read the ticket has planned, and it has done all that goes before the settle: it has noted the shard indices of its
+-- plan and, under the generation that it raised, the root without the snapshots, and has tried `index.latest`. Nothing else of it changed.
+pub record HasWritten (s : Start) (old new : Ticket) : Type 0 where
+  pub uuids : List ℕ
+  pub was : old.work ≡ Deleting uuids None
+  pub blobs : List (BlobName × Bytes)
+  pub read : List (BlobName × Bytes)
+  pub told : s.tells ≡ true → read ≡ blobs
+  pub shards : List PrunedShard
+  pub shards_are : shards ≡ pruned_shards (formats_of s) old.root uuids blobs
+  pub of_root : AreOfRoot old.root shards
+  pub first : ℕ
+  pub change : Swap
+  pub change_is : change ≡ delete_swap (formats_of s) old.root read uuids shards first
+  pub n : ℕ
+  pub wrote : List (BlobName × Bytes)
+  pub from : s.tells ≡ true → (b : BlobName × Bytes) → Has wrote b → Has old.wrote b ⊎ (Has change.own b ⊎ (root_blob (formats_of s) n change.root ≡ b))
+  pub is : new ≡ record old {
+    work = Deleting uuids (Some change);
+    first = first;
+    drawn = kept_count shards;
+    noted = Root n ∷ noted_with change.own old.noted;
+    wrote = wrote;
+    read = read;
+    raised = Some n;
+    tried_latest = true;
+  }
+
+-- and it has settled
+pub record HasSettled (s : Start) (old : Ticket) (out : Bool) (new : Ticket) : Type 0 where
+  pub written : Ticket
+  pub is_written : HasWritten s old written
+  pub is : new ≡ record written { settled = true; out = out }
+
+-- its end was its last step, before which all that its plan dooms was named, where the container tells
+pub record HasNamed (s : Start) (log : List Moment) (who : ℕ) : Type 0 where
+  pub last : IsLast log who (PruneStep EndDelete) HasEnded
+  pub named : s.tells ≡ true → (name : BlobName) → Has (dooms (formats_of s) (ticket_of s last.front who)) name → Has (world_of s last.front).removed name
+
+-- it has settled and ended
+pub record IsOver (s : Start) (old new : List Moment) (who : ℕ) : Type 0 where
+  pub is : ticket_of s new who ≡ record (ticket_of s old who) { settled = true; out = false }
+  pub named : HasNamed s new who
+
+-- the unit has settled on the root without its snapshots, has named all that it dooms, and has ended
+pub record Deleted (s : Start) (old new : List Moment) (who : ℕ) : Type 0 where
+  pub settled : HasSettled s (ticket_of s old who) false (ticket_of s new who)
+  pub named : HasNamed s new who

@@ -1,0 +1,117 @@
+//! The removal of doomed blobs, each once.
+ghost use Rattle.std.specs.Prelude.{◌≡◌, ◌<◌, ◌≤◌, ◌↔◌, length, map, take, true, IfErr, IfOk, OnOk};
+ghost use Rattle.std.specs.BTreeSet.{contains};
+ghost use Rattle.esr_names.specs.declared.blob.BlobName.{BlobName as CodeName};
+ghost use Rattle.esr_names.specs.Layout.{IsName};
+ghost use Rattle.esr_formats.specs.Names.{name_of};
+ghost use Rattle.esr_model.specs.Values.{Has};
+ghost use Rattle.esr_reach.specs.Names.{AreOnce};
+ghost use Rattle.esr_desk.specs.Start.{ticket_of};
+ghost use Rattle.esr_desk.specs.Grew.{GrewBy};
+ghost use Rattle.esr_desk.specs.Halts.{Halts};
+ghost use Rattle.esr_deleting.specs.Once.{IsNewRemoval};
+ghost use Rattle.esr_delete.specs.Removed.{MayRemove, Removed, AreNamed, passed_by, IsSetOf, IsWith};
+
+use esr_deleting::DeleteDesk;
+use esr_desk::{Desk, EntryRefusal, StepRefusal};
+use esr_names::BlobName;
+use esr_seq::Seq;
+use std::alloc::{AllocError, Global};
+use std::collections::BTreeSet;
+
+/// Appends the name, unless it is there.
+fn push_new(
+    there: &mut BTreeSet<BlobName>,
+    once: &mut Seq<BlobName>,
+    name: BlobName,
+) -> Result<(), AllocError>
+    requires set { IsSetOf (contains ⟦<BlobName as Ord>⟧.cmp there.old) once.old }
+    requires once { AreOnce (map name_of once.old) }
+    ensures set { OnOk result (IsSetOf (contains ⟦<BlobName as Ord>⟧.cmp there.new) once.new) }
+    ensures once { OnOk result (AreOnce (map name_of once.new)) }
+    ensures with { OnOk result (IsWith once.old name once.new) }
+{
+    if there.contains(&name) {
+        return Ok(());
+    }
+    there.insert(name)?;
+    once.push(name)?;
+    Ok(())
+}
+
+/// These names, each once.
+pub fn distinct(alloc: Global, names: &[BlobName]) -> Result<Seq<BlobName>, AllocError>
+    ensures same { IfOk result (λ ns. (name : CodeName) → Has ns name ↔ Has names.now name) }
+    ensures once { IfOk result (λ ns. AreOnce (map name_of ns)) }
+{
+    let mut there = BTreeSet::new(alloc);
+    let mut once = Seq::new(alloc);
+    for name in names {
+        push_new(&mut there, &mut once, *name)?;
+    }
+    Ok(once)
+}
+
+/// The answer of a removal, in which the container may have failed.
+fn passed(answer: Result<(), StepRefusal>) -> Result<(), StepRefusal>
+    ensures { result ≡ passed_by answer }
+{
+    match answer {
+        Err(StepRefusal::Refused(EntryRefusal::DepotFault)) => Ok(()),
+        _ => answer,
+    }
+}
+
+/// Takes the first of these blobs away, at most 1,000, and answers how many. Where the container fails in it they stay named.
+fn remove_first<Q: DeleteDesk>(
+    alloc: Global,
+    desk: &mut Q,
+    ticket: u64,
+    names: &[BlobName],
+) -> Result<usize, StepRefusal>
+    requires mine { Q.holds desk.old ticket }
+    requires alone { Q.start.alone ≡ true }
+    requires some { 0 < length names.now }
+    requires layout { (name : CodeName) → Has names.now name → IsName name }
+    requires may { MayRemove Q.start (ticket_of Q.start (Q.seen desk.old) ticket) (map name_of names.now) }
+    requires new { IsNewRemoval (Q.seen desk.old) ticket (map name_of names.now) }
+    ensures some { IfOk result (λ n. 0 < n) }
+    ensures within { IfOk result (λ n. n ≤ length names.now) }
+    ensures removed { IfOk result (λ n. Removed Q.start (Q.seen desk.old) (Q.seen desk.new) ticket (map name_of (take n names.now))) }
+    ensures own { ticket_of Q.start (Q.seen desk.new) ticket ≡ ticket_of Q.start (Q.seen desk.old) ticket }
+    ensures refused { IfErr result (λ e. Halts Q.start (Q.seen desk.new) ticket e) }
+    ensures grew { GrewBy Q.start ticket (Q.seen desk.old) (Q.seen desk.new) }
+    ensures holds { Q.holds desk.new ticket }
+{
+    let count = names.len().min(1000);
+    let batch = Seq::from_slice(alloc, &names[..count])?;
+    passed(desk.remove(alloc, ticket, &batch))?;
+    Ok(count)
+}
+
+/// Takes these blobs away, each in one removal.
+pub fn remove_all<Q: DeleteDesk>(
+    alloc: Global,
+    desk: &mut Q,
+    ticket: u64,
+    names: &[BlobName],
+) -> Result<(), StepRefusal>
+    requires mine { Q.holds desk.old ticket }
+    requires alone { Q.start.alone ≡ true }
+    requires layout { (name : CodeName) → Has names.now name → IsName name }
+    requires once { AreOnce (map name_of names.now) }
+    requires may { MayRemove Q.start (ticket_of Q.start (Q.seen desk.old) ticket) (map name_of names.now) }
+    requires new { IsNewRemoval (Q.seen desk.old) ticket (map name_of names.now) }
+    ensures named { OnOk result (AreNamed Q.start (Q.seen desk.new) (map name_of names.now)) }
+    ensures own { ticket_of Q.start (Q.seen desk.new) ticket ≡ ticket_of Q.start (Q.seen desk.old) ticket }
+    ensures refused { IfErr result (λ e. Halts Q.start (Q.seen desk.new) ticket e) }
+    ensures grew { GrewBy Q.start ticket (Q.seen desk.old) (Q.seen desk.new) }
+    ensures holds { Q.holds desk.new ticket }
+{
+    let mut rest = names;
+    while !rest.is_empty() {
+        let count = remove_first(alloc, desk, ticket, rest)?;
+        rest = &rest[count..];
+    }
+    Ok(())
+}

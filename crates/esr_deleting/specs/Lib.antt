@@ -1,0 +1,4 @@
+pub mod Once
+pub mod Conditions
+pub mod Shown
+pub mod Reports

@@ -1,0 +1,79 @@
+use Rattle.esr_core.specs.Entry.{BeginStep, CommitStep, WasBegun}
+use Rattle.esr_formats.specs.Names.{name_of}
+use Rattle.esr_desk.specs.Start.{ticket_of}
+use Rattle.esr_desk.specs.Outcome.{commit_reply}
+use Rattle.esr_desk.specs.Grew.{outcome_grew_by}
+use Rattle.esr_finish.proofs.Runs.{went_on, worked_to, worked_not, begin_went}
+use Rattle.std.proofs.Common.{◌≡◌, inl, Option, sym, ap, ◌∙◌, subst}
+use Rattle.std.specs.Io.KnownBytes.{append_known}
+use Rattle.esr_model.specs.Values.{Bytes}
+use Rattle.esr_core.specs.World.{Ticket}
+use Rattle.esr_desk.specs.Conditions.{CanCommit}
+use Rattle.esr_finish.proofs.Writing.{on_ok, told_append}
+use Rattle.esr_names.specs.declared.blob.BlobName.{BlobName as CodeName}
+use Rattle.esr_model.specs.Names.{BlobName}
+use Rattle.esr_desk.specs.Outcome.{Stepped}
+use Rattle.esr_desk.specs.Once.{IsNew}
+use Rattle.esr_desk.specs.Taken.{committed_by}
+use Rattle.esr_desk.specs.Told.{begin_new, commit_new, blob_tells}
+use Rattle.esr_finish.proofs.one_blob.put.Goals as goal
+
+pub returns-in_err-named-clause-went : goal.returns-in_err-named-clause-went
+returns-in_err-named-clause-went g c =
+    let seen = g.Q.Desk.seen in
+    begin_went g.Q.Desk.start (seen c.args.desk.now) (seen c.begin.new.self) c.args.ticket (name_of c.args.name) c.begin.result c.begin.ensures.step c.begin.ensures.own
+
+pub returns-in_err-commit-clause-went : goal.returns-in_err-commit-clause-went
+returns-in_err-commit-clause-went g c =
+    let s = g.Q.Desk.start in
+    let old = g.Q.Desk.seen c.args.desk.now in
+    let mid = g.Q.Desk.seen c.begin.new.self in
+    let new = g.Q.Desk.seen c.commit.new.self in
+    let who = c.args.ticket in
+    let t0 = ticket_of s old who in
+    let t1 = ticket_of s mid who in
+    let t2 = ticket_of s new who in
+    went_on s old mid new who
+    (record { grew = outcome_grew_by s old mid who (BeginStep (name_of c.args.name)) (λ stage. WasBegun) c.begin.result c.begin.ensures.step; worked = worked_to t0 t0 t1 (worked_not t0) c.in_ok-named.ensures.own })
+    (record { grew = outcome_grew_by s mid new who (CommitStep (name_of c.in_ok-named.named.name)) commit_reply c.commit.result c.commit.ensures.step; worked = worked_to t1 t1 t2 (worked_not t1) c.in_err-commit.ensures.kept })
+
+pub begin-requires-clause-may : goal.begin-requires-clause-may
+begin-requires-clause-may g c = inl (c.requires.may.0, c.requires.may.2)
+
+pub commit-requires-clause-may : goal.commit-requires-clause-may
+commit-requires-clause-may g c =
+    let s = g.Q.Desk.start in
+    let who = c.args.ticket in
+    let told = c.requires.may.0 in
+    let named = c.in_ok-named.named in
+    let t0 = ticket_of s (g.Q.Desk.seen c.args.desk.now) who in (
+      told,
+      on_ok c.write.result _ (sym c.is_err.ensures.value ∙ c.if-is_err.false) c.write.ensures.written ∙ ap (λ (o : Option Bytes). append_known o c.args.bytes.now) c.in_ok-named.ensures.contents ∙ told_append s c.args.bytes.now ∙ c.requires.may.1,
+      subst (λ (t : Ticket). CanCommit s t (name_of named.name) told) (sym c.in_ok-named.ensures.own) (subst (λ (n : CodeName). CanCommit s t0 (name_of n) told) (sym c.in_ok-named.ensures.name) c.requires.may.2),
+    )
+
+pub begin-requires-clause-new : goal.begin-requires-clause-new
+begin-requires-clause-new g c = begin_new g.Q.Desk.start (g.Q.Desk.seen c.args.desk.now) c.args.ticket (name_of c.args.name) c.requires.tells c.requires.may.2.stored c.requires.new
+
+pub commit-requires-clause-new : goal.commit-requires-clause-new
+commit-requires-clause-new g c =
+    let s = g.Q.Desk.start in
+    let mid = g.Q.Desk.seen c.begin.new.self in
+    let who = c.args.ticket in
+    subst (λ (n : CodeName). IsNew mid who (CommitStep (name_of n))) (sym c.in_ok-named.ensures.name)
+    (commit_new s (g.Q.Desk.seen c.args.desk.now) mid who (name_of c.args.name) c.requires.tells c.requires.new c.in_ok-named.ensures.step)
+
+pub returns-clause-tells : goal.returns-clause-tells
+returns-clause-tells g c =
+    let s = g.Q.Desk.start in
+    let old = g.Q.Desk.seen c.args.desk.now in
+    let mid = g.Q.Desk.seen c.begin.new.self in
+    let new = g.Q.Desk.seen c.commit.new.self in
+    let who = c.args.ticket in
+    let name = name_of c.args.name in
+    let contents = g.Q.Stage.Stage.contents c.write.new.self in
+    let is = ap name_of c.in_ok-named.ensures.name in
+    let done = c.in_ok-commit.field-0 in
+    blob_tells s old mid new who name contents done c.requires.tells c.requires.may.2.stored c.in_ok-named.ensures.step c.in_ok-named.ensures.own
+    (subst (λ (n : BlobName). Stepped s mid new who (CommitStep n) (commit_reply done)) is c.in_ok-commit.ensures.step)
+    (subst (λ (n : BlobName). ticket_of s new who ≡ committed_by n contents done (ticket_of s mid who)) is c.in_ok-commit.ensures.own)

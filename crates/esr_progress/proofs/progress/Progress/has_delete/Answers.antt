@@ -1,0 +1,14 @@
+use Rattle.std.proofs.Common.{ℕ, eqb, ap, ◌∙◌}
+use Rattle.std.specs.Prelude.{is_some}
+use Rattle.std.specs.List.{position}
+use Rattle.std.specs.FinMap as fin
+use Rattle.esr_core.specs.World.{Deletion}
+use Rattle.esr_progress.specs.Plan.{Plan}
+use Rattle.esr_progress.proofs.Changing.{has_delete_is}
+use Rattle.esr_progress.proofs.progress.Progress.has_delete.Goals as goal
+
+pub returns : goal.returns
+returns c =
+    c.is_some.ensures
+    ∙ has_delete_is c.self.inside.deletes.items c.args.number c.delete_place.result (c.delete_place.ensures ∙ ap (position (λ (e : ℕ × Deletion). eqb e.0 c.args.number)) c.deref.ensures.value)
+    ∙ ap (λ (p : Plan). is_some (fin.get p.deletes c.args.number)) c.self.view_is

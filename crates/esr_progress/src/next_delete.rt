@@ -1,0 +1,103 @@
+//! Which unit of a delete is ready.
+ghost use Rattle.std.specs.Prelude.{◌≡◌, ◌<◌, ◌^◌, ℕ, false, Some, nat_lt, position, IfOk};
+ghost use Rattle.std.specs.FinMap as fin;
+ghost use Rattle.std.specs.List.{list_any};
+ghost use Rattle.esr_core.specs.World.{World, Deletion};
+ghost use Rattle.esr_formats.specs.Roots.{root_of};
+ghost use Rattle.esr_formats.specs.Clusters.{count_of};
+ghost use Rattle.esr_progress.specs.Plan.{IsGivenIn, IsPlanOf};
+ghost use Rattle.esr_progress.specs.Units.{HasDeleteReady, IsLowest, LowestUnit};
+ghost use Rattle.esr_progress.specs.Choice.{barred, delete_ready};
+
+use crate::ready::copy_ops;
+use crate::seats::{swap_is_out, unit_is_out};
+use crate::unit::Slot;
+use crate::{Copied, OpenDelete, OpenOp, Progress, ReadyUnit};
+use esr_root::RootData;
+use std::alloc::{AllocError, Global};
+
+impl Progress {
+    /// The number of the lowest delete of which a unit is ready.
+    pub(crate) fn ready_delete(&self, term: u64) -> Option<u64>
+        requires no_cleanup { (d : ℕ) (x : Deletion) → fin.get self.now.deletes d ≡ Some x → x.clean ≡ false }
+        ensures { (w : World) → IsPlanOf w self.now → w.term ≡ term → IsLowest (HasDeleteReady w) result }
+    {
+        let Some(at) = find_delete(&self.ops, &self.deletes, &self.seats, term) else {
+            return None;
+        };
+        Some(self.deletes[at].number())
+    }
+
+    /// The ready unit of the lowest delete.
+    pub(crate) fn delete_unit(
+        &self,
+        alloc: Global,
+        root: &RootData,
+        safe: i64,
+        term: u64,
+    ) -> Result<Option<(Progress, ReadyUnit)>, AllocError>
+        requires no_cleanup { (d : ℕ) (x : Deletion) → fin.get self.now.deletes d ≡ Some x → x.clean ≡ false }
+        requires room { self.now.next_ticket < 2 ^ 62 }
+        ensures { IfOk result (λ o. (w : World) → IsGivenIn self.now (root_of root.now) (count_of safe) term w → LowestUnit (HasDeleteReady w) w o) }
+    {
+        let Some(at) = find_delete(&self.ops, &self.deletes, &self.seats, term) else {
+            return Ok(None);
+        };
+        let delete = &self.deletes[at];
+        let ticket = self.seats.len() as u64 + 1;
+        let unit = ReadyUnit {
+            ticket,
+            op: delete.number(),
+            work: delete.work(alloc)?,
+            copy: Copied {
+                safe,
+                root: root.try_clone(alloc)?,
+                base: None,
+            },
+        };
+        let ops = copy_ops(alloc, &self.ops)?;
+        Ok(Some((
+            self.with_seat(alloc, ops, delete.kind(), unit.op, term)?,
+            unit,
+        )))
+    }
+}
+
+/// The first delete of which a unit is ready, by its place.
+fn find_delete(ops: &[OpenOp], deletes: &[OpenDelete], seats: &[Slot], term: u64) -> Option<usize>
+    ensures { result ≡ position (delete_ready ops.now deletes.now seats.now term) deletes.now }
+{
+    deletes
+        .iter()
+        .position(|delete| delete_ready(ops, deletes, seats, term, delete))
+}
+
+/// Whether a unit of the delete is ready: that it leaves where it failed, else its own.
+fn delete_ready(
+    ops: &[OpenOp],
+    deletes: &[OpenDelete],
+    seats: &[Slot],
+    term: u64,
+    delete: &OpenDelete,
+) -> bool
+    ensures { result ≡ delete_ready ops.now deletes.now seats.now term delete.now }
+{
+    if delete.has_failed() {
+        return !unit_is_out(seats, term, delete.number());
+    }
+    !barred(deletes, delete.number()) && !precede(ops, delete.number()) && !swap_is_out(seats, term)
+}
+
+/// Whether an open delete has a number below this one.
+pub(crate) fn barred(deletes: &[OpenDelete], number: u64) -> bool
+    ensures { result ≡ barred deletes.now number }
+{
+    deletes.iter().any(|delete| delete.number() < number)
+}
+
+/// Whether an open op has a number below this one.
+fn precede(ops: &[OpenOp], number: u64) -> bool
+    ensures { result ≡ list_any (λ e. nat_lt e.0 number) ops.now }
+{
+    ops.iter().any(|op| op.number() < number)
+}

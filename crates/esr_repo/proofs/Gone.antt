@@ -1,0 +1,279 @@
+-- What a step leaves of the plans of deletes, and that what deletes took away stays gone.
+use Rattle.std.proofs.Common.{◌≡◌, ◌≢◌, ◌⊎◌, ℕ, ◌<◌, ◌≤◌, Bool, true, false, List, ◌∷◌, [], ◌++◌, Option, Some, None, refl, sym, ap, ◌∙◌, subst, inl, inr, arith}
+use Rattle.std.specs.Prelude.{if◌then◌else◌}
+use Rattle.std.specs.FinMap as fin
+use Rattle.esr_model.specs.Names.{BlobName, Snap, File, Part}
+use Rattle.esr_model.specs.Values.{Bytes, Has, RootSnap, RootData, SnapInfo, FileEntry, ShardResult, Formats}
+use Rattle.esr_model.specs.Shelf.{Shelved, names_uuid}
+use Rattle.esr_model.specs.Image.{Image}
+use Rattle.esr_model.specs.Parts.{part_names}
+use Rattle.esr_model.specs.Finalize.{finalized_root}
+use Rattle.esr_model.specs.Delete.{PrunedShard, left_snaps, left_root, deleted_root, doomed_names}
+use Rattle.esr_core.specs.World.{World, Op, Work, Finalize, Deleting, Swap, Ticket, info_of, record_of}
+use Rattle.esr_core.specs.Pruning.{doomed_by, dooms}
+use Rattle.esr_core.specs.Entry.{Prune, Step, PruneStep, Reply, Moment}
+use Rattle.esr_core.specs.After.{settled_of, delete_settled_by, delete_settled, has_text, fallen, answered, after}
+use Rattle.esr_core.specs.Allowed.{Settles, SettlesDeletion, PruneAllows, SettlingDelete, SettleDeleteStale, SettleDeleteFails, Allows, Allowed}
+use Rattle.esr_core.specs.Allowed as allowed
+use Rattle.esr_core.specs.Tracked.{FinalTracked, DeleteTracked, Tracked}
+use Rattle.esr_core.proofs.Reading.{some_same, none_some, Has-append}
+use Rattle.esr_core.proofs.Results.{choose_true, choose_false}
+use Rattle.esr_core.proofs.Deleting.{bool_told, left_has}
+use Rattle.esr_core.proofs.DeletedRoots.{renewed_snapshots}
+use Rattle.esr_core.proofs.DoomedNames.{IsDoomed, TheRoot, ASnap, AMeta, AnIndexMeta, AnIndex, AList, APart, doomed_is}
+use Rattle.esr_core.proofs.Pieces.{in_parts}
+use Rattle.esr_repo.specs.Repo.{PlannedBy, OwnIndices, TookAway, IsPast, Gone}
+use Rattle.esr_repo.proofs.Coming.{Came, WasGiven, Stayed, HasPlanned, HasSettled, DeletesCome}
+use Rattle.esr_repo.proofs.Frames.{Frame, frame_settled, frame_pruned, frame_answered}
+use Rattle.esr_repo.proofs.InfosStay.{finalized, settled_root, root_step}
+
+-- ---- the plans
+
+pub own_step : (settles : Option ℕ) (w new : World) → DeletesCome settles w.tickets new.tickets → OwnIndices w → OwnIndices new
+own_step settles w new come own k v uuids s there work = go (come k v uuids (Some s) there work)
+  where
+    go : Came settles w.tickets k v uuids (Some s) → PlannedBy v.root uuids s
+    go (WasGiven none unsettled) = absurd (none_some s (sym none))
+    go (Stayed t is same root settled) = subst (λ (r : RootData). PlannedBy r uuids s) (sym root) (own k t uuids s is same)
+    go (HasPlanned t before is same root settled made) = made s refl
+    go (HasSettled mine t is same root) = subst (λ (r : RootData). PlannedBy r uuids s) (sym root) (own k t uuids s is same)
+
+-- ---- what is left of a root
+
+left_unnamed : (uuids : List ℕ) (snaps : List RootSnap) (s : RootSnap) → Has (left_snaps uuids snaps) s → names_uuid uuids s.uuid ≡ false
+left_unnamed uuids [] s m = absurd m
+left_unnamed uuids (x ∷ snaps) s m = elim (bool_told (names_uuid uuids x.uuid)) [
+  | inl b ↦ left_unnamed uuids snaps s (subst (λ (l : List RootSnap). Has l s) (choose_true _ _ _ b) m)
+  | inr b ↦ elim (subst (λ (l : List RootSnap). Has l s) (choose_false _ _ _ b) m) [ inl e ↦ ap (λ (y : RootSnap). names_uuid uuids y.uuid) (sym e) ∙ b | inr later ↦ left_unnamed uuids snaps s later ]
+]
+
+deleted_snaps : (root : RootData) (uuids : List ℕ) (shards : List PrunedShard) (first : ℕ) → (deleted_root root uuids shards first).snapshots ≡ left_snaps uuids root.snapshots
+unfolding deleted_root
+deleted_snaps root uuids shards first = renewed_snapshots shards first (left_root root uuids)
+
+pub planned_snaps : (root : RootData) (uuids : List ℕ) (s : Swap) → PlannedBy root uuids s → s.root.snapshots ≡ left_snaps uuids root.snapshots
+planned_snaps root uuids s p = ap (λ (r : RootData). r.snapshots) p.root_is ∙ deleted_snaps root uuids p.shards p.first
+
+-- ---- a uuid that is past
+
+not_low : (a next uuid : ℕ) → uuid < next → next ≤ a → a ≢ uuid
+not_low a next uuid low high e = absurd (omega (arith, low, high, e))
+
+lower : (a b c : ℕ) → a < b → b ≤ c → a < c
+lower a b c low high = omega (arith, low, high)
+
+past_by : (settles : Option ℕ) (w new : World) → Frame settles w new → Tracked w → (uuid : ℕ) → uuid < w.next_id → ((o : ℕ) (op : Op) → fin.get w.ops o ≡ Some op → op.uuid ≢ uuid) → ((snap : RootSnap) → Has new.root.snapshots snap → snap.uuid ≢ uuid)
+    → IsPast new.root new.ops new.next_id uuid
+past_by settles w new frame tracked uuid below unopened unlisted =
+    record {
+      below = lower uuid w.next_id new.next_id below (frame.next tracked.in_term);
+      unlisted = unlisted;
+      unopened = λ o op there. elim (frame.uuids o op there) [
+        | inl e ↦ let (p, q, is, same) = e in λ mine. unopened p q is (same ∙ mine)
+        | inr high ↦ not_low op.uuid w.next_id uuid below high
+      ];
+    }
+
+not_both : (b : Bool) → b ≡ true → b ≡ false → ⊥
+not_both b p q = cc
+
+-- it was taken away before, but where the step settles
+away_by : (settles : Option ℕ) (w : World) (uuid : ℕ) (v : Ticket) (k : ℕ) (uuids : List ℕ) (plan : Option Swap) (t : Ticket) (before : Option Swap) → fin.get w.tickets k ≡ Some t → t.work ≡ Deleting uuids before → v.root ≡ t.root → t.settled ≡ true
+    → (snap : RootSnap) → Has v.root.snapshots snap → names_uuid uuids snap.uuid ≡ true → snap.uuid ≡ uuid → TookAway w.tickets uuid
+away_by settles w uuid v k uuids plan t before there work root settled snap was named is =
+    record { k = k; t = t; uuids = uuids; plan = before; there = there; settled = settled; work = work; snap = snap; was = subst (λ (r : RootData). Has r.snapshots snap) root was; named = named; is = is }
+
+-- the ticket that settled took it away just now
+pub record Settled (settles : Option ℕ) (w : World) (uuid : ℕ) : Type 0 where
+  pub k : ℕ
+  pub mine : settles ≡ Some k
+  pub t : Ticket
+  pub there : fin.get w.tickets k ≡ Some t
+  pub uuids : List ℕ
+  pub plan : Option Swap
+  pub work : t.work ≡ Deleting uuids plan
+  pub snap : RootSnap
+  pub was : Has t.root.snapshots snap
+  pub named : names_uuid uuids snap.uuid ≡ true
+  pub is : snap.uuid ≡ uuid
+
+away_was : (settles : Option ℕ) (w new : World) → DeletesCome settles w.tickets new.tickets → (uuid : ℕ) → TookAway new.tickets uuid → TookAway w.tickets uuid ⊎ Settled settles w uuid
+away_was settles w new come uuid a = go (come a.k a.t a.uuids a.plan a.there a.work)
+  where
+    go : Came settles w.tickets a.k a.t a.uuids a.plan → TookAway w.tickets uuid ⊎ Settled settles w uuid
+    go (WasGiven none unsettled) = absurd (not_both a.t.settled a.settled unsettled)
+    go (Stayed t there work root settled) = inl (away_by settles w uuid a.t a.k a.uuids a.plan t a.plan there work root (sym settled ∙ a.settled) a.snap a.was a.named a.is)
+    go (HasPlanned t before there work root settled made) = inl (away_by settles w uuid a.t a.k a.uuids a.plan t before there work root (sym settled ∙ a.settled) a.snap a.was a.named a.is)
+    go (HasSettled mine t there work root) =
+        inr (record { k = a.k; mine = mine; t = t; there = there; uuids = a.uuids; plan = a.plan; work = work; snap = a.snap; was = subst (λ (r : RootData). Has r.snapshots a.snap) root a.was; named = a.named; is = a.is })
+
+none_settled : (w : World) (uuid : ℕ) → Settled None w uuid → ⊥
+none_settled w uuid s = none_some s.k s.mine
+
+-- ---- over a step that settles nothing
+
+gone_by : (w new : World) → Frame None w new → Tracked w → new.root ≡ w.root → Gone w → Gone new
+gone_by w new frame tracked root gone uuid a = elim (away_was None w new frame.come uuid a) [
+  | inl before ↦ let h = gone uuid before in past_by None w new frame tracked uuid h.below h.unopened (λ snap m. h.unlisted snap (subst (λ (r : RootData). Has r.snapshots snap) root m))
+  | inr now ↦ absurd (none_settled w uuid now)
+]
+
+-- ---- over the settle of a finalization
+
+final_is : (info : SnapInfo) (results : List ShardResult) (made : Shelved) (uuids : List ℕ) (plan : Option Swap) → Finalize info results made ≡ Deleting uuids plan → ⊥
+final_is info results made uuids plan e = cc
+
+some_number : (a b : ℕ) → Some a ≡ Some b → a ≡ b
+some_number a b e = cc
+
+-- it is of the ticket that settles
+settled_ticket : (w : World) (k : ℕ) (t : Ticket) (uuid : ℕ) → fin.get w.tickets k ≡ Some t → (s : Settled (Some k) w uuid) → s.t ≡ t
+settled_ticket w k t uuid there s = some_same s.t t (sym s.there ∙ ap (fin.get w.tickets) (sym (some_number k s.k s.mine)) ∙ there)
+
+module _ (f : Formats) (w : World) (k : ℕ) (tracked : Tracked w) (gone : Gone w) where
+  module _ (s : Settles f w k) where
+    law : FinalTracked w.root w.ops s.t s.info s.results
+    law = tracked.finals k s.t s.info s.results s.made s.may.out.there s.may.out.out s.may.unsettled s.present s.work
+
+    abbrev settled : World
+    settled = settled_of f w k (fin.get w.tickets k)
+
+    abbrev add : RootSnap
+    add = record { name = law.op.name; uuid = law.op.uuid; state = 1 }
+
+    new_root : settled.root ≡ finalized_root w.root (info_of law.op s.results) s.results
+    new_root =
+        ap (λ (o : Option Ticket). (settled_of f w k o).root) s.may.out.there
+        ∙ settled_root f w k s.n s.t s.info s.results s.made s.work s.may.raised
+        ∙ (λ j. finalized_root (law.root_is j) (law.info_is j) s.results)
+
+    new_snaps : settled.root.snapshots ≡ w.root.snapshots ++ add ∷ []
+    new_snaps = ap (λ (r : RootData). r.snapshots) new_root ∙ (finalized w.root w.ops w.next_id s.t.op law.op s.results tracked.named law.op_there law.done).snapshots
+
+    pub gone_final : Gone settled
+    gone_final uuid a = elim (away_was (Some k) w settled (frame_settled f w k (fin.get w.tickets k) refl).come uuid a) [
+      | inl before ↦
+          let h = gone uuid before in
+          past_by (Some k) w settled (frame_settled f w k (fin.get w.tickets k) refl) tracked uuid h.below h.unopened
+          (λ snap m. elim (Has-append w.root.snapshots add snap (subst (λ (xs : List RootSnap). Has xs snap) new_snaps m)) [
+            | inl old ↦ h.unlisted snap old
+            | inr e ↦ λ same. h.unopened s.t.op law.op law.op_there (ap (λ (x : RootSnap). x.uuid) e ∙ same)
+          ])
+      | inr now ↦
+          let one : now.t ≡ s.t = settled_ticket w k s.t uuid s.may.out.there now in
+          absurd (final_is s.info s.results s.made now.uuids now.plan (sym s.work ∙ ap (λ (x : Ticket). x.work) (sym one) ∙ now.work))
+    ]
+
+  -- ---- over the settle of a delete
+
+  module _ (own : OwnIndices w) (s : SettlesDeletion f w k) (present : s.t.term ≡ w.term) where
+    delete_law : DeleteTracked w.root w.deletes w.next_id s.t (Some s.s)
+    delete_law = tracked.deleting k s.t s.uuids (Some s.s) s.deleting.out.there s.deleting.out.out s.may.unsettled present s.deleting.work
+
+    abbrev pruned : World
+    pruned = delete_settled f w k (fin.get w.tickets k)
+
+    left_is : pruned.root.snapshots ≡ left_snaps s.uuids w.root.snapshots
+    left_is =
+        ap (λ (o : Option Ticket). (delete_settled f w k o).root.snapshots) s.may.out.there
+        ∙ ap (λ (o : Option Swap). (delete_settled_by f w k s.t o s.t.raised).root.snapshots) s.may.is
+        ∙ ap (λ (n : Option ℕ). (delete_settled_by f w k s.t (Some s.s) n).root.snapshots) s.may.raised
+        ∙ planned_snaps s.t.root s.uuids s.s (own k s.t s.uuids s.s s.deleting.out.there s.deleting.work)
+        ∙ ap (λ (r : RootData). left_snaps s.uuids r.snapshots) delete_law.root_is
+
+    was_listed : (snap : RootSnap) → Has pruned.root.snapshots snap → Has w.root.snapshots snap
+    was_listed snap m = left_has s.uuids w.root.snapshots snap (subst (λ (xs : List RootSnap). Has xs snap) left_is m)
+
+    is_left : (snap : RootSnap) → Has pruned.root.snapshots snap → names_uuid s.uuids snap.uuid ≡ false
+    is_left snap m = left_unnamed s.uuids w.root.snapshots snap (subst (λ (xs : List RootSnap). Has xs snap) left_is m)
+
+    uuids_same : (us uuids : List ℕ) (p plan : Option Swap) → Deleting us p ≡ Deleting uuids plan → us ≡ uuids
+    uuids_same us uuids p plan e = cc
+
+    -- what it named
+    gone_now : (uuid : ℕ) → Settled (Some k) w uuid → IsPast pruned.root pruned.ops pruned.next_id uuid
+    gone_now uuid now =
+        let one : now.t ≡ s.t = settled_ticket w k s.t uuid s.may.out.there now in
+        let uuids : now.uuids ≡ s.uuids = uuids_same now.uuids s.uuids now.plan (Some s.s) (sym now.work ∙ ap (λ (x : Ticket). x.work) one ∙ s.deleting.work) in
+        let was : Has w.root.snapshots now.snap = subst (λ (r : RootData). Has r.snapshots now.snap) (ap (λ (x : Ticket). x.root) one ∙ delete_law.root_is) now.was in
+        let named : names_uuid s.uuids uuid ≡ true = sym (λ j. names_uuid (uuids j) (now.is j)) ∙ now.named in
+        let below : uuid < w.next_id = subst (λ (n : ℕ). n < w.next_id) now.is (tracked.named.root_below.snapshots now.snap was) in
+        past_by (Some k) w pruned (frame_pruned f w k (fin.get w.tickets k) refl) tracked uuid below
+        (λ o op there same. (tracked.named.unlisted o op now.snap there was).1 (now.is ∙ sym same))
+        (λ snap m same. not_both (names_uuid s.uuids uuid) named (ap (names_uuid s.uuids) (sym same) ∙ is_left snap m))
+
+    pub gone_pruned : Gone pruned
+    gone_pruned uuid a = elim (away_was (Some k) w pruned (frame_pruned f w k (fin.get w.tickets k) refl).come uuid a) [
+      | inl before ↦ let h = gone uuid before in past_by (Some k) w pruned (frame_pruned f w k (fin.get w.tickets k) refl) tracked uuid h.below h.unopened (λ snap m. h.unlisted snap (was_listed snap m))
+      | inr now ↦ gone_now uuid now
+    ]
+
+-- ---- over each step
+
+gone_either : (a b : World) (first : Bool) → Gone a → Gone b → Gone (if first then a else b)
+gone_either a b true p q = p
+gone_either a b false p q = q
+
+gone_fallen : (f : Formats) (w up : World) (image : Option Image) → Gone w → Gone up → Gone (fallen f w up image)
+gone_fallen f w up image p q = gone_either up w (has_text image (f.cluster.text (record_of up))) q p
+
+module _ (f : Formats) (size : ℕ) (w : World) (tracked : Tracked w) (own : OwnIndices w) (gone : Gone w) where
+  abbrev moment : ℕ → Step → Reply → Option Image → Moment
+  moment who step reply image = record { entry = record { who = who; step = step; reply = reply }; image = image }
+
+  gone_prune : (who : ℕ) (prune : Prune) (reply : Reply) (image : Option Image) → PruneAllows f w who prune reply image → Gone (answered f w who (PruneStep prune) reply image)
+  gone_prune who prune reply image (SettlingDelete k im s present same) = gone_pruned f w k tracked gone own s present
+  gone_prune who prune reply image (SettleDeleteStale k im s apart same) = gone
+  gone_prune who prune reply image (SettleDeleteFails k im s present same) = gone_fallen f w (delete_settled f w k (fin.get w.tickets k)) im gone (gone_pruned f w k tracked gone own s present)
+  gone_prune who prune reply image other =
+      gone_by w (answered f w who (PruneStep prune) reply image) (frame_answered f w who (PruneStep prune) reply image) tracked (root_step f w (moment who (PruneStep prune) reply image) tracked tt) gone
+
+  gone_answered : (who : ℕ) (step : Step) (reply : Reply) (image : Option Image) → Allows f size w who step reply image → Gone (answered f w who step reply image)
+  gone_answered who step reply image (allowed.Settling k im s same) = gone_final f w k tracked gone s
+  gone_answered who step reply image (allowed.SettleStale k n t s im may stale same) = gone
+  gone_answered who step reply image (allowed.SettleFails k im s same) = gone_fallen f w (settled_of f w k (fin.get w.tickets k)) im gone (gone_final f w k tracked gone s)
+  gone_answered who step reply image (allowed.Pruning k prune r im p) = gone_prune k prune r im p
+  gone_answered who step reply image other = gone_by w (answered f w who step reply image) (frame_answered f w who step reply image) tracked (root_step f w (moment who step reply image) tracked tt) gone
+
+  pub gone_step : (m : Moment) → Allowed f size w m → Gone (after f w m)
+  gone_step m a = elim a.answered [
+    | inl alive ↦ gone_answered m.entry.who m.entry.step m.entry.reply m.image alive.1
+    | inr dead ↦ subst (λ (r : Reply). Gone (answered f w m.entry.who m.entry.step r m.image)) (sym dead.refused) gone
+  ]
+
+-- ---- the infos among what a delete dooms
+
+snap_uuid : (u v : ℕ) → Snap u ≡ Snap v → u ≡ v
+snap_uuid u v e = cc
+
+-- the info of a snapshot is doomed where its delete named the snapshot
+pub snap_doomed : (f : Formats) (safe : ℕ) (old new : RootData) (uuids : List ℕ) (read : List (BlobName × Bytes)) (uuid : ℕ) → Has (doomed_names f safe old new uuids read) (Snap uuid)
+    → (snap : RootSnap) × Has old.snapshots snap × (names_uuid uuids snap.uuid ≡ true) × (snap.uuid ≡ uuid)
+snap_doomed f safe old new uuids read uuid m = go (Snap uuid) (doomed_is f safe old new uuids read (Snap uuid) m) refl
+  where
+    no_part : (i k : ℕ) (e : FileEntry) (name : BlobName) → Has (part_names i k e) name → name ≡ Snap uuid → ⊥
+    no_part i k e name part is = elim (in_parts i k e name part) [ inl h ↦ file_snap i k e.name (sym h ∙ is) | inr h ↦ part_snap i k e.name h.0 (sym h.1 ∙ is) ]
+      where
+        file_snap : (i k x : ℕ) → File i k x ≡ Snap uuid → ⊥
+        file_snap i k x q = cc
+
+        part_snap : (i k x p : ℕ) → Part i k x p ≡ Snap uuid → ⊥
+        part_snap i k x p q = cc
+
+    go : (name : BlobName) → IsDoomed f safe old new uuids read name → name ≡ Snap uuid → (snap : RootSnap) × Has old.snapshots snap × (names_uuid uuids snap.uuid ≡ true) × (snap.uuid ≡ uuid)
+    go name (TheRoot n is) e = absurd (cc)
+    go name (ASnap s there named) e = (s, there, named, snap_uuid s.uuid uuid e)
+    go name (AMeta s there named) e = absurd (cc)
+    go name (AnIndexMeta x u there has named) e = absurd (cc)
+    go name (AnIndex p is) e = absurd (cc)
+    go name (AList p was l is reads has listed left) e = absurd (cc)
+    go name (APart p was file part is reads has fresh in_it) e = absurd (no_part p.index p.number file part in_it e)
+
+dooms_named : (f : Formats) (t : Ticket) (uuids : List ℕ) (s : Swap) (uuid : ℕ) → t.work ≡ Deleting uuids (Some s) → Has (dooms f t) (Snap uuid) → (snap : RootSnap) × Has t.root.snapshots snap × (names_uuid uuids snap.uuid ≡ true) × (snap.uuid ≡ uuid)
+dooms_named f t uuids s uuid work m = snap_doomed f t.safe t.root s.root uuids t.read uuid (subst (λ (x : Work). Has (doomed_by f t x) (Snap uuid)) work m)
+
+-- so it is of none that is listed
+pub info_spared : (f : Formats) (w : World) (k : ℕ) (t : Ticket) (uuids : List ℕ) (s : Swap) (snap : RootSnap) → Gone w → fin.get w.tickets k ≡ Some t → t.settled ≡ true → t.work ≡ Deleting uuids (Some s) → Has w.root.snapshots snap → Has (dooms f t) (Snap snap.uuid) → ⊥
+info_spared f w k t uuids s snap gone there settled work listed m =
+    let (x, was, named, is) = dooms_named f t uuids s snap.uuid work m in
+    (gone snap.uuid (record { k = k; t = t; uuids = uuids; plan = Some s; there = there; settled = settled; work = work; snap = x; was = was; named = named; is = is })).unlisted snap listed refl

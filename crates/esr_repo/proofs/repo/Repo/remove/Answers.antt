@@ -1,0 +1,29 @@
+use Rattle.std.proofs.Common.{List, map, rules, sym, subst}
+use Rattle.esr_core.specs.Entry.{PruneStep, RemoveDoomed}
+use Rattle.esr_names.specs.declared.blob.BlobName.{BlobName as CodeName}
+use Rattle.esr_formats.specs.Names.{name_of}
+use Rattle.esr_desk.specs.Entries.{step_of}
+use Rattle.esr_core.specs.Entry.{Step}
+use Rattle.esr_repo.specs.May.{MayRemove}
+use Rattle.esr_repo.proofs.DeleteTickets.{remove_kept, removed_named, removes_from}
+use Rattle.esr_repo.proofs.DeleteMays.{may_remove_doomed}
+use Rattle.esr_repo.proofs.repo.Repo.remove.Goals as goal
+
+pub call_remove-requires-clause-may : goal.call_remove-requires-clause-may
+call_remove-requires-clause-may g c =
+    let s = g.K.Told.start in
+    let may = may_remove_doomed s c.args.self.now c.check.new.self c.args.ticket (map name_of c.args.names.now) c.in_ok-check.ensures.step.0 c.rules.ensures.no_cleanups c.requires.may in
+    subst (λ (step : Step). MayRemove s c.check.new.self c.args.ticket step (map name_of c.as_slice.result.now)) (sym c.in_ok-step.ensures)
+    (subst (λ (names : List CodeName). MayRemove s c.check.new.self c.args.ticket (PruneStep (RemoveDoomed (map name_of c.args.names.now))) (map name_of names)) (sym c.as_slice.ensures) may)
+
+pub returns-in_err-check-clause-removed : goal.returns-in_err-check-clause-removed
+returns-in_err-check-clause-removed g c = removed_named g.K.Told.start c.args.self.now c.check.new.self c.args.ticket (map name_of c.args.names.now) c.from_residual-in_err-check.result (search rules)
+
+pub returns-clause-step : goal.returns-clause-step
+returns-clause-step g c = removes_from g.K.Told.start c.args.self.now c.check.new.self c.call_remove.new.self c.args.ticket (step_of c.in_ok-step.step) c.args.names.now c.call_remove.result c.in_ok-check.ensures.step.0 c.in_ok-step.ensures c.call_remove.ensures.step
+
+pub returns-clause-own : goal.returns-clause-own
+returns-clause-own g c = remove_kept g.K.Told.start c.args.self.now c.call_remove.new.self c.args.ticket (map name_of c.args.names.now) c.call_remove.result (returns-clause-step g c)
+
+pub returns-clause-removed : goal.returns-clause-removed
+returns-clause-removed g c = removed_named g.K.Told.start c.args.self.now c.call_remove.new.self c.args.ticket (map name_of c.args.names.now) c.call_remove.result (returns-clause-step g c)

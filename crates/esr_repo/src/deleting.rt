@@ -1,0 +1,310 @@
+//! The steps of a delete's ticket, its writing aside.
+ghost use Rattle.std.specs.Prelude.{◌≡◌, ◌+◌, ◌<◌, ◌^◌, List, ℕ, length, map, filter, count_by, true, false, IsTrue, IfOk, IfSome, OnOk, OnErr};
+ghost use Rattle.esr_model.specs.Values.{Bytes, Has, IsOneEach, ReadsBack};
+ghost use Rattle.esr_model.specs.Delete.{kept_count, deleted_root};
+ghost use Rattle.esr_core.specs.Pruning.{AreOfRoot, planned};
+ghost use Rattle.esr_core.specs.Entry.{PruneStep, FetchShard, PlanShards, SettlePruned, RemoveDoomed, EndDelete, DeleteFails, DrawnFrom, WasSettled, WasRemoved, HasEnded};
+ghost use Rattle.esr_names.specs.Layout.{IsName};
+ghost use Rattle.esr_root.specs.Indices.{AreIndices};
+ghost use Rattle.esr_root.specs.Snaps.{lists};
+ghost use Rattle.esr_formats.specs.Ids.{number_of};
+ghost use Rattle.esr_formats.specs.Names.{name_of};
+ghost use Rattle.esr_formats.specs.Roots.{root_of, root_kind};
+ghost use Rattle.esr_results.specs.Pruned.{pruned_of};
+ghost use Rattle.esr_desk.specs.Entries.{why_of, step_of};
+ghost use Rattle.esr_desk.specs.Start.{formats_of, ticket_of, world_of};
+ghost use Rattle.esr_desk.specs.Outcome.{fetch_reply};
+ghost use Rattle.esr_desk.specs.Conditions.{Holds};
+ghost use Rattle.esr_desk.specs.Taken.{fetched_by, LeftBy, IsSettled};
+ghost use Rattle.esr_deleting.specs.Conditions.{CanFetchShard, CanPlan, CanSettleDelete, CanRemove, CanEndDelete, CanFailDelete, removed_by};
+ghost use Rattle.esr_repo.specs.Next.{IsLive, Did};
+ghost use Rattle.esr_repo.specs.May.{MaySwap};
+
+use crate::swap::Renewed;
+use crate::taking::info_copy;
+use crate::{Repo, Told};
+use esr_deleting::Planned;
+use esr_depot::{Depot, Fetch};
+use esr_desk::{Answer, BlobNames, EntryRefusal, Prune, Step, StepRefusal, Why};
+use esr_formats::write_root;
+use esr_meta::SnapInfo;
+use esr_names::{BlobName, Id, Ids};
+use esr_opening::SnapInfos;
+use esr_results::{PrunedShard, PrunedShards, deleted};
+use esr_root::{RootData, RootSnap};
+use esr_seq::Seq;
+use std::alloc::{AllocError, Global};
+
+/// The step that plans.
+fn plans(alloc: Global, shards: &PrunedShards) -> Result<Step, AllocError>
+    ensures { IfOk result (λ step. step_of step ≡ PruneStep (PlanShards (map pruned_of shards.now))) }
+{
+    let shards = PrunedShards::from_slice(alloc, shards.as_slice())?;
+    let prune = Prune::Plan { shards };
+    Ok(Step::Prune { prune })
+}
+
+/// The step that takes doomed blobs away.
+fn removes(alloc: Global, names: &Seq<BlobName>) -> Result<Step, AllocError>
+    ensures { IfOk result (λ step. step_of step ≡ PruneStep (RemoveDoomed (map name_of names.now))) }
+{
+    let names = BlobNames::from_slice(alloc, names.as_slice())?;
+    let prune = Prune::Remove { names };
+    Ok(Step::Prune { prune })
+}
+
+/// Of how many of these shards something is left.
+fn count_left(shards: &[PrunedShard]) -> usize
+    ensures { result ≡ count_by (λ shard. shard.kept) shards.now }
+{
+    shards.iter().filter(|shard| shard.kept).count()
+}
+
+/// How many ids a plan of these shards draws.
+fn kept_count(shards: &PrunedShards) -> u64
+    ensures { result ≡ kept_count (map pruned_of shards.now) }
+{
+    count_left(shards.as_slice()) as u64
+}
+
+/// Whether a snapshot is listed.
+fn lists(listing: &[RootSnap], uuid: Id) -> bool
+    ensures { result ≡ lists listing.now uuid }
+{
+    listing.iter().any(|snap| snap.uuid == uuid)
+}
+
+/// Copies of the infos of listed snapshots.
+fn left_infos(
+    alloc: Global,
+    infos: &[SnapInfo],
+    listing: &[RootSnap],
+) -> Result<SnapInfos, AllocError>
+    ensures { IfOk result (λ left. left ≡ filter (λ info. lists listing.now info.uuid) infos.now) }
+{
+    let mut left = SnapInfos::new(alloc);
+    for info in infos {
+        if lists(listing, info.uuid) {
+            left.push(info_copy(alloc, info)?)?;
+        }
+    }
+    Ok(left)
+}
+
+/// The indices of a root keep their rule.
+fn indices_rule(root: &RootData)
+    ensures { AreIndices root.now.indices }
+{
+    let _indices = root.indices.as_slice();
+}
+
+impl<D: Depot, K: Told> Repo<D, K> {
+    /// The index of a shard that loses a snapshot, to be read from its first byte, or `None` where there is none.
+    pub fn fetch_shard(
+        &mut self,
+        alloc: Global,
+        ticket: u64,
+        name: BlobName,
+    ) -> Result<Option<D::Fetch>, StepRefusal>
+        requires layout { IsName name }
+        requires may { CanFetchShard (ticket_of K.start self.old ticket) (name_of name) }
+        ensures step { Did K.start self.old self.new ticket (PruneStep (FetchShard (name_of name))) fetch_reply result }
+        ensures own { IfOk result (λ o. ticket_of K.start self.new ticket
+            ≡ fetched_by D.Fetch.left (name_of name) o (ticket_of K.start self.old ticket)) }
+        ensures told { IfOk result (λ o. IfSome o (λ f. (bytes : Bytes) × Holds K.start (D.Fetch.left f) bytes)) }
+        ensures count { IfOk result (λ o. IfSome o (λ f. D.Fetch.faults f ≡ 0)) }
+        ensures sure { IfOk result (λ o. IfSome o (λ f. K.start.quiet ≡ true → length self.old < 2 ^ 41 → IsTrue (D.Fetch.is_sure f))) }
+        ensures kept { OnErr result (ticket_of K.start self.new ticket ≡ ticket_of K.start self.old ticket) }
+    {
+        let prune = Prune::Shard { name };
+        self.check(ticket, Step::Prune { prune })?;
+        self.rules();
+        let prune = Prune::Shard { name };
+        self.call_fetch(alloc, ticket, Step::Prune { prune }, name)
+    }
+
+    /// The next id, and the root that a plan of these shards writes from it on. It can be written.
+    fn planned(
+        &self,
+        alloc: Global,
+        root: &RootData,
+        uuids: &Ids,
+        shards: &PrunedShards,
+    ) -> Result<Planned, AllocError>
+        requires live { IsLive K.start self.now }
+        requires one_each { IsOneEach (root_of root.now).indices }
+        requires of_root { AreOfRoot (root_of root.now) (map pruned_of shards.now) }
+        ensures first { IfOk result (λ p. p.first.number ≡ (world_of K.start self.now).next_id) }
+        ensures root { IfOk result (λ p. root_of p.root ≡ deleted_root (root_of root.now) (map number_of uuids.now) (map pruned_of shards.now) p.first.number) }
+        ensures back { IfOk result (λ p. ReadsBack root_kind (root_of p.root)) }
+        ensures range { IfOk result (λ p. p.first.number + length shards.now < 2 ^ 128) }
+    {
+        indices_rule(root);
+        let _count = shards.len();
+        let _term = self.term();
+        let first = self.next_id();
+        let root = deleted(alloc, root, uuids, shards, first)?;
+        write_root(alloc, &root)?;
+        Ok(Planned { first, root })
+    }
+
+    /// Draws the ids of a plan.
+    fn draw_planned(
+        &mut self,
+        ticket: u64,
+        step: Step,
+        shards: &PrunedShards,
+        plan: Planned,
+    ) -> Result<Planned, StepRefusal>
+        requires live { IsLive K.start self.old }
+        requires is { step_of step ≡ PruneStep (PlanShards (map pruned_of shards.now)) }
+        requires may { (uuids : List ℕ) × CanPlan K.start (ticket_of K.start self.old ticket) uuids (map pruned_of shards.now)
+            × ReadsBack root_kind (deleted_root (ticket_of K.start self.old ticket).root uuids (map pruned_of shards.now) plan.first.number) }
+        requires first { plan.first.number ≡ (world_of K.start self.old).next_id }
+        ensures step { Did K.start self.old self.new ticket (step_of step) (λ p. DrawnFrom p.first.number) result }
+        ensures own { IfOk result (λ p. ticket_of K.start self.new ticket
+            ≡ planned (formats_of K.start) (map pruned_of shards.now) p.first.number (ticket_of K.start self.old ticket)) }
+        ensures same { IfOk result (λ p. p ≡ plan) }
+        ensures kept { OnErr result (ticket_of K.start self.new ticket ≡ ticket_of K.start self.old ticket) }
+    {
+        self.rules();
+        let first = plan.first;
+        let Some(next) = self.id_after(kept_count(shards)) else {
+            let refusal = EntryRefusal::IdsSpent { next: first };
+            return Err(self.refuse(ticket, step, refusal));
+        };
+        self.note(ticket, step, Answer::Drawn { first }, None, next)?;
+        Ok(plan)
+    }
+
+    /// Plans: draws an id for each of these shards of which something is left, and answers the first one and the root without the
+    /// named snapshots. `root` and `uuids` are those of the ticket.
+    pub fn plan_delete(
+        &mut self,
+        alloc: Global,
+        ticket: u64,
+        root: &RootData,
+        uuids: &Ids,
+        shards: &PrunedShards,
+    ) -> Result<Planned, StepRefusal>
+        requires copied { root_of root.now ≡ (ticket_of K.start self.old ticket).root }
+        requires may { CanPlan K.start (ticket_of K.start self.old ticket) (map number_of uuids.now) (map pruned_of shards.now) }
+        ensures step { Did K.start self.old self.new ticket (PruneStep (PlanShards (map pruned_of shards.now))) (λ p. DrawnFrom p.first.number) result }
+        ensures own { IfOk result (λ p. ticket_of K.start self.new ticket
+            ≡ planned (formats_of K.start) (map pruned_of shards.now) p.first.number (ticket_of K.start self.old ticket)) }
+        ensures root { IfOk result (λ p. root_of p.root ≡ deleted_root (root_of root.now) (map number_of uuids.now) (map pruned_of shards.now) p.first.number) }
+        ensures range { IfOk result (λ p. p.first.number + length shards.now < 2 ^ 128) }
+        ensures kept { OnErr result (ticket_of K.start self.new ticket ≡ ticket_of K.start self.old ticket) }
+    {
+        self.check(ticket, plans(alloc, shards)?)?;
+        let plan = self.planned(alloc, root, uuids, shards)?;
+        let step = plans(alloc, shards)?;
+        self.draw_planned(ticket, step, shards, plan)
+    }
+
+    /// What is kept after a delete's ticket settled on its root.
+    fn pruned(&self, alloc: Global, ticket: u64, root: &RootData) -> Result<Renewed, AllocError>
+        requires live { IsLive K.start self.now }
+        requires may { CanSettleDelete K.start (ticket_of K.start self.now ticket) (root_of root.now) }
+        requires present { (ticket_of K.start self.now ticket).term ≡ (world_of K.start self.now).term }
+        ensures { IfOk result (λ r. MaySwap K.start self.now ticket (PruneStep SettlePruned) WasSettled r.cluster r.root r.left r.info r.progress r.next.number) }
+    {
+        self.rules();
+        let mut cluster = self.settled_record(alloc, ticket)?;
+        let root = root.try_clone(alloc)?;
+        let left = left_infos(alloc, self.infos(), root.snapshots.as_slice())?;
+        let progress = self.plan().delete_settled(alloc, ticket)?;
+        cluster.ops = progress.record_ops(alloc)?;
+        Ok(Renewed {
+            cluster,
+            root: Some(root),
+            left: Some(left),
+            info: None,
+            progress: Some(progress),
+            next: self.next_id(),
+        })
+    }
+
+    /// Makes the root that the ticket committed the safe one. The delete leaves the list.
+    pub fn settle_delete(
+        &mut self,
+        alloc: Global,
+        ticket: u64,
+        root: &RootData,
+    ) -> Result<(), StepRefusal>
+        requires may { CanSettleDelete K.start (ticket_of K.start self.old ticket) (root_of root.now) }
+        ensures step { Did K.start self.old self.new ticket (PruneStep SettlePruned) (λ _. WasSettled) result }
+        ensures own { OnOk result (ticket_of K.start self.new ticket
+            ≡ record (ticket_of K.start self.old ticket) { settled = true }) }
+        ensures kept { LeftBy (IsSettled (ticket_of K.start self.old ticket)) result (ticket_of K.start self.old ticket) (ticket_of K.start self.new ticket) }
+    {
+        let prune = Prune::Settle;
+        self.check(ticket, Step::Prune { prune })?;
+        self.rules();
+        let own = self.seat(ticket).term;
+        let now = self.term();
+        let prune = Prune::Settle;
+        let step = Step::Prune { prune };
+        if own != now {
+            let refusal = EntryRefusal::StaleTerm { own, now };
+            return Err(self.refuse(ticket, step, refusal));
+        }
+        let renewed = self.pruned(alloc, ticket, root)?;
+        self.swap(alloc, ticket, step, Answer::Settled, renewed)
+    }
+
+    /// Takes blobs that the ticket's plan dooms away. Where the container fails in it, they count as named, too.
+    pub fn remove(
+        &mut self,
+        alloc: Global,
+        ticket: u64,
+        names: &Seq<BlobName>,
+    ) -> Result<(), StepRefusal>
+        requires layout { (name : BlobName) → Has names.now name → IsName name }
+        requires may { CanRemove K.start self.old ticket (map name_of names.now) }
+        ensures step { Did K.start self.old self.new ticket (PruneStep (RemoveDoomed (map name_of names.now))) (λ _. WasRemoved) result }
+        ensures own { ticket_of K.start self.new ticket ≡ ticket_of K.start self.old ticket }
+        ensures removed { (world_of K.start self.new).removed ≡ removed_by result (map name_of names.now) (world_of K.start self.old).removed }
+    {
+        self.check(ticket, removes(alloc, names)?)?;
+        self.rules();
+        let step = removes(alloc, names)?;
+        self.call_remove(alloc, ticket, step, names.as_slice())
+    }
+
+    /// The delete is over; its ticket ends.
+    pub fn deleted(&mut self, alloc: Global, ticket: u64) -> Result<(), StepRefusal>
+        requires may { CanEndDelete K.start self.old ticket }
+        ensures step { Did K.start self.old self.new ticket (PruneStep EndDelete) (λ _. HasEnded) result }
+        ensures own { OnOk result (ticket_of K.start self.new ticket
+            ≡ record (ticket_of K.start self.old ticket) { out = false }) }
+        ensures kept { OnErr result (ticket_of K.start self.new ticket ≡ ticket_of K.start self.old ticket) }
+    {
+        let prune = Prune::End;
+        self.check(ticket, Step::Prune { prune })?;
+        self.rules();
+        let ended = self.plan().ended(alloc, ticket)?;
+        let next = self.next_id();
+        let prune = Prune::End;
+        let step = Step::Prune { prune };
+        self.note(ticket, step, Answer::Ended, Some(ended), next)
+    }
+
+    /// The delete failed before its settle; its ticket ends.
+    pub fn undeleted(&mut self, alloc: Global, ticket: u64, why: Why) -> Result<(), StepRefusal>
+        requires may { CanFailDelete (ticket_of K.start self.old ticket) }
+        ensures step { Did K.start self.old self.new ticket (PruneStep (DeleteFails (why_of why))) (λ _. HasEnded) result }
+        ensures own { OnOk result (ticket_of K.start self.new ticket
+            ≡ record (ticket_of K.start self.old ticket) { out = false }) }
+        ensures kept { OnErr result (ticket_of K.start self.new ticket ≡ ticket_of K.start self.old ticket) }
+    {
+        let prune = Prune::Failed { why };
+        self.check(ticket, Step::Prune { prune })?;
+        self.rules();
+        let progress = self.plan().delete_failed(alloc, self.term(), ticket)?;
+        let next = self.next_id();
+        let prune = Prune::Failed { why };
+        let step = Step::Prune { prune };
+        self.note(ticket, step, Answer::Ended, Some(progress), next)
+    }
+}

@@ -1,0 +1,22 @@
+use Rattle.std.proofs.Common.{◌≡◌, ◌<◌, ◌^◌, true, length, IsTrue}
+use Rattle.esr_core.specs.Entry.{PruneStep, FetchShard}
+use Rattle.esr_formats.specs.Names.{name_of}
+use Rattle.esr_solo.proofs.Single.{new_own}
+use Rattle.esr_solo.proofs.Stepping.{turns_left_of, is_short, keeps, outcome, waited, spends}
+use Rattle.esr_solo.proofs.deleting.SoloDeleteDesk.fetch_shard.Goals as goal
+
+pub returns-then-self-eq0-clause-step : goal.returns-then-self-eq0-clause-step
+returns-then-self-eq0-clause-step g c = (
+  waited g.K.Told.start c.self.inside.repo c.args.self.now c.args.ticket c.self.view_is c.is_legal.ensures,
+  spends g.K.Told.start c.self.inside.repo c.args.self.now c.self.inside.left c.self.view_is c.self.invariant.0 c.if-self-eq0.true,
+)
+
+pub invariant_of-self : goal.invariant_of-self
+invariant_of-self g c =
+    keeps _ g.K.Told.start c.self.inside.repo c.fetch_shard-answer.new.self c.args.ticket (PruneStep (FetchShard (name_of c.args.name))) _ c.fetch_shard-answer.result c.self.inside.faults.items c.self.inside.left c.turns.result _ c.self.invariant c.if-self-eq0.false c.turns.ensures (λ x why e d. cc) (λ name e no_metadata noted. cc) (new_own c.self.inside.repo c.args.self.now c.args.ticket (PruneStep (FetchShard (name_of c.args.name))) c.self.view_is c.requires.new) c.fetch_shard-answer.ensures.step tt tt
+
+pub returns-clause-step : goal.returns-clause-step
+returns-clause-step g c = outcome g.K.Told.start c.self.inside.repo c.args.self.now c.fetch_shard-answer.new.self c.args.ticket (PruneStep (FetchShard (name_of c.args.name))) _ c.fetch_shard-answer.result c.self.view_is c.is_legal.ensures c.fetch_shard-answer.ensures.step
+
+pub returns-clause-sure : goal.returns-clause-sure
+returns-clause-sure g c = turns_left_of c.fetch_shard-answer.result (g.K.Told.start.quiet ≡ true) (length c.self.inside.repo < 2 ^ 41) (λ f. IsTrue (g.D.Fetch.Fetch.is_sure f)) (is_short c.self.inside.repo c.self.inside.left c.self.invariant.0 c.if-self-eq0.false) c.fetch_shard-answer.ensures.sure
