@@ -1,5 +1,5 @@
 -- From the settle of a delete to its end.
-use Rattle.std.proofs.Common.{◌≡◌, ◌↔◌, ⊎_elim, ℕ, true, false, List, ◌++◌, append-nil, map, Some, None, Result, Ok, Err, IfErr, OnOk, OnErr, refl, sym, ap, ◌∙◌, subst}
+use Rattle.std.proofs.Common.{◌≡◌, ◌↔◌, ⊎_elim, ℕ, true, false, List, map, Some, None, Result, Ok, Err, IfErr, OnOk, OnErr, refl, sym, ap, ◌∙◌, subst}
 use Rattle.std.specs.List.{AllByRecursion}
 use Rattle.std.specs.Result.{IsErrAnd}
 use Rattle.esr_names.specs.declared.blob.BlobName.{BlobName as CodeName}
@@ -8,17 +8,18 @@ use Rattle.esr_model.specs.Names.{BlobName}
 use Rattle.esr_model.specs.Values.{Has, RootData, Formats}
 use Rattle.esr_core.specs.World.{Ticket, Work, Shard, Finalize, Deleting, Drop}
 use Rattle.esr_core.specs.Pruning.{doomed_by, dooms}
-use Rattle.esr_core.specs.Entry.{SettlePruned, RemoveDoomed, EndDelete, PruneStep, HasEnded, Reply, Moment}
+use Rattle.esr_core.specs.Entry.{SettlePruned, RemoveDoomed, PruneStep, Reply, Moment}
 use Rattle.esr_formats.specs.Names.{name_of}
 use Rattle.esr_reach.specs.Members.{all_has, has_map, in_map}
 use Rattle.esr_desk.specs.declared.refusal.StepRefusal.{StepRefusal}
 use Rattle.esr_desk.specs.Start.{Start, formats_of, ticket_of, world_of}
-use Rattle.esr_desk.specs.Outcome.{Stepped, Outcome}
+use Rattle.esr_desk.specs.Outcome.{Stepped}
 use Rattle.esr_desk.specs.Told.{TellsAll, stepped_made, none_removed}
 use Rattle.esr_deleting.specs.Conditions.{CanSettleDelete, CanEndDelete}
 use Rattle.esr_deleting.specs.Once.{IsNewRemoval}
-use Rattle.esr_delete.specs.Ticket.{HasNamed, IsOver}
-use Rattle.esr_delete.specs.Removed.{NoneRemoved, IsSettledPlan, MayRemove, AreNamed, IsCleared}
+use Rattle.esr_deleting.specs.Named.{AreNamed, HasNamed}
+use Rattle.esr_delete.specs.Ticket.{IsOver}
+use Rattle.esr_delete.specs.Removed.{NoneRemoved, IsSettledPlan, MayRemove, IsCleared}
 
 -- an error that was made of a step's refusal
 pub passed_on : {T E : Type 0} (result : Result T E) (P : E → Type 0) (e : E) → IsErrAnd result (λ x. x ≡ e) → P e → IfErr result P
@@ -104,24 +105,14 @@ can_end s old log who names once kept over are same named =
 
 -- ---- the end
 
-has_named : (s : Start) (mid new : List Moment) (who : ℕ) → s.alone ≡ true → CanEndDelete s mid who → Stepped s mid new who (PruneStep EndDelete) HasEnded → HasNamed s new who
-has_named s mid new who alone may h =
-    let same : h.front ≡ mid = h.waited.grew ∙ ap (λ (others : List Moment). mid ++ others) (h.waited.nobody alone) ∙ append-nil mid in
-    record {
-      last = record { front = h.front; image = h.image; is = h.is };
-      named = λ tells name has.
-          subst (λ (log : List Moment). Has (world_of s log).removed name) (sym same)
-          (may.removed tells name (subst (λ (log : List Moment). Has (dooms (formats_of s) (ticket_of s log who)) name) same has));
-    }
-
 -- by its answer
-pub ended_ok : (s : Start) (old mid new : List Moment) (who : ℕ) (result : Result (Unit {0}) StepRefusal) → s.alone ≡ true → ticket_of s mid who ≡ ticket_of s old who → CanEndDelete s mid who
-    → Outcome s mid new who (PruneStep EndDelete) (λ x. HasEnded) result → OnOk result (ticket_of s new who ≡ record (ticket_of s mid who) { out = false }) → OnOk result (IsCleared s old new who)
-ended_ok s old mid new who (Ok x) alone kept may h own = record {
+pub ended_ok : (s : Start) (old mid new : List Moment) (who : ℕ) (result : Result (Unit {0}) StepRefusal) → ticket_of s mid who ≡ ticket_of s old who → OnOk result (ticket_of s new who ≡ record (ticket_of s mid who) { out = false }) → OnOk result (HasNamed s new who)
+    → OnOk result (IsCleared s old new who)
+ended_ok s old mid new who (Ok x) kept own named = record {
   own = own ∙ ap (λ (t : Ticket). record t { out = false }) kept;
-  named = has_named s mid new who alone may h;
+  named = named;
 }
-ended_ok s old mid new who (Err e) alone kept may h own = tt
+ended_ok s old mid new who (Err e) kept own named = tt
 
 pub ended_kept : (a b c : Ticket) (result : Result (Unit {0}) StepRefusal) → b ≡ a → OnErr result (c ≡ b) → OnErr result (c ≡ a)
 ended_kept a b c (Ok x) kept h = tt

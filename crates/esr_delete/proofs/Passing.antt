@@ -16,6 +16,7 @@ use Rattle.esr_desk.specs.Outcome.{Stepped, Refusing, Outcome, Spends}
 use Rattle.esr_desk.specs.Last.{IsLast}
 use Rattle.esr_desk.specs.Halts.{Halts}
 use Rattle.esr_deleting.specs.Conditions.{removed_by}
+use Rattle.esr_deleting.specs.Named.{AreNamed}
 use Rattle.esr_delete.specs.Refused.{Stops}
 use Rattle.esr_delete.specs.Removed.{Removed, passed_by}
 
@@ -149,14 +150,14 @@ same_err : (d e : StepRefusal) → ◌≡◌ {A = Result (Unit {0}) StepRefusal}
 same_err d e is = cc
 
 removed_as : (s : Start) (old new : List Moment) (who : ℕ) (names : List BlobName) (r : Result (Unit {0}) StepRefusal) (y : Unit {0}) → Passing r → passed_by r ≡ Ok y → Outcome s old new who (PruneStep (RemoveDoomed names)) (λ x. WasRemoved) r
-    → (world_of s new).removed ≡ removed_by r names (world_of s old).removed → Removed s old new who names
+    → AreNamed s new (removed_by r names (world_of s old).removed) → Removed s old new who names
 removed_as s old new who names r y (Well x) is h more = record { reply = WasRemoved; step = h; more = more }
 removed_as s old new who names r y Failing is h more = record { reply = Refused DepotFault; step = h.0; more = more }
 removed_as s old new who names r y (Halting e same other) is h more = absurd (ok_err y e (sym is ∙ same))
 
 -- where it counts as made its names were named
 pub passed_removed : (s : Start) (old new : List Moment) (who : ℕ) (names : List BlobName) (r : Result (Unit {0}) StepRefusal) (y : Unit {0}) → Ok y ≡ passed_by r → Outcome s old new who (PruneStep (RemoveDoomed names)) (λ x. WasRemoved) r
-    → (world_of s new).removed ≡ removed_by r names (world_of s old).removed → Removed s old new who names
+    → AreNamed s new (removed_by r names (world_of s old).removed) → Removed s old new who names
 passed_removed s old new who names r y is h more = removed_as s old new who names r y (passing r) (sym is) h more
 
 removal_fault : (names : List BlobName) (refusal : Refusal) → MayRefuse (PruneStep (RemoveDoomed names)) refusal → refusal ≡ DepotFault

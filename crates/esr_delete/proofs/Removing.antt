@@ -14,7 +14,8 @@ use Rattle.esr_desk.specs.Start.{Start, ticket_of, world_of}
 use Rattle.esr_desk.specs.Told.{stepped_made}
 use Rattle.esr_deleting.specs.Conditions.{CanRemove}
 use Rattle.esr_deleting.specs.Once.{IsNewRemoval}
-use Rattle.esr_delete.specs.Removed.{MayRemove, Removed, AreNamed}
+use Rattle.esr_deleting.specs.Named.{AreNamed}
+use Rattle.esr_delete.specs.Removed.{MayRemove, Removed}
 
 -- ---- parts of a list
 
@@ -93,7 +94,7 @@ pub more_named : (s : Start) (old new : List Moment) (who : ℕ) (front names : 
 more_named s old new who front names was removed name has =
     let ns : List BlobName = map name_of names in
     let before : List BlobName = (world_of s old).removed in
-    subst (λ (l : List BlobName). Has l name) (sym removed.more)
+    removed.more name
     (⊎_elim
     (λ (earlier : Has (map name_of front) name). has_right ns before name (was name earlier))
     (λ (now : Has ns name). has_left ns before name now)

@@ -13,7 +13,7 @@ use Rattle.esr_desk.specs.declared.refusal.EntryRefusal.TheVariants.{DepotFault}
 use Rattle.esr_desk.specs.Start.{Start, formats_of, ticket_of, world_of}
 use Rattle.esr_desk.specs.Outcome.{Stepped}
 use Rattle.esr_desk.specs.Once.{WasMade}
-use Rattle.esr_delete.specs.Ticket.{HasNamed}
+use Rattle.esr_deleting.specs.Named.{AreNamed, HasNamed}
 
 -- the ticket has made no removal
 abbrev pub NoneRemoved : List Moment → ℕ → Type 0
@@ -32,15 +32,11 @@ pub record MayRemove (s : Start) (t : Ticket) (names : List BlobName) : Type 0 w
   pub over : IsSettledPlan t
   pub doomed : s.tells ≡ true → (name : BlobName) → Has names name → Has (dooms (formats_of s) t) name
 
--- these names were named in one removal, whether or not the container failed in it
+-- these names were named in one removal, whether or not the container failed in it, and what was named before it still is
 pub record Removed (s : Start) (old new : List Moment) (who : ℕ) (names : List BlobName) : Type 0 where
   pub reply : Reply
   pub step : Stepped s old new who (PruneStep (RemoveDoomed names)) reply
-  pub more : (world_of s new).removed ≡ names ++ (world_of s old).removed
-
--- each of these names was named
-abbrev pub AreNamed : Start → List Moment → List BlobName → Type 0
-AreNamed s log names = (name : BlobName) → Has names name → Has (world_of s log).removed name
+  pub more : AreNamed s new (names ++ (world_of s old).removed)
 
 -- the ticket has ended, and all that it dooms was named before
 pub record IsCleared (s : Start) (old new : List Moment) (who : ℕ) : Type 0 where

@@ -4,11 +4,11 @@ use Rattle.esr_model.specs.Names.{BlobName, Root}
 use Rattle.esr_model.specs.Values.{Bytes, Has, RootData, Formats}
 use Rattle.esr_model.specs.Delete.{PrunedShard, kept_count}
 use Rattle.esr_core.specs.World.{Ticket, Deleting, Swap, swap}
-use Rattle.esr_core.specs.Entry.{PruneStep, EndDelete, HasEnded, Moment}
-use Rattle.esr_core.specs.Pruning.{AreOfRoot, pruned_shards, delete_swap, dooms}
-use Rattle.esr_desk.specs.Start.{Start, formats_of, ticket_of, world_of}
-use Rattle.esr_desk.specs.Last.{IsLast}
+use Rattle.esr_core.specs.Entry.{Moment}
+use Rattle.esr_core.specs.Pruning.{AreOfRoot, pruned_shards, delete_swap}
+use Rattle.esr_desk.specs.Start.{Start, formats_of, ticket_of}
 use Rattle.esr_desk.specs.Taken.{tried}
+use Rattle.esr_deleting.specs.Named.{HasNamed}
 use Rattle.esr_finish.specs.Blobs.{root_blob}
 use Rattle.esr_finish.specs.Ticket.{noted_with, Wrote, raised_to}
 use Rattle.esr_delete.specs.Planned.{Notes}
@@ -61,11 +61,6 @@ pub record HasSettled (s : Start) (old : Ticket) (out : Bool) (new : Ticket) : T
   pub written : Ticket
   pub is_written : HasWritten s old written
   pub is : new ≡ record written { settled = true; out = out }
-
--- its end was its last step, before which all that its plan dooms was named, where the container tells
-pub record HasNamed (s : Start) (log : List Moment) (who : ℕ) : Type 0 where
-  pub last : IsLast log who (PruneStep EndDelete) HasEnded
-  pub named : s.tells ≡ true → (name : BlobName) → Has (dooms (formats_of s) (ticket_of s last.front who)) name → Has (world_of s last.front).removed name
 
 -- it has settled and ended
 pub record IsOver (s : Start) (old new : List Moment) (who : ℕ) : Type 0 where

@@ -10,7 +10,8 @@ ghost use Rattle.esr_desk.specs.Start.{ticket_of};
 ghost use Rattle.esr_desk.specs.Grew.{GrewBy};
 ghost use Rattle.esr_desk.specs.Halts.{Halts};
 ghost use Rattle.esr_deleting.specs.Once.{IsNewRemoval};
-ghost use Rattle.esr_delete.specs.Removed.{MayRemove, Removed, AreNamed, passed_by, IsSetOf, IsWith};
+ghost use Rattle.esr_deleting.specs.Named.{AreNamed};
+ghost use Rattle.esr_delete.specs.Removed.{MayRemove, Removed, passed_by, IsSetOf, IsWith};
 
 use esr_deleting::DeleteDesk;
 use esr_desk::{Desk, EntryRefusal, StepRefusal};
@@ -70,7 +71,6 @@ fn remove_first<Q: DeleteDesk>(
     names: &[BlobName],
 ) -> Result<usize, StepRefusal>
     requires mine { Q.holds desk.old ticket }
-    requires alone { Q.start.alone ≡ true }
     requires some { 0 < length names.now }
     requires layout { (name : CodeName) → Has names.now name → IsName name }
     requires may { MayRemove Q.start (ticket_of Q.start (Q.seen desk.old) ticket) (map name_of names.now) }
@@ -97,7 +97,6 @@ pub fn remove_all<Q: DeleteDesk>(
     names: &[BlobName],
 ) -> Result<(), StepRefusal>
     requires mine { Q.holds desk.old ticket }
-    requires alone { Q.start.alone ≡ true }
     requires layout { (name : CodeName) → Has names.now name → IsName name }
     requires once { AreOnce (map name_of names.now) }
     requires may { MayRemove Q.start (ticket_of Q.start (Q.seen desk.old) ticket) (map name_of names.now) }

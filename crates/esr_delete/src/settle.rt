@@ -27,7 +27,6 @@ fn clear<Q: DeleteDesk>(
     names: &DoomedNames,
 ) -> Result<(), StepRefusal>
     requires mine { Q.holds desk.old ticket }
-    requires alone { Q.start.alone ≡ true }
     requires over { IsSettledPlan (ticket_of Q.start (Q.seen desk.old) ticket) }
     requires names { Q.start.tells ≡ true → map name_of names.now ≡ dooms (formats_of Q.start) (ticket_of Q.start (Q.seen desk.old) ticket) }
     requires none { NoneRemoved (Q.seen desk.old) ticket }
@@ -52,7 +51,6 @@ pub fn settle<Q: DeleteDesk>(
     names: &DoomedNames,
 ) -> Result<(), UnitRefusal>
     requires mine { Q.holds desk.old ticket }
-    requires alone { Q.start.alone ≡ true }
     requires may { CanSettleDelete Q.start (ticket_of Q.start (Q.seen desk.old) ticket) (root_of root.now) }
     requires names { Q.start.tells ≡ true → map name_of names.now ≡ dooms (formats_of Q.start) (ticket_of Q.start (Q.seen desk.old) ticket) }
     requires tells { TellsAll Q.start (Q.seen desk.old) ticket }

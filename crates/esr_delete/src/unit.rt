@@ -113,7 +113,6 @@ fn prepare<Q: DeleteDesk>(
 /// absent or doesn't read, a name is taken or numbers are spent, the ticket ends as failed.
 pub fn run_unit<Q: DeleteDesk>(alloc: Global, desk: &mut Q, unit: &Unit) -> Result<(), UnitRefusal>
     requires mine { Q.holds desk.old unit.now.ready.ticket }
-    requires alone { Q.start.alone ≡ true }
     requires fresh { Took Q.start (Q.seen desk.old) unit.now }
     requires new { HasMadeNone (Q.seen desk.old) unit.now.ready.ticket }
     requires work { IsDelete unit.now.ready.work }

@@ -1,4 +1,5 @@
 pub mod Once
 pub mod Conditions
+pub mod Named
 pub mod Shown
 pub mod Reports

@@ -16,6 +16,7 @@ ghost use Rattle.esr_desk.specs.Outcome.{Outcome, fetch_reply};
 ghost use Rattle.esr_desk.specs.Conditions.{Holds};
 ghost use Rattle.esr_desk.specs.Taken.{fetched_by, LeftBy, IsSettled};
 ghost use Rattle.esr_deleting.specs.Conditions.{CanFetchShard, CanPlan, CanSettleDelete, CanRemove, CanEndDelete, CanFailDelete, removed_by};
+ghost use Rattle.esr_deleting.specs.Named.{AreNamed, HasNamed};
 ghost use Rattle.esr_deleting.specs.Shown.{IsDeleteShown};
 
 use esr_depot::Fetch;
@@ -95,7 +96,8 @@ pub trait DeleteDesk: Desk {
         ensures holds { Self.holds self.new ticket };
 
     /// Takes blobs that the ticket's plan dooms away; those that are gone already are no failure. Where the container fails in it,
-    /// they count as named, too.
+    /// they count as named, too. What was named before, by any ticket, stays named; others may name more meanwhile, unless nobody
+    /// else makes a step.
     fn remove(
         &mut self,
         alloc: Global,
@@ -103,20 +105,20 @@ pub trait DeleteDesk: Desk {
         names: &Seq<BlobName>,
     ) -> Result<(), StepRefusal>
         requires mine { Self.holds self.old ticket }
-        requires alone { Self.start.alone ≡ true }
         requires layout { (name : BlobName) → Has names.now name → IsName name }
         requires may { CanRemove Self.start (Self.seen self.old) ticket (map name_of names.now) }
         ensures step { Outcome Self.start (Self.seen self.old) (Self.seen self.new) ticket (PruneStep (RemoveDoomed (map name_of names.now))) (λ _. WasRemoved) result }
         ensures own { ticket_of Self.start (Self.seen self.new) ticket ≡ ticket_of Self.start (Self.seen self.old) ticket }
-        ensures removed { (world_of Self.start (Self.seen self.new)).removed ≡ removed_by result (map name_of names.now) (world_of Self.start (Self.seen self.old)).removed }
+        ensures removed { Self.start.alone ≡ true → (world_of Self.start (Self.seen self.new)).removed ≡ removed_by result (map name_of names.now) (world_of Self.start (Self.seen self.old)).removed }
+        ensures named { AreNamed Self.start (Self.seen self.new) (removed_by result (map name_of names.now) (world_of Self.start (Self.seen self.old)).removed) }
         ensures holds { Self.holds self.new ticket };
 
-    /// The delete is over: all that its plan dooms was named. Its ticket ends.
+    /// The delete is over: all that its plan dooms was named, and still is as its ticket ends, whatever others did meanwhile.
     fn deleted(&mut self, alloc: Global, ticket: u64) -> Result<(), StepRefusal>
         requires mine { Self.holds self.old ticket }
-        requires alone { Self.start.alone ≡ true }
         requires may { CanEndDelete Self.start (Self.seen self.old) ticket }
         ensures step { Outcome Self.start (Self.seen self.old) (Self.seen self.new) ticket (PruneStep EndDelete) (λ _. HasEnded) result }
+        ensures named { OnOk result (HasNamed Self.start (Self.seen self.new) ticket) }
         ensures own { OnOk result (ticket_of Self.start (Self.seen self.new) ticket
             ≡ record (ticket_of Self.start (Self.seen self.old) ticket) { out = false }) }
         ensures kept { OnErr result (ticket_of Self.start (Self.seen self.new) ticket ≡ ticket_of Self.start (Self.seen self.old) ticket) }

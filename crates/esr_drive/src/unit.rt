@@ -50,7 +50,6 @@ fn do_op_unit<Q: DeleteDesk<Shard = S::Shard>, S: Sources, G: Gate>(
     requires sources { AreSources Q.start (S.files sources.now) (S.is_there sources.now) (S.is_quiet sources.now) }
     requires size { part_size ≡ Q.start.part_size }
     requires sized { (1 ≤ part_size) × (part_size ≤ 2 ^ 30) }
-    requires alone { Q.start.alone ≡ true }
     ensures stopped { IfErr result (IsUnitStopped Q.start (Q.seen desk.new) unit.now.ready.ticket) }
     ensures ended { HasEnded result (ticket_of Q.start (Q.seen desk.new) unit.now.ready.ticket) }
     ensures grew { GrewBy Q.start unit.now.ready.ticket (Q.seen desk.old) (Q.seen desk.new) }
@@ -83,7 +82,6 @@ fn do_op<Q: DeleteDesk<Shard = S::Shard>, S: Sources, G: Gate>(
     requires sized { (1 ≤ part_size) × (part_size ≤ 2 ^ 30) }
     requires tracked { ReadTracked Q.start.world }
     requires ops { Tracked Q.start.world }
-    requires alone { Q.start.alone ≡ true }
     ensures stopped { IfErr result (IsHalted Q.start (Q.seen desk.new) unit.now.ready.ticket) }
     ensures over { OnOk result (Q.start.alone ≡ true → NothingOut Q.start (Q.seen desk.new) unit.now.ready.ticket) }
     ensures none { Q.start.alone ≡ true → RestoresNone (Q.seen desk.old) (Q.seen desk.new) }
@@ -115,7 +113,7 @@ fn filled<T: Drop>(unit: Unit, target: T) -> RestoredTarget<T>
     }
 }
 
-/// Does what the unit of a restore is to do. One that fails is no reason to stop.
+/// Does what the unit of a restore is to do. One that fails is no reason to stop; the target that it gives back is dropped.
 fn do_restore<Q: RestoreDesk, T: Targets<Target = Q::Target>>(
     alloc: Global,
     desk: &mut Q,
@@ -140,8 +138,10 @@ fn do_restore<Q: RestoreDesk, T: Targets<Target = Q::Target>>(
     laws();
     match esr_restore::run_unit(alloc, desk, &unit, targets) {
         Ok(target) => Ok(Some(filled(unit, target))),
-        Err(UnitRefusal::Failed(_)) => Ok(None),
-        Err(UnitRefusal::Stopped(stop)) => Err(stop),
+        Err(left) => match left.refusal {
+            UnitRefusal::Failed(_) => Ok(None),
+            UnitRefusal::Stopped(stop) => Err(stop),
+        },
     }
 }
 
@@ -171,7 +171,6 @@ pub fn do_next<
     requires sized { (1 ≤ part_size) × (part_size ≤ 2 ^ 30) }
     requires tracked { ReadTracked Q.start.world }
     requires ops { Tracked Q.start.world }
-    requires alone { Q.start.alone ≡ true }
     ensures stopped { IfErr result (IsHalted Q.start (Q.seen desk.new) unit.ready.ticket) }
     ensures over { OnOk result (Q.start.alone ≡ true → NothingOut Q.start (Q.seen desk.new) unit.ready.ticket) }
     ensures restored { Q.start.alone ≡ true → AreTargetsOf (record { made_for = T.Target.made_for; files = T.Target.files; is_sure = T.Target.is_sure; begun = T.Target.begun; faults = T.Target.faults; are_told = T.is_told targets.now; are_quiet = T.is_quiet targets.now })

@@ -59,7 +59,6 @@ fn work_all<
     requires numbered { HasNoTickets Q.start }
     requires tracked { ReadTracked Q.start.world }
     requires ops { Tracked Q.start.world }
-    requires alone { Q.start.alone ≡ true }
     ensures idle { OnOk result (IsLast (Q.seen desk.new) 0 TakeStep NothingReady) }
     ensures stopped { IfErr result (IsStopped Q.start (Q.seen desk.new)) }
     ensures rest { OnOk result (Q.start.alone ≡ true → NoneOut Q.start (Q.seen desk.old) → NoneOut Q.start (Q.seen desk.new)) }
@@ -111,7 +110,6 @@ pub fn work<
     requires numbered { HasNoTickets Q.start }
     requires tracked { ReadTracked Q.start.world }
     requires ops { Tracked Q.start.world }
-    requires alone { Q.start.alone ≡ true }
     ensures idle { result.stop ≡ None → IsLast (Q.seen desk.new) 0 TakeStep NothingReady }
     ensures stopped { IfSome result.stop (IsStopped Q.start (Q.seen desk.new)) }
     ensures rest { result.stop ≡ None → Q.start.alone ≡ true → NoneOut Q.start (Q.seen desk.old) → NoneOut Q.start (Q.seen desk.new) }

@@ -1,5 +1,5 @@
 -- What shows why a shard wasn't restored.
-use Rattle.std.specs.Prelude.{◌≡◌, ◌<◌, ℕ, Bool, true, false, List, ◌∷◌, ◌++◌, length, Some}
+use Rattle.std.specs.Prelude.{◌≡◌, ◌<◌, ℕ, Bool, true, false, List, ◌∷◌, ◌++◌, length, Option, Some}
 use Rattle.std.specs.List.{concat}
 use Rattle.esr_model.specs.Names.{BlobName, File, ShardSnap}
 use Rattle.esr_model.specs.Values.{Bytes, Has, FileEntry, ShardSnapshot}
@@ -16,12 +16,14 @@ use Rattle.esr_desk.specs.Start.{Start, formats_of}
 use Rattle.esr_desk.specs.Shown.{Faulty}
 use Rattle.esr_desk.specs.Readers.{reader_of}
 use Rattle.esr_reading.specs.Parts.{AreFronts, AreExact}
+use Rattle.esr_reading.specs.First.{HasFirst}
 
--- How often a fetch or a target has failed, and for which address a target was made.
+-- How often a fetch or a target has failed, for which address a target was made, and the files that it tells.
 pub record Counts (F T : Type 0) : Type 0 where
   pub fetch : F → ℕ
   pub target : T → ℕ
   pub made_for : T → Address
+  pub files : T → Option (List (Bytes × Bytes))
 
 -- a fetch of the ticket was refused, since the container failed in it
 pub record HadFault (log : List Moment) (who : ℕ) : Type 0 where
@@ -59,12 +61,12 @@ DepotShown c s log who (by.Object (objects.Target target)) = ⊥
 DepotShown c s log who by.Entry = HadFault log who × (s.quiet ≡ false)
 DepotShown c s log who by.Nothing = ⊥
 
--- the target of the unit has failed, which it can't where targets are sure
+-- the target of the unit has failed, which it can't where targets are sure; it has the files that were ended before
 abbrev pub TargetShown : {S F H T : Type 0} → Counts F T → Start → Reader → By S F H T → Type 0
 TargetShown c s q (by.Object (objects.Stage stage)) = ⊥
 TargetShown c s q (by.Object (objects.Fetch fetch)) = ⊥
 TargetShown c s q (by.Object (objects.Shard shard)) = ⊥
-TargetShown c s q (by.Object (objects.Target target)) = (0 < c.target target) × (s.sure_targets ≡ false) × IsOf q (c.made_for target)
+TargetShown c s q (by.Object (objects.Target target)) = (0 < c.target target) × (s.sure_targets ≡ false) × IsOf q (c.made_for target) × HasFirst s q (c.files target)
 TargetShown c s q by.Entry = ⊥
 TargetShown c s q by.Nothing = ⊥
 

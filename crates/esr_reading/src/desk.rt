@@ -70,7 +70,8 @@ pub trait RestoreDesk: Desk {
         ensures kept { OnErr result (reader_of Self.start (Self.seen self.new) ticket ≡ reader_of Self.start (Self.seen self.old) ticket) }
         ensures holds { Self.holds self.new ticket };
 
-    /// A shard is not restored, as `by` shows; its ticket ends. An object that failed is given up in each answer.
+    /// A shard is not restored, as `by` shows; its ticket ends. An object that failed is given up in each answer; a target that did
+    /// has the files that were ended before.
     fn unrestored(
         &mut self,
         alloc: Global,
@@ -80,7 +81,7 @@ pub trait RestoreDesk: Desk {
     ) -> Result<(), StepRefusal>
         requires mine { Self.holds self.old ticket }
         requires out { (reader_of Self.start (Self.seen self.old) ticket).out ≡ true }
-        requires shown { IsShown (record { fetch = Self.Fetch.faults; target = Self.Target.faults; made_for = Self.Target.made_for })
+        requires shown { IsShown (record { fetch = Self.Fetch.faults; target = Self.Target.faults; made_for = Self.Target.made_for; files = Self.Target.files })
             Self.start (Self.seen self.old) ticket (why_of why) by }
         ensures step { Outcome Self.start (Self.seen self.old) (Self.seen self.new) ticket (ReadFails (why_of why)) (λ _. HasEnded) result }
         ensures own { OnOk result (reader_of Self.start (Self.seen self.new) ticket

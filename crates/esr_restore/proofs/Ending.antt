@@ -21,6 +21,7 @@ use Rattle.esr_desk.specs.Shown.{NeverFailed}
 use Rattle.esr_desk.specs.Unquiet.{unquiet_last}
 use Rattle.esr_desk.specs.Readers.{reader_of}
 use Rattle.esr_reading.specs.Outcome.{Waited, Stepped}
+use Rattle.esr_reading.specs.First.{HasFirst}
 use Rattle.esr_reading.specs.Shown.{Counts, HadFault, HadFetch, IsOf, DepotShown, TargetShown, ReadShown, IsNoSnap, WasUnreadable, IsMisprinted, IsMiscut, IsShown}
 use Rattle.esr_restore.specs.declared.cause.Cause.{Cause}
 use Rattle.esr_restore.specs.declared.trouble.Trouble.{Trouble}
@@ -136,16 +137,16 @@ module _ {S F H T : Type 0} (c : Counts F T) (s : Start) (log : List Moment) (wh
   refused_shown (steps.Refused (refusals.BusyOp op)) cause never h is = absurd cc
   refused_shown (steps.Refused (refusals.BusyTicket ticket)) cause never h is = absurd cc
 
-  pub cause_shown : (sure : Bool) (target : T) (trouble : Trouble F) (cause : Cause S F H T) → (s.quiet ≡ true → NeverFailed log) → (s.sure_targets ≡ true → sure ≡ true) → IsOf (reader_of s log who) (c.made_for target)
+  pub cause_shown : (sure : Bool) (target : T) (trouble : Trouble F) (cause : Cause S F H T) → (s.quiet ≡ true → NeverFailed log) → (s.sure_targets ≡ true → sure ≡ true) → IsOf (reader_of s log who) (c.made_for target) → HasFirst s (reader_of s log who) (c.files target)
       → Shown c.fetch (c.target target) sure s log who trouble → cause_by target trouble ≡ Ok cause → IsShown c s log who (why_of cause.why) cause.by
-  cause_shown sure target (troubles.Step e) cause never serves of h is = refused_shown e cause never h is
-  cause_shown sure target (troubles.Fetch fetch) cause never serves of h is =
+  cause_shown sure target (troubles.Step e) cause never serves of first h is = refused_shown e cause never h is
+  cause_shown sure target (troubles.Fetch fetch) cause never serves of first h is =
       let same : ◌≡◌ {A = Cause S F H T} (record { why = whys.Depot; by = shows.Object (objects.Fetch fetch) }) cause = cc in
       subst IsShownCause same h
-  cause_shown sure target troubles.Target cause never serves of h is =
+  cause_shown sure target troubles.Target cause never serves of first h is =
       let same : ◌≡◌ {A = Cause S F H T} (record { why = whys.Target; by = shows.Object (objects.Target target) }) cause = cc in
-      subst IsShownCause same (h.0, unsure s.sure_targets sure serves h.1, of)
-  cause_shown sure target (troubles.Found why) cause never serves of h is =
+      subst IsShownCause same (h.0, unsure s.sure_targets sure serves h.1, of, first)
+  cause_shown sure target (troubles.Found why) cause never serves of first h is =
       let same : ◌≡◌ {A = Cause S F H T} (record { why = why; by = shows.Nothing }) cause = cc in
       subst IsShownCause same (found_shown S H c s log who why h)
 

@@ -30,7 +30,7 @@ use Rattle.esr_restore.proofs.Pairs.{pairs_map, pairs_of_map, pairs_to_map, pair
 -- ---- what the files are
 
 module _ (s : Start) (q : Reader) (at : ShardId) (uuid : ℕ) (is_at : IsAt q at.index.number at.number uuid) (tells : s.tells ≡ true) where
-  stands_own : (e : FileEntry) (bytes : Bytes) → FileStands (formats_of s) (WasRead q.read) at.index.number at.number e bytes → FileStands (formats_of s) (WasRead q.read) q.index q.number e bytes
+  pub stands_own : (e : FileEntry) (bytes : Bytes) → FileStands (formats_of s) (WasRead q.read) at.index.number at.number e bytes → FileStands (formats_of s) (WasRead q.read) q.index q.number e bytes
   stands_own e bytes h =
       subst (λ (i : ℕ). FileStands (formats_of s) (WasRead q.read) i q.number e bytes) (sym is_at.index_is) (subst (λ (n : ℕ). FileStands (formats_of s) (WasRead q.read) at.index.number n e bytes) (sym is_at.number_is) h)
 

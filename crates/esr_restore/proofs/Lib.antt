@@ -9,3 +9,4 @@ pub mod Listing
 pub mod Ending
 pub mod Finishing
 pub mod Once
+pub mod Left

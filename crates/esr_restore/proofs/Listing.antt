@@ -98,7 +98,7 @@ next_free s q at snap k e files_old files_new whole less is so =
     let below = rises_take snap.files k e (snap_names_rise snap whole) less is in
     free_of so.held e.physical files_old files_new so.are (λ has. not_in s q at e.physical (take k snap.files) so.held so.each below has.0 has.1 has.2)
 
-stands_more : (s : Start) (a b : Reader) (at : ShardId) → Worked a b → (e : CodeEntry) (file : Bytes × Bytes) → IsFile s a at e file → IsFile s b at e file
+pub stands_more : (s : Start) (a b : Reader) (at : ShardId) → Worked a b → (e : CodeEntry) (file : Bytes × Bytes) → IsFile s a at e file → IsFile s b at e file
 stands_more s a b at worked e file h = (
   h.0,
   λ tells. let one = h.1 tells in record {

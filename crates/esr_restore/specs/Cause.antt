@@ -1,5 +1,5 @@
 -- Why a restore's unit fails, and what it hands over.
-use Rattle.std.specs.Prelude.{Result, Ok, Err}
+use Rattle.std.specs.Prelude.{Option, Some, None, Result, Ok, Err}
 use Rattle.esr_desk.specs.declared.entry.Why.TheVariants as whys
 use Rattle.esr_desk.specs.declared.refusal.StepRefusal.{StepRefusal}
 use Rattle.esr_desk.specs.declared.refusal.StepRefusal.TheVariants as steps
@@ -23,3 +23,10 @@ cause_by target (troubles.Step refusal) = cause_refused refusal
 cause_by target (troubles.Fetch fetch) = Ok (record { why = whys.Depot; by = shows.Object (objects.Fetch fetch) })
 cause_by target troubles.Target = Ok (record { why = whys.Target; by = shows.Object (objects.Target target) })
 cause_by target (troubles.Found why) = Ok (record { why = why; by = shows.Nothing })
+
+-- the target, unless it failed and is handed over
+abbrev pub left_by : {F T : Type 0} → T → Trouble F → Option T
+left_by target (troubles.Step refusal) = Some target
+left_by target (troubles.Fetch fetch) = Some target
+left_by target troubles.Target = None
+left_by target (troubles.Found why) = Some target

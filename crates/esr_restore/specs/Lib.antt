@@ -9,3 +9,4 @@ pub mod Files
 pub mod Restored
 pub mod Refused
 pub mod Unread
+pub mod Left

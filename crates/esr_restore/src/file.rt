@@ -1,5 +1,5 @@
 //! A file is restored.
-ghost use Rattle.std.specs.Prelude.{◌≡◌, ◌<◌, Some, None, map, length, Contains, IfErr, IfSome, OnOk};
+ghost use Rattle.std.specs.Prelude.{◌≡◌, ◌<◌, Some, None, map, length, Contains, IfErr, IfSome, OnOk, OnErr};
 ghost use Rattle.esr_source.specs.Begun.{begun_file};
 ghost use Rattle.esr_shardidx.specs.Entries.{IsEntry};
 ghost use Rattle.esr_desk.specs.Readers.{reader_of};
@@ -63,7 +63,8 @@ fn judge(at: ShardId, uuid: Id, entry: &FileEntry, found: Print, is_exact: bool)
     Some(Why::Disagreeing { name, other })
 }
 
-/// Reads the file of an entry and writes it to the target, which it joins if it is as the entry states.
+/// Reads the file of an entry and writes it to the target, which it joins if it is as the entry states; else the target has
+/// the files that it had.
 pub fn restore_file<Q: RestoreDesk>(
     alloc: Global,
     desk: &mut Q,
@@ -85,6 +86,7 @@ pub fn restore_file<Q: RestoreDesk>(
     requires new { AreUnread (Q.seen desk.old) ticket (IsPartOf at entry.now) }
     ensures buffer { length buf.new ≡ length buf.old }
     ensures restored { OnOk result (RestoredFile Q.start (reader_of Q.start (Q.seen desk.new) ticket) at entry.now (Q.Target.files target.old) (Q.Target.files target.new)) }
+    ensures kept { OnErr result (Q.Target.files target.new ≡ Q.Target.files target.old) }
     ensures begun { OnOk result (Q.Target.begun target.new ≡ None) }
     ensures steady { OnOk result (Q.Target.faults target.new ≡ Q.Target.faults target.old) }
     ensures made_for { Q.Target.made_for target.new ≡ Q.Target.made_for target.old }

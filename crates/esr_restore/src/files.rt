@@ -1,7 +1,8 @@
 //! The files of a shard, one after another.
-ghost use Rattle.std.specs.Prelude.{◌≡◌, ◌<◌, [], None, length, IfErr, IfSome, OnOk};
+ghost use Rattle.std.specs.Prelude.{◌≡◌, ◌<◌, [], None, length, IfErr, IfSome, OnOk, OnErr};
 ghost use Rattle.esr_restore.specs.Files.{sum_files, RestoredAll};
 ghost use Rattle.esr_desk.specs.Readers.{reader_of};
+ghost use Rattle.esr_reading.specs.First.{HasFirst};
 ghost use Rattle.esr_restore.specs.Snapped.{IsAt, HasSnap};
 ghost use Rattle.esr_restore.specs.Unread.{AreUnread, IsPartOfAny};
 ghost use Rattle.esr_restore.specs.Trouble.{Shown};
@@ -27,7 +28,7 @@ pub fn sum_of(entries: &[FileEntry]) -> u64
     sum
 }
 
-/// Restores each file that the snapshot has of the shard.
+/// Restores each file that the snapshot has of the shard. Where one fails the target has those before it.
 pub fn restore_files<Q: RestoreDesk>(
     alloc: Global,
     desk: &mut Q,
@@ -47,6 +48,7 @@ pub fn restore_files<Q: RestoreDesk>(
     requires buffer { 0 < length buf.old }
     requires new { AreUnread (Q.seen desk.old) ticket (IsPartOfAny at snap.now.files) }
     ensures restored { OnOk result (RestoredAll Q.start (reader_of Q.start (Q.seen desk.new) ticket) at snap.now.files (Q.Target.files target.old) (Q.Target.files target.new)) }
+    ensures first { OnErr result (HasFirst Q.start (reader_of Q.start (Q.seen desk.new) ticket) (Q.Target.files target.new)) }
     ensures begun { OnOk result (Q.Target.begun target.new ≡ None) }
     ensures steady { OnOk result (Q.Target.faults target.new ≡ Q.Target.faults target.old) }
     ensures made_for { Q.Target.made_for target.new ≡ Q.Target.made_for target.old }

@@ -9,5 +9,7 @@ mod part;
 mod snap;
 mod trouble;
 mod unit;
+mod unrestored;
 
 pub use unit::run_unit;
+pub use unrestored::Unrestored;

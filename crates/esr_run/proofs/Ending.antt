@@ -103,6 +103,10 @@ opened_run {S} {F} {H} {T} laws count files size workers moment lines quiet befo
       quiet_is = quiet_is;
       later = o.left.later;
       opened = λ i e. o.opens i _ _ e;
+      cluster = o.cluster;
+      root = o.root;
+      world_is = refl;
+      finds = o.finds;
       order = o.order;
       legal = run;
       every_image = every_image_kept laws files size quiet before mid after k history o run was;

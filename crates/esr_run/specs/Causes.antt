@@ -14,7 +14,10 @@ use Rattle.esr_script.specs.declared.refusal.ScriptRefusal.TheVariants.{TooLong}
 use Rattle.esr_opening.specs.declared.refusal.OpenRefusal.{OpenRefusal}
 use Rattle.esr_opening.specs.declared.refusal.OpenRefusal.TheVariants as refusals
 use Rattle.esr_opening.specs.declared.refusal.Why.{Why}
-use Rattle.esr_opening.specs.Opening.{image_of, IsInOrder, IsOpenRefused}
+use Rattle.esr_record.specs.Record.{Record}
+use Rattle.esr_root.specs.Root.{Root}
+use Rattle.esr_opening.specs.Found.{found}
+use Rattle.esr_opening.specs.Opening.{image_of, world_in, IsInOrder, IsOpenRefused}
 use Rattle.esr_repo.specs.Log.{log_of}
 use Rattle.esr_repo.specs.Calm.{IsCalm}
 use Rattle.esr_quiet.specs.Asked.{asked_steps}
@@ -138,6 +141,11 @@ pub record IsOpenedRun {S F H T : Type 0} (count : Counts S F H T) (files : Tell
   pub quiet_is : 2 ^ 62 ≤ before.sure → quiet ≡ true
   pub later : before.clock ≤ clock
   pub opened : (i : Held) → now before ≡ Some i → Opened (formats_by files) (image_of i) world
+  -- as the world of this record and this root; where the container tells, opening finds them in it, and nothing that is wrong
+  pub cluster : Record
+  pub root : Root
+  pub world_is : world ≡ world_in (now before) cluster root
+  pub finds : (i : Held) → now before ≡ Some i → found i ≡ Ok (cluster, root)
   pub order : IsInOrder world
   pub legal : LegalRun (start_of files size quiet before world) clock after history
   pub every_image : EveryImageKept (formats_by files) world (log_of after clock history) before after

@@ -29,7 +29,7 @@ abbrev pub unit_counts : {S F H T : Type 0} → Counts S F H T → desk.Counts S
 unit_counts c = record { stage = c.stage; fetch = c.fetch; shard = c.shard; target = c.target; made_for = c.made_for }
 
 abbrev pub read_counts : {S F H T : Type 0} → Counts S F H T → reading.Counts F T
-read_counts c = record { fetch = c.fetch; target = c.target; made_for = c.target_for }
+read_counts c = record { fetch = c.fetch; target = c.target; made_for = c.target_for; files = c.held }
 
 -- and as those of verifications
 abbrev pub verify_counts : {S F H T : Type 0} → Counts S F H T → checking.Counts S F

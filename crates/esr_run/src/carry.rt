@@ -147,7 +147,6 @@ fn wait<
     requires numbered { HasNoTickets Q.start }
     requires tracked { ReadTracked Q.start.world }
     requires ops { Tracked Q.start.world }
-    requires alone { Q.start.alone ≡ true }
     ensures made { LineMade Q.start [] (Q.seen desk.old) (Q.seen desk.new) result }
     ensures rests { Q.start.alone ≡ true → AreIn Q.start (Q.seen desk.old) → LineRests Q.start (Q.seen desk.new) result }
     ensures spent { Q.start.alone ≡ true → LineSpends (Q.seen desk.new) result }
@@ -342,7 +341,6 @@ fn work_out<
     requires numbered { HasNoTickets Q.start }
     requires tracked { ReadTracked Q.start.world }
     requires ops { Tracked Q.start.world }
-    requires alone { Q.start.alone ≡ true }
     ensures grew { GrewAsking Q.start [] (Q.seen desk.old) (Q.seen desk.new) }
     ensures done { OnOk result (Q.start.alone ≡ true → AreIn Q.start (Q.seen desk.old) → IsIdle Q.start (Q.seen desk.new) ⊎ HasStopped (Q.seen desk.new)) }
     ensures filled { OnOk result (Q.start.alone ≡ true → Fills (record { made_for = T.Target.made_for; files = T.Target.files; is_sure = T.Target.is_sure; begun = T.Target.begun; faults = T.Target.faults; are_told = T.is_told targets.now; are_quiet = T.is_quiet targets.now })

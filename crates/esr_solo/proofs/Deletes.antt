@@ -1,15 +1,18 @@
 -- A step of a delete's ticket is that of the repository.
-use Rattle.std.proofs.Common.{◌≡◌, ◌≢◌, ◌≤◌, ℕ, ◌+◌, ◌-◌, List, [], ◌∷◌, ◌++◌, length, Result, Ok, Err, refl, sym, ap, ◌∙◌, subst, append-nil, arith}
-use Rattle.esr_core.specs.Entry.{Why, PruneStep, RemoveDoomed, DeleteFails, HasEnded, CommitStep, Moment}
+use Rattle.std.proofs.Common.{◌≡◌, ◌≢◌, ◌≤◌, ℕ, ◌+◌, ◌-◌, List, [], ◌∷◌, ◌++◌, length, Result, Ok, Err, OnOk, refl, sym, ap, ◌∙◌, subst, append-nil, arith}
+use Rattle.esr_core.specs.Entry.{Why, PruneStep, RemoveDoomed, EndDelete, DeleteFails, HasEnded, CommitStep, Moment}
 use Rattle.esr_model.specs.Names.{BlobName}
+use Rattle.esr_model.specs.Values.{Has}
 use Rattle.esr_desk.specs.declared.fault.Fault.{Fault}
 use Rattle.esr_desk.specs.declared.fault.By.{By}
 use Rattle.esr_desk.specs.declared.refusal.StepRefusal.{StepRefusal}
-use Rattle.esr_desk.specs.Start.{Start}
+use Rattle.esr_desk.specs.Start.{Start, world_of}
 use Rattle.esr_desk.specs.Once.{IsSingle, AreOnce, NoneTwice}
 use Rattle.esr_desk.specs.Numbered.{Numbered}
 use Rattle.esr_desk.specs.Shown.{Counts}
 use Rattle.esr_reading.specs.Shown as reading
+use Rattle.esr_deleting.specs.Conditions.{CanEndDelete, removed_by}
+use Rattle.esr_deleting.specs.Named.{AreNamed, HasNamed}
 use Rattle.esr_deleting.specs.Once.{AreRemovedOnce}
 use Rattle.esr_deleting.specs.Shown.{IsDeleteShown}
 use Rattle.esr_checking.specs.Shown as checking
@@ -29,6 +32,22 @@ use Rattle.esr_solo.proofs.Stepping.{grown, at_most_one, counted, place_is}
 pub none_single : (names : List BlobName) → 1 ≤ length names → IsSingle (PruneStep (RemoveDoomed names)) → ⊥
 none_single [] some single = omega (arith, some)
 none_single (name ∷ names) some single = single
+
+-- ---- what was named
+
+-- by a removal, after what was named before, as the desk saw it
+pub removed_now : (s : Start) (own log new : List Moment) (names : List BlobName) (result : Result (Unit {0}) StepRefusal) → own ≡ log → (world_of s new).removed ≡ removed_by result names (world_of s own).removed → (world_of s new).removed ≡ removed_by result names (world_of s log).removed
+removed_now s own log new names result view is = subst (λ (l : List Moment). (world_of s new).removed ≡ removed_by result names (world_of s l).removed) view is
+
+pub named_now : (s : Start) (own log new : List Moment) (names : List BlobName) (result : Result (Unit {0}) StepRefusal) → own ≡ log → (world_of s new).removed ≡ removed_by result names (world_of s own).removed → AreNamed s new (removed_by result names (world_of s log).removed)
+named_now s own log new names result view is name has = subst (λ (l : List BlobName). Has l name) (sym (removed_now s own log new names result view is)) has
+
+-- before the end: nobody made a step meanwhile
+pub named_all : (s : Start) (own log new : List Moment) (who : ℕ) (result : Result (Unit {0}) StepRefusal) → own ≡ log → CanEndDelete s log who → Did s own new who (PruneStep EndDelete) (λ _. HasEnded) result → OnOk result (HasNamed s new who)
+named_all s own log new who (Ok x) view may d =
+    let here : CanEndDelete s own who = subst (λ (l : List Moment). CanEndDelete s l who) (sym view) may in
+    record { last = record { front = own; image = d.image; is = d.is }; named = here.removed }
+named_all s own log new who (Err e) view may d = tt
 
 -- ---- the report that a delete failed
 

@@ -73,7 +73,7 @@ impl<D: Depot, K: Told, H: Shard, T: Target> RestoreDesk for Solo<D, K, H, T> {
         by: By<D::Stage, D::Fetch, H, T>,
     ) -> Result<(), StepRefusal>
         requires out { (reader_of K.start self.old ticket).out ≡ true }
-        requires shown { IsShown (record { fetch = D.Fetch.faults; target = T.faults; made_for = T.made_for })
+        requires shown { IsShown (record { fetch = D.Fetch.faults; target = T.faults; made_for = T.made_for; files = T.files })
             K.start self.old ticket (why_of why) by }
         ensures step { Outcome K.start self.old self.new ticket (ReadFails (why_of why)) (λ _. HasEnded) result }
         ensures own { OnOk result (reader_of K.start self.new ticket

@@ -46,7 +46,7 @@ impl<D: Depot, K: Told, H: Shard, T: Target> Model for Solo<D, K, H, T> {
 
     ghost invariant = { λ s. (length s.repo + s.left ≡ 2 ^ 40)
         × AreAllShown (record { stage = D.Stage.faults; fetch = D.Fetch.faults; shard = H.faults; target = T.faults; made_for = λ h. (H.origin h).address })
-        (record { fetch = D.Fetch.faults; target = T.faults; made_for = T.made_for }) (record { stage = D.Stage.faults; fetch = D.Fetch.faults }) K.start s.repo s.faults.items
+        (record { fetch = D.Fetch.faults; target = T.faults; made_for = T.made_for; files = T.files }) (record { stage = D.Stage.faults; fetch = D.Fetch.faults }) K.start s.repo s.faults.items
         × AreOnce K.start s.repo
         × NoneTwice s.repo
         × Numbered 1 K.start.world
@@ -79,7 +79,7 @@ impl<D: Depot, K: Told, H: Shard, T: Target> Solo<D, K, H, T> {
     pub fn into_parts(self) -> (Repo<D, K>, Faults<D::Stage, D::Fetch, H, T>)
         ensures repo { result.0 ≡ self }
         ensures shown { AreAllShown (record { stage = D.Stage.faults; fetch = D.Fetch.faults; shard = H.faults; target = T.faults; made_for = λ h. (H.origin h).address })
-            (record { fetch = D.Fetch.faults; target = T.faults; made_for = T.made_for }) (record { stage = D.Stage.faults; fetch = D.Fetch.faults }) K.start result.0 result.1 }
+            (record { fetch = D.Fetch.faults; target = T.faults; made_for = T.made_for; files = T.files }) (record { stage = D.Stage.faults; fetch = D.Fetch.faults }) K.start result.0 result.1 }
         ensures once { AreOnce K.start result.0 }
         ensures single { NoneTwice result.0 }
         ensures tested { AreTested K.start result.0 }

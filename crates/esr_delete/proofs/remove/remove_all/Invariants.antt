@@ -5,7 +5,7 @@ use Rattle.esr_reach.specs.Names.{AreOnce}
 use Rattle.esr_desk.specs.Start.{ticket_of}
 use Rattle.esr_desk.specs.Grew.{GrewBy}
 use Rattle.esr_deleting.specs.Once.{IsNewRemoval}
-use Rattle.esr_delete.specs.Removed.{AreNamed}
+use Rattle.esr_deleting.specs.Named.{AreNamed}
 use Rattle.esr_delete.proofs.remove.remove_all.Given as goal
 
 abbrev pub invariant-loop-rest : goal.invariant-loop-rest

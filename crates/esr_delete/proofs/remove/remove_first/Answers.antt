@@ -45,7 +45,7 @@ returns-clause-removed g c =
     let new = g.Q.Desk.seen c.remove.new.self in
     let who = c.args.ticket in
     subst (λ (l : List CodeName). Removed s old new who (map name_of l)) c.in_ok-batch.ensures
-    (passed_removed s old new who (map name_of c.in_ok-batch.batch) c.remove.result c.in_ok-passed.field-0 c.in_ok-passed.ensures c.remove.ensures.step c.remove.ensures.removed)
+    (passed_removed s old new who (map name_of c.in_ok-batch.batch) c.remove.result c.in_ok-passed.field-0 c.in_ok-passed.ensures c.remove.ensures.step c.remove.ensures.named)
 
 pub returns-clause-grew : goal.returns-clause-grew
 returns-clause-grew g c =

@@ -8,7 +8,8 @@ use Rattle.esr_reach.specs.Names.{AreOnce}
 use Rattle.esr_desk.specs.Start.{ticket_of}
 use Rattle.esr_desk.specs.Grew.{grew_by_none, grew_by_on, outcome_grew_by}
 use Rattle.esr_deleting.specs.Conditions.{CanEndDelete}
-use Rattle.esr_delete.specs.Removed.{MayRemove, AreNamed}
+use Rattle.esr_deleting.specs.Named.{AreNamed}
+use Rattle.esr_delete.specs.Removed.{MayRemove}
 use Rattle.esr_delete.proofs.Clearing.{any_err, new_removal, may_remove, once_layout, can_end, ended_ok, ended_kept}
 use Rattle.esr_delete.proofs.Passing.{ended_halts}
 use Rattle.esr_delete.proofs.settle.clear.Goals as goal
@@ -62,8 +63,7 @@ deleted-requires-clause-may g c = may_end g (goal.at.deleted-requires-clause-may
 
 pub returns-clause-ok : goal.returns-clause-ok
 returns-clause-ok g c =
-    ended_ok g.Q.Desk.start (g.Q.Desk.seen c.args.desk.now) (g.Q.Desk.seen c.remove_all.new.desk) (g.Q.Desk.seen c.deleted.new.self) c.args.ticket c.deleted.result c.requires.alone c.remove_all.ensures.own
-    (may_end g (goal.at.returns-clause-ok g c).In_ok-remove_all) c.deleted.ensures.step c.deleted.ensures.own
+    ended_ok g.Q.Desk.start (g.Q.Desk.seen c.args.desk.now) (g.Q.Desk.seen c.remove_all.new.desk) (g.Q.Desk.seen c.deleted.new.self) c.args.ticket c.deleted.result c.remove_all.ensures.own c.deleted.ensures.own c.deleted.ensures.named
 
 pub returns-clause-kept : goal.returns-clause-kept
 returns-clause-kept g c =

@@ -1,6 +1,7 @@
-use Rattle.std.proofs.Common.{◌∙◌}
+use Rattle.std.proofs.Common.{◌≡◌, ◌∙◌}
 use Rattle.esr_desk.specs.Readers.{reader_of}
 use Rattle.esr_restore.proofs.Going.{went_none, went_at}
+use Rattle.esr_restore.proofs.Left.{any_err}
 use Rattle.esr_restore.proofs.Reading.{listed_more}
 use Rattle.esr_restore.proofs.Standing.{judged_so, judged_well, restored_file}
 use Rattle.esr_restore.proofs.file.restore_file.Goals as goal
@@ -32,3 +33,16 @@ returns-in-Ok-clause-restored g c =
 
 pub returns-in-Ok-clause-steady : goal.returns-in-Ok-clause-steady
 returns-in-Ok-clause-steady g c = c.in-Ok.ensures.steady ∙ c.in_ok-is_exact.ensures.steady ∙ c.in_ok-begin_file.ensures.steady
+
+pub returns-in_err-begin_file-clause-kept : goal.returns-in_err-begin_file-clause-kept
+returns-in_err-begin_file-clause-kept g c = any_err c.from_residual.result (g.Q.Target.Target.files c.begin_file.new.target ≡ g.Q.Target.Target.files c.args.target.now) c.begin_file.ensures.files
+
+pub returns-in_err-is_exact-clause-kept : goal.returns-in_err-is_exact-clause-kept
+returns-in_err-is_exact-clause-kept g c =
+    any_err c.from_residual-in_err-is_exact.result (g.Q.Target.Target.files c.read_parts.new.target ≡ g.Q.Target.Target.files c.args.target.now) (c.read_parts.ensures.files ∙ c.begin_file.ensures.files)
+
+pub returns-in-Some-clause-kept : goal.returns-in-Some-clause-kept
+returns-in-Some-clause-kept g c = c.read_parts.ensures.files ∙ c.begin_file.ensures.files
+
+pub returns-in-Err-clause-kept : goal.returns-in-Err-clause-kept
+returns-in-Err-clause-kept g c = c.in-Err.ensures.kept ∙ c.read_parts.ensures.files ∙ c.begin_file.ensures.files

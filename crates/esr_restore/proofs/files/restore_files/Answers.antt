@@ -1,12 +1,14 @@
 use Rattle.std.proofs.Common.{◌∙◌, ◌≤◌, List, length, take, refl, subst}
 use Rattle.esr_shardidx.specs.declared.entry.FileEntry.{FileEntry as CodeEntry}
 use Rattle.esr_desk.specs.Readers.{reader_of}
-use Rattle.esr_restore.proofs.Going.{went_none, went_on}
+use Rattle.esr_restore.proofs.Going.{went_none, went_on, went_at}
 use Rattle.esr_restore.proofs.Reading.{snap_more}
 use Rattle.esr_restore.proofs.Listing.{entry_at, listed_at, files_none, next_free, files_next, files_all, at_same}
+use Rattle.esr_reading.specs.First.{HasFirst}
 use Rattle.esr_reading.specs.Once.{reads_none}
 use Rattle.esr_restore.specs.Unread.{IsPartOfAny}
 use Rattle.esr_restore.proofs.Once.{file_unread, file_more}
+use Rattle.esr_restore.proofs.Left.{any_err, first_files}
 use Rattle.esr_restore.proofs.files.restore_files.Goals as goal
 
 pub loop-entry-init : goal.loop-entry-init
@@ -45,6 +47,21 @@ restore_file-requires-clause-free g c κs within =
 
 pub returns-in_err-restore_file-clause-went : goal.returns-in_err-restore_file-clause-went
 returns-in_err-restore_file-clause-went g c = went_on g.Q.Desk.start (g.Q.Desk.seen c.args.desk.now) (g.Q.Desk.seen c.loop-entry.desk) (g.Q.Desk.seen c.restore_file.new.desk) c.args.ticket c.loop-entry.invariant.went c.restore_file.ensures.went
+
+pub returns-in_err-restore_file-clause-first : goal.returns-in_err-restore_file-clause-first
+returns-in_err-restore_file-clause-first g c =
+    let s = g.Q.Desk.start in
+    let who = c.args.ticket in
+    let at = c.args.at in
+    let uuid = c.args.uuid in
+    let old = g.Q.Desk.seen c.args.desk.now in
+    let mid = g.Q.Desk.seen c.loop-entry.desk in
+    let new = g.Q.Desk.seen c.restore_file.new.desk in
+    let went = went_on s old mid new who c.loop-entry.invariant.went c.restore_file.ensures.went in
+    let files_new = g.Q.Target.Target.files c.restore_file.new.target in
+    any_err c.from_residual.result (HasFirst s (reader_of s new who) files_new)
+    (first_files s (reader_of s mid who) (reader_of s new who) at uuid.number c.args.snap.now c.loop-entry.entry-index (g.Q.Target.Target.files c.args.target.now) (g.Q.Target.Target.files c.loop-entry.target) files_new c.restore_file.ensures.went.worked
+    (went_at s old new who at.index.number at.number uuid.number went c.requires.at) (snap_more s (reader_of s old who) (reader_of s new who) c.args.snap.now went.worked c.requires.snap) c.loop-entry.invariant.first c.in_err-restore_file.ensures.kept)
 
 pub loop-entry-preserved : goal.loop-entry-preserved
 loop-entry-preserved g c =

@@ -3,8 +3,10 @@ use Rattle.esr_restore.specs.Trouble.{Shown}
 use Rattle.esr_restore.proofs.Going.{passed, went_on}
 use Rattle.esr_restore.proofs.Reading.{snap_more}
 use Rattle.esr_model.specs.Names.{ShardSnap}
+use Rattle.esr_reading.specs.First.{HasFirst}
 use Rattle.esr_reading.specs.Once.{none_unread}
 use Rattle.esr_restore.proofs.Once.{files_unread}
+use Rattle.esr_restore.proofs.Left.{any_err, first_none}
 use Rattle.esr_restore.proofs.unit.restore.Goals as goal
 
 pub returns-in_err-snap-clause-trouble : goal.returns-in_err-snap-clause-trouble
@@ -13,6 +15,19 @@ returns-in_err-snap-clause-trouble g c =
     let count = g.Q.Target.Counted.faults c.args.target.now in
     let sure = g.Q.Target.Target.is_sure c.args.target.now in
     passed c.from_residual.result (Shown g.Q.Fetch.Counted.faults count sure s (g.Q.Desk.seen c.fetch_snap.new.desk) c.args.ticket) c.in_err-snap.field-0.0 c.from_residual.ensures.1 (c.in_err-snap.ensures.trouble count sure)
+
+pub returns-in_err-snap-clause-first : goal.returns-in_err-snap-clause-first
+returns-in_err-snap-clause-first g c =
+    let s = g.Q.Desk.start in
+    let q = reader_of s (g.Q.Desk.seen c.fetch_snap.new.desk) c.args.ticket in
+    let files = g.Q.Target.Target.files c.args.target.now in
+    any_err c.from_residual.result (HasFirst s q files) (first_none s q files c.requires.empty)
+
+pub returns-in_err-restore_files-clause-first : goal.returns-in_err-restore_files-clause-first
+returns-in_err-restore_files-clause-first g c =
+    let s = g.Q.Desk.start in
+    let q = reader_of s (g.Q.Desk.seen c.restore_files.new.desk) c.args.ticket in
+    any_err c.from_residual-in_err-restore_files.result (HasFirst s q (g.Q.Target.Target.files c.restore_files.new.target)) c.in_err-restore_files.ensures.first
 
 pub returns-in_err-restore_files-clause-went : goal.returns-in_err-restore_files-clause-went
 returns-in_err-restore_files-clause-went g c = went_on g.Q.Desk.start (g.Q.Desk.seen c.args.desk.now) (g.Q.Desk.seen c.fetch_snap.new.desk) (g.Q.Desk.seen c.restore_files.new.desk) c.args.ticket c.fetch_snap.ensures.went c.restore_files.ensures.went

@@ -1,4 +1,5 @@
 use Rattle.esr_core.specs.Entry.{PruneStep, EndDelete}
+use Rattle.esr_solo.proofs.Deletes.{named_all}
 use Rattle.esr_solo.proofs.Stepping.{keeps, outcome, waited, spends}
 use Rattle.esr_solo.proofs.deleting.SoloDeleteDesk.deleted.Goals as goal
 
@@ -14,3 +15,6 @@ invariant_of-self g c =
 
 pub returns-clause-step : goal.returns-clause-step
 returns-clause-step g c = outcome g.K.Told.start c.self.inside.repo c.args.self.now c.deleted-answer.new.self c.args.ticket (PruneStep EndDelete) _ c.deleted-answer.result c.self.view_is c.is_legal.ensures c.deleted-answer.ensures.step
+
+pub returns-clause-named : goal.returns-clause-named
+returns-clause-named g c = named_all g.K.Told.start c.self.inside.repo c.args.self.now c.deleted-answer.new.self c.args.ticket c.deleted-answer.result c.self.view_is c.requires.may c.deleted-answer.ensures.step

@@ -1,0 +1,9 @@
+//! Shards that weren't restored.
+use esr_desk::UnitRefusal;
+
+/// Why a shard wasn't restored, and the target that was made for it, unless the report of its failure took it.
+#[derive(Drop)]
+pub struct Unrestored<T> {
+    pub refusal: UnitRefusal,
+    pub target: Option<T>,
+}
