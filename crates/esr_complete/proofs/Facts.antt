@@ -1,8 +1,8 @@
 -- What each entry of a history where nothing fails answers to a line.
-use Rattle.std.proofs.Common.{◌≡◌, ℕ, false, List, Option, Some, None, refl, sym, subst, inl, inr}
+use Rattle.std.proofs.Common.{◌≡◌, ℕ, false, List, [], Option, Some, None, refl, sym, subst, inl, inr}
 use Rattle.esr_model.specs.Values.{Bytes, Has}
 use Rattle.esr_core.specs.Entry as entry
-use Rattle.esr_core.specs.Entry.{AskedIndex, Asked, Snapshot, Restore, Step, AskStep, LookStep, PruneStep, Refusal, NameInUse, TooMany, NoSnapshot, BeingDeleted, Accepted, AcceptedRestore, Looked, Entry, Moment}
+use Rattle.esr_core.specs.Entry.{AskedIndex, Asked, Snapshot, DeleteSnapshots, AsksNoDelete, Restore, Step, AskStep, LookStep, PruneStep, Refusal, NameInUse, TooMany, NoSnapshot, BeingDeleted, CloneRunning, RestoreRunning, Accepted, AcceptedRestore, Looked, Entry, Moment}
 use Rattle.esr_core.specs.After.{or_else}
 use Rattle.esr_script.specs.declared.item.AskedIndex.{AskedIndex as LineIndex}
 use Rattle.esr_script.specs.declared.item.Item.{Item}
@@ -40,6 +40,11 @@ unfallen_rule (Restore name place) (NoSnapshot at) rule = refl
 unfallen_rule (Restore name place) (BeingDeleted op) rule = refl
 unfallen_rule (Restore name place) (TooMany limit) rule = refl
 unfallen_rule (Restore name place) refusal rule = absurd rule
+unfallen_rule (DeleteSnapshots names) (NoSnapshot place) rule = refl
+unfallen_rule (DeleteSnapshots names) (CloneRunning op) rule = refl
+unfallen_rule (DeleteSnapshots names) (RestoreRunning op) rule = refl
+unfallen_rule (DeleteSnapshots names) (TooMany limit) rule = refl
+unfallen_rule (DeleteSnapshots names) refusal rule = absurd rule
 unfallen_rule command refusal rule = absurd rule
 
 unfallen_by : (step : Step) (reply : entry.Reply) → IsCalm reply step → fails_swap step reply ≡ false
@@ -48,7 +53,7 @@ unfallen_by step (entry.Refused refusal) calm = absurd calm
 unfallen_by step reply calm = refl
 
 asked_by : (all : List Entry) (of : Bytes) (refs : List AskedIndex) (moment : ℕ) (reply : entry.Reply) (name : Bytes) (indices : List LineIndex) → IsCalm reply (AskStep (Snapshot of refs moment)) → IsSaid (AskStep (Snapshot of refs moment)) reply
-    → ((o : ℕ) → accepts reply ≡ Some o → IsMade (end_of_op all o all)) → IsAnswerOf (items.Snapshot name indices) (ask_reply all reply)
+    → ((o : ℕ) → accepts reply ≡ Some o → IsMade (end_of_op all o [] all)) → IsAnswerOf (items.Snapshot name indices) (ask_reply all reply)
 asked_by all of refs moment (Accepted op) name indices calm said made = subst (λ (a : Option Reply). IsAnswerOf (items.Snapshot name indices) (or_else a (deposed_by (has_fallen all)))) (sym (made op refl).is) tt
 asked_by all of refs moment (entry.Refused (NameInUse uuid)) name indices calm said made = tt
 asked_by all of refs moment (entry.Refused (TooMany limit)) name indices calm said made = tt
@@ -71,7 +76,7 @@ looked_by : (reply : entry.Reply) → IsSaid LookStep reply → IsAnswerOf items
 looked_by (Looked snapshots safe) said = tt
 looked_by reply said = absurd said
 
-fact_by : (all : List Entry) (e : Entry) → IsCalm e.reply e.step → IsSaid e.step e.reply → ((o : ℕ) → accepts e.reply ≡ Some o → IsMade (end_of_op all o all)) → IsAnswered all e.reply → Fact all e
+fact_by : (all : List Entry) (e : Entry) → IsCalm e.reply e.step → IsSaid e.step e.reply → ((o : ℕ) → accepts e.reply ≡ Some o → IsMade (end_of_op all o [] all)) → IsAnswered all e.reply → Fact all e
 fact_by all e calm said made answered =
     record {
       unfallen = unfallen_by e.step e.reply calm;
@@ -85,12 +90,12 @@ said_unpruned (PruneStep prune) reply said = absurd said
 said_unpruned step reply said = tt
 
 -- an op that was accepted ends with its snapshot
-made_by : (all : List Entry) (o : ℕ) → ((e : Entry) → Has all e → IsCalm e.reply e.step) → ((e : Entry) → Has all e → IsUnpruned e.step) → IsSettledIn all o → IsMade (end_of_op all o all)
-made_by all o calm own h = end_made all o all calm own h.e h.has (settle_made all o h.uuid h.e h.op_is h.uuid_is h.step h.reply)
+made_by : (all : List Entry) (o : ℕ) → ((e : Entry) → Has all e → IsCalm e.reply e.step) → ((e : Entry) → Has all e → IsUnpruned e.step) → ((e : Entry) → Has all e → AsksNoDelete e.step) → IsSettledIn all o → IsMade (end_of_op all o [] all)
+made_by all o calm own unasked h = end_made all o [] all calm own unasked h.e h.has (settle_made all o h.uuid h.e h.op_is h.uuid_is h.step h.reply)
 
 pub facts : Laws → (s : Start) (log : List Moment) → IsSmooth s log → NoneFailed log → NoneUnrestored log → AreByRule log → IsIdle s log → (e : Entry) → Has (entries_of log) e → Fact (entries_of log) e
 facts laws s log smooth none unrestored by_rule idle e has =
-    fact_by (entries_of log) e (calm e has) (h.said e has) (λ o accepted. elim (h.ended e o has accepted) [ inl stands ↦ absurd (all_closed laws s log smooth idle o stands) | inr settled ↦ made_by (entries_of log) o calm (λ x m. said_unpruned x.step x.reply (h.said x m)) settled ])
+    fact_by (entries_of log) e (calm e has) (h.said e has) (λ o accepted. elim (h.ended e o has accepted) [ inl stands ↦ absurd (all_closed laws s log smooth idle o stands) | inr settled ↦ made_by (entries_of log) o calm (λ x m. said_unpruned x.step x.reply (h.said x m)) unasked settled ])
     (λ a opened. restored_reply (entries_of log) a.op a.uuid a.indices (all_restored laws s log smooth none unrestored by_rule idle e a has opened))
   where
     h : FollowsIn (world_of s log) (entries_of log)
@@ -98,3 +103,6 @@ facts laws s log smooth none unrestored by_rule idle e has =
 
     calm : (x : Entry) → Has (entries_of log) x → IsCalm x.reply x.step
     calm x m = let (moment, there, is) = Has-mapped (λ (y : Moment). y.entry) log x m in subst (λ (y : Entry). IsCalm y.reply y.step) is (all_calm log none by_rule moment there)
+
+    unasked : (x : Entry) → Has (entries_of log) x → AsksNoDelete x.step
+    unasked x m = let (moment, there, is) = Has-mapped (λ (y : Moment). y.entry) log x m in subst (λ (y : Entry). AsksNoDelete y.step) is (smooth.no_delete_asked moment there)

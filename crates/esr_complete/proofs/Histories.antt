@@ -19,7 +19,7 @@ use Rattle.esr_core.proofs.Queues.{Deletes}
 use Rattle.esr_core.proofs.Histories.{legal_parts, told_parts, honest_parts}
 use Rattle.esr_desk.specs.Start.{Start, formats_of, world_of, Legal, or_no_ticket}
 use Rattle.esr_quiet.specs.Refusals.{IsByRule, AreByRule}
-use Rattle.esr_quiet.specs.Smooth.{IsSmooth, NoneFailed}
+use Rattle.esr_quiet.specs.Smooth.{IsSmooth, NoDeleteAsked, NoneFailed}
 use Rattle.esr_complete.specs.Lines.{entries_of}
 use Rattle.esr_complete.specs.Answers.{IsIdle}
 use Rattle.esr_complete.proofs.Tickets.{IsCalm}
@@ -59,11 +59,11 @@ calm_by reply step none by_rule = tt
 pub all_calm : (log : List Moment) → NoneFailed log → AreByRule log → AreCalm log
 all_calm log none by_rule m has = calm_by m.entry.reply m.entry.step (λ why is. none m why has is) (λ refusal is. by_rule m refusal has is)
 
-pub follows_history : (f : Formats) (size : ℕ) (log : List Moment) (w : World) (es : List Entry) → FollowsIn w es → IsLegal f size w log → AreCalm log → FollowsIn (world_from f w log) (es ++ entries_of log)
-follows_history f size [] w es h legal calm = subst (FollowsIn w) (sym (append-nil es)) h
-follows_history f size (m ∷ log) w es h legal calm =
+pub follows_history : (f : Formats) (size : ℕ) (log : List Moment) (w : World) (es : List Entry) → FollowsIn w es → IsLegal f size w log → AreCalm log → NoDeleteAsked log → FollowsIn (world_from f w log) (es ++ entries_of log)
+follows_history f size [] w es h legal calm unasked = subst (FollowsIn w) (sym (append-nil es)) h
+follows_history f size (m ∷ log) w es h legal calm unasked =
     subst (FollowsIn (world_from f (after f w m) log)) (append_assoc es (m.entry ∷ []) (entries_of log))
-    (follows_history f size log (after f w m) (es ++ m.entry ∷ []) (follows_step f size w es h m legal.0 (calm m (inl refl))) legal.1 (λ n has. calm n (inr has)))
+    (follows_history f size log (after f w m) (es ++ m.entry ∷ []) (follows_step f size w es h m legal.0 (calm m (inl refl)) (unasked m (inl refl))) legal.1 (λ n has. calm n (inr has)) (λ n has. unasked n (inr has)))
 
 -- ---- no unit is ready
 
@@ -127,4 +127,4 @@ all_closed laws s log smooth idle o stands =
 
 -- what the whole history tells
 pub follows_all : (s : Start) (log : List Moment) → IsSmooth s log → NoneFailed log → AreByRule log → FollowsIn (world_of s log) (entries_of log)
-follows_all s log smooth none by_rule = follows_history (formats_of s) s.part_size log s.world [] (follows_start (formats_of s) smooth.image s.world smooth.opened smooth.no_deletes) smooth.legal (all_calm log none by_rule)
+follows_all s log smooth none by_rule = follows_history (formats_of s) s.part_size log s.world [] (follows_start (formats_of s) smooth.image s.world smooth.opened smooth.no_deletes) smooth.legal (all_calm log none by_rule) smooth.no_delete_asked

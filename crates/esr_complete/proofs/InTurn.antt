@@ -50,6 +50,7 @@ falses (step ∷ steps) = false ∷ falses steps
 
 abbrev pub kinds_of_item : Item → List Bool
 kinds_of_item (items.Snapshot name indices) = false ∷ []
+kinds_of_item (items.Delete names) = false ∷ []
 kinds_of_item (items.Restore name place) = false ∷ []
 kinds_of_item items.List = false ∷ []
 kinds_of_item items.Check = true ∷ []
@@ -99,6 +100,8 @@ either_list (x ∷ a) b step (inr h) = elim (either_list a b step h) [ inl own �
 item_step : (moment : ℕ) (item : Item) (step : Step) → Has (steps_of_item moment item) step → IsLineStep step
 item_step moment (items.Snapshot name indices) step (inl e) = subst IsLineStep e tt
 item_step moment (items.Snapshot name indices) step (inr h) = absurd h
+item_step moment (items.Delete names) step (inl e) = subst IsLineStep e tt
+item_step moment (items.Delete names) step (inr h) = absurd h
 item_step moment (items.Restore name place) step (inl e) = subst IsLineStep e tt
 item_step moment (items.Restore name place) step (inr h) = absurd h
 item_step moment items.List step (inl e) = subst IsLineStep e tt

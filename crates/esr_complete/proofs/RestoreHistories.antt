@@ -21,7 +21,7 @@ use Rattle.esr_desk.specs.Start.{Start, formats_of, world_of, Legal}
 use Rattle.esr_desk.specs.Readers.{or_no_reader}
 use Rattle.esr_report.specs.Replies.{read_shard}
 use Rattle.esr_quiet.specs.Refusals.{AreByRule}
-use Rattle.esr_quiet.specs.Smooth.{IsSmooth, NoneFailed, NoneUnrestored}
+use Rattle.esr_quiet.specs.Smooth.{IsSmooth, NoDeleteAsked, NoneFailed, NoneUnrestored}
 use Rattle.esr_complete.specs.Lines.{entries_of}
 use Rattle.esr_complete.specs.Answers.{IsIdle}
 use Rattle.esr_complete.proofs.Following.{FollowsIn}
@@ -70,12 +70,12 @@ restores_start : (f : Formats) (image : Image) (w : World) → Opened f image w 
 restores_start f image w (OpenedEmpty none) = restores_opened image.blobs no_record no_root
 restores_start f image w (OpenedRecord cluster text root is reads root_is) = restores_opened image.blobs cluster root
 
-restores_history : (f : Formats) (size : ℕ) (log : List Moment) (w : World) (es : List Entry) → FollowsIn w es → RestoresIn w es → IsLegal f size w log → AreCalm log → NoneUnrestored log → AreOrdered f w log → RestoresIn (world_from f w log) (es ++ entries_of log)
-restores_history f size [] w es h r legal calm none ordered = subst (RestoresIn w) (sym (append-nil es)) r
-restores_history f size (m ∷ log) w es h r legal calm none ordered =
+restores_history : (f : Formats) (size : ℕ) (log : List Moment) (w : World) (es : List Entry) → FollowsIn w es → RestoresIn w es → IsLegal f size w log → AreCalm log → NoDeleteAsked log → NoneUnrestored log → AreOrdered f w log → RestoresIn (world_from f w log) (es ++ entries_of log)
+restores_history f size [] w es h r legal calm unasked none ordered = subst (RestoresIn w) (sym (append-nil es)) r
+restores_history f size (m ∷ log) w es h r legal calm unasked none ordered =
     subst (RestoresIn (world_from f (after f w m) log)) (append_assoc es (m.entry ∷ []) (entries_of log))
-    (restores_history f size log (after f w m) (es ++ m.entry ∷ []) (follows_step f size w es h m legal.0 (calm m (inl refl)))
-    (restores_step f size w es r (ordered [] (m ∷ log) refl) h.live m legal.0 (λ why from is. none m why (inl refl) from is)) legal.1 (λ n has. calm n (inr has)) (λ n why has. none n why (inr has))
+    (restores_history f size log (after f w m) (es ++ m.entry ∷ []) (follows_step f size w es h m legal.0 (calm m (inl refl)) (unasked m (inl refl)))
+    (restores_step f size w es r (ordered [] (m ∷ log) refl) h.live m legal.0 (λ why from is. none m why (inl refl) from is)) legal.1 (λ n has. calm n (inr has)) (λ n has. unasked n (inr has)) (λ n why has. none n why (inr has))
     (λ front back is. ordered (m ∷ front) back (ap (λ (l : List Moment). m ∷ l) is)))
 
 smooth_ordered : Laws → (s : Start) (log : List Moment) → IsSmooth s log → AreOrdered (formats_of s) s.world log
@@ -85,7 +85,7 @@ smooth_ordered laws s log smooth = all_ordered laws (formats_of s) s.part_size s
 restores_all : Laws → (s : Start) (log : List Moment) → IsSmooth s log → NoneFailed log → NoneUnrestored log → AreByRule log → RestoresIn (world_of s log) (entries_of log)
 restores_all laws s log smooth none unrestored by_rule =
     restores_history (formats_of s) s.part_size log s.world [] (follows_start (formats_of s) smooth.image s.world smooth.opened smooth.no_deletes) (restores_start (formats_of s) smooth.image s.world smooth.opened) smooth.legal
-    (all_calm log none by_rule) unrestored (smooth_ordered laws s log smooth)
+    (all_calm log none by_rule) smooth.no_delete_asked unrestored (smooth_ordered laws s log smooth)
 
 -- ---- no restore is open at the end
 

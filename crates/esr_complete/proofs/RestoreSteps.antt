@@ -10,10 +10,11 @@ use Rattle.esr_model.specs.Image.{Image}
 use Rattle.esr_core.specs.World.{World, Restored, RestoreShard, Restoring, Reader}
 use Rattle.esr_core.specs.Restores.{IsReading, restore_shard, read_more}
 use Rattle.esr_core.specs.ReadTracked.{ReaderTracked, RestoresTracked}
-use Rattle.esr_core.specs.Entry.{Asked, Snapshot, Restore, Clone, DeleteSnapshots, Cleanup, is_recorded, Given, GivenShard, GivenFinalize, GivenDrop, GivenRestore, GivenClone, GivenDelete, GivenCleanup, Why, Read, ReadBlob, RestoredShard, CheckedAll, CommitTest, ReadFails, Prune, SettlePruned, Step, AskStep, TakeStep, ReadStep, PruneStep, NoSnapshot, BeingDeleted, TooMany, DepotFault, CleanupRunning, Reply, Gave, WasSettled, WasFetched, WasAbsent, HasEnded, Refused, AcceptedRestore, Entry, Moment}
+use Rattle.esr_core.specs.Entry.{Asked, Snapshot, Restore, Clone, DeleteSnapshots, Cleanup, is_recorded, Given, GivenShard, GivenFinalize, GivenDrop, GivenRestore, GivenClone, GivenDelete, GivenCleanup, Why, Read, ReadBlob, RestoredShard, CheckedAll, CommitTest, ReadFails, Prune, SettlePruned, Step, AskStep, TakeStep, ReadStep, PruneStep, NoSnapshot, BeingDeleted, TooMany, DepotFault, CleanupRunning, CloneRunning, RestoreRunning, Reply, Accepted, Gave, WasSettled, WasFetched, WasAbsent, HasEnded, Refused, AcceptedRestore, Entry, Moment}
+use Rattle.esr_core.specs.Deletes.{delete_number}
 use Rattle.esr_core.specs.After.{told_blob, taken_restore, taken_restore_shard, read_told, shard_over, read_over, read_by, test_left, answered, after}
 use Rattle.esr_core.specs.Allowed as allowed
-use Rattle.esr_core.specs.Allowed.{Gives, GivesRestore, RestoreAllows, OpeningRestore, NotListed, NamedByDelete, FullOfRestores, ReadAllows, ReadFound, ReadMissing, ReadFault, RestoringShard, ReaderFailing, CheckingAll, CheckFailing, VerifyAllows, DrawingTest, CommittingTest, CommitTestFails, SettlingDelete, PruneAllows, Allows, Allowed}
+use Rattle.esr_core.specs.Allowed.{Gives, GivesRestore, DeleteAllows, GoingInto, NotNamed, CloneStands, RestoreStands, FullOfOps, DeleteFault, RestoreAllows, OpeningRestore, NotListed, NamedByDelete, FullOfRestores, ReadAllows, ReadFound, ReadMissing, ReadFault, RestoringShard, ReaderFailing, CheckingAll, CheckFailing, VerifyAllows, DrawingTest, CommittingTest, CommitTestFails, SettlingDelete, PruneAllows, Allows, Allowed}
 use Rattle.esr_report.specs.Replies.{ReadShard, shard_ticket_by, shard_end_by}
 use Rattle.esr_core.proofs.Going.{IsOld, goes_answered}
 use Rattle.esr_core.proofs.Reading.{some_same}
@@ -78,6 +79,15 @@ module _ (f : Formats) (size : ℕ) (w : World) (es : List Entry) (h : RestoresI
   asks name place reply image (NotListed im none) = same (told 0 (AskStep (Restore name place)) (Refused (NoSnapshot 0))) (silent_caller (AskStep (Restore name place)) (Refused (NoSnapshot 0)) (λ y. refl) refl)
   asks name place reply image (NamedByDelete uuid d im listed named) = same (told 0 (AskStep (Restore name place)) (Refused (BeingDeleted d))) (silent_caller (AskStep (Restore name place)) (Refused (BeingDeleted d)) (λ y. refl) refl)
   asks name place reply image (FullOfRestores uuid im listed spared full) = same (told 0 (AskStep (Restore name place)) (Refused (TooMany 1000))) (silent_caller (AskStep (Restore name place)) (Refused (TooMany 1000)) (λ y. refl) refl)
+
+  -- a delete leaves restores
+  asks_delete : (names : List Bytes) (reply : Reply) (image : Option Image) → DeleteAllows w names reply → RestoresIn (answered f w 0 (AskStep (DeleteSnapshots names)) reply image) (es ++ told 0 (AskStep (DeleteSnapshots names)) reply ∷ [])
+  asks_delete names reply image (GoingInto acc) = aside 0 (AskStep (DeleteSnapshots names)) (Accepted (delete_number w names)) image tt (λ y. refl) refl refl
+  asks_delete names reply image (NotNamed place clear first) = aside 0 (AskStep (DeleteSnapshots names)) (Refused (NoSnapshot place)) image tt (λ y. refl) refl refl
+  asks_delete names reply image (CloneStands o clear named lowest) = aside 0 (AskStep (DeleteSnapshots names)) (Refused (CloneRunning o)) image tt (λ y. refl) refl refl
+  asks_delete names reply image (RestoreStands o clear named no_clone lowest) = aside 0 (AskStep (DeleteSnapshots names)) (Refused (RestoreRunning o)) image tt (λ y. refl) refl refl
+  asks_delete names reply image (FullOfOps may new full) = aside 0 (AskStep (DeleteSnapshots names)) (Refused (TooMany 1000)) image tt (λ y. refl) refl refl
+  asks_delete names reply image (DeleteFault acc) = aside 0 (AskStep (DeleteSnapshots names)) (Refused DepotFault) image tt (λ y. refl) refl refl
 
   gives_restore : (o index number uuid : ℕ) → GivesRestore w o index number uuid → RestoresIn (taken_restore w o index number (fin.get w.restores o)) (es ++ gave w.next_ticket o (GivenRestore index number uuid) ∷ [])
   gives_restore o index number uuid g =
@@ -159,6 +169,7 @@ module _ (f : Formats) (size : ℕ) (w : World) (es : List Entry) (h : RestoresI
 
   restores_by : (who : ℕ) (step : Step) (reply : Reply) (image : Option Image) → Allows f size w who step reply image → IsUnfailed who step reply → RestoresIn (answered f w who step reply image) (es ++ told who step reply ∷ [])
   restores_by who step reply image (allowed.AskingRestore name place rep im a same) un = asks name place rep im a
+  restores_by who step reply image (allowed.AskingDelete names rep im a same) un = asks_delete names rep im a
   restores_by who step reply image (allowed.Giving k o unit im is lowest g same) un = gives k o unit im is g
   restores_by who step reply image (allowed.Reading k read rep im a same) un = reads k read rep im a un
   restores_by who step reply image (allowed.Verifying read rep im a) un = verifies read rep im a

@@ -1,4 +1,4 @@
--- Each step where nothing fails keeps what the history tells.
+-- Each step where nothing fails, and that asks for no delete, keeps what the history tells.
 use Rattle.std.proofs.Common.{◌≡◌, ◌⊎◌, ℕ, suc, true, false, true≢false, List, [], ◌∷◌, ◌++◌, Option, Some, None, map, refl, sym, ap, ◌∙◌, subst, inl, inr}
 use Rattle.std.specs.FinMap as fin
 use Rattle.esr_model.specs.Names.{BlobName, Latest}
@@ -8,7 +8,7 @@ use Rattle.esr_model.specs.Image.{Image}
 use Rattle.esr_core.specs.World.{World, Op, ShardWork, Done, Shard, Finalize, Deleting, Drop, Swap, Ticket, RestoreShard, Restoring, marked, info_of, shelved_of}
 use Rattle.esr_core.specs.Ready.{Goes, Stopped, ReadyDrop}
 use Rattle.esr_core.specs.Steps.{shard_ticket, final_ticket, given}
-use Rattle.esr_core.specs.Entry.{AskedIndex, Snapshot, Restore, Given, GivenShard, GivenFinalize, GivenDrop, GivenRestore, GivenClone, GivenDelete, GivenCleanup, Read, ReadBlob, RestoredShard, CheckedAll, DrawTest, BeginTest, CommitTest, RemoveTests, VerifiedAll, ReadFails, Step, AskStep, TakeStep, DrawStep, BeginStep, CommitStep, LatestStep, FetchStep, ListStep, RaiseStep, SettleStep, DoneStep, FinishStep, ElectStep, LookStep, ReadStep, NameInUse, TooMany, NoSnapshot, BeingDeleted, Reply, Accepted, NothingReady, Gave, DrawnFrom, WasBegun, WasDone, WasThere, WasReplaced, WasFetched, WasAbsent, WasListed, RaisedTo, WasSettled, HasEnded, ElectedTerm, Looked, Refused, WasRemoved, AcceptedRestore, Entry, Moment}
+use Rattle.esr_core.specs.Entry.{AskedIndex, Snapshot, AsksNoDelete, Restore, Given, GivenShard, GivenFinalize, GivenDrop, GivenRestore, GivenClone, GivenDelete, GivenCleanup, Read, ReadBlob, RestoredShard, CheckedAll, DrawTest, BeginTest, CommitTest, RemoveTests, VerifiedAll, ReadFails, Step, AskStep, TakeStep, DrawStep, BeginStep, CommitStep, LatestStep, FetchStep, ListStep, RaiseStep, SettleStep, DoneStep, FinishStep, ElectStep, LookStep, ReadStep, NameInUse, TooMany, NoSnapshot, BeingDeleted, Reply, Accepted, NothingReady, Gave, DrawnFrom, WasBegun, WasDone, WasThere, WasReplaced, WasFetched, WasAbsent, WasListed, RaisedTo, WasSettled, HasEnded, ElectedTerm, Looked, Refused, WasRemoved, AcceptedRestore, Entry, Moment}
 use Rattle.esr_core.specs.After.{asked, asked_op, taken_by, taken_shard, taken_restore, taken_restore_shard, read_by, with_given, change, committing, fetching, told_blob, settled_of, done_of, done_by, after}
 use Rattle.esr_core.specs.Allowed as allowed
 use Rattle.esr_core.proofs.PruneFrames.{prune_has_delete}
@@ -208,37 +208,38 @@ module _ (f : Formats) (size : ℕ) (w : World) (es : List Entry) (h : FollowsIn
 
   -- ---- each answer
 
-  follows_by : (who : ℕ) (step : Step) (reply : Reply) (image : Option Image) → Allows f size w who step reply image → IsCalm reply step → FollowsIn (after f w (moment who step reply image)) (es ++ told who step reply ∷ [])
-  follows_by who step reply image (allowed.Accepting name indices time o im acc same) calm = asks name indices time o acc
-  follows_by who step reply image (allowed.GivingNothing im none same) calm = stays (told 0 TakeStep NothingReady) tt tt
-  follows_by who step reply image (allowed.Giving k o unit im is lowest g same) calm = gives_as k o unit is g
-  follows_by who step reply image (allowed.Drawing k n first im d same) calm = changed k d.may.t d.may.out.there (λ t. record t { first = w.next_id; drawn = n }) refl refl (told k (DrawStep n) (DrawnFrom first)) tt tt
-  follows_by who step reply image (allowed.Beginning k name im c same) calm = stays (told k (BeginStep name) WasBegun) tt tt
-  follows_by who step reply image (allowed.BeginningLatest k im c same) calm = stays (told k (BeginStep Latest) WasBegun) tt tt
-  follows_by who step reply image (allowed.Committing k name im c adds) calm = commits k c.t c.out.there name (told_blob f im name) (told k (CommitStep name) WasDone) tt tt
-  follows_by who step reply image (allowed.Finding k name im c found) calm = commits k c.t c.out.there name None (told k (CommitStep name) WasThere) tt tt
-  follows_by who step reply image (allowed.Replacing k im c named puts) calm = changed k c.t c.out.there (λ t. record t { tried_latest = true }) refl refl (told k LatestStep WasReplaced) tt tt
-  follows_by who step reply image (allowed.Fetching k name im g found) calm = fetches k g.t g.out.there name (told_blob f im name) (told k (FetchStep name) WasFetched) tt tt
-  follows_by who step reply image (allowed.Missing k name im g found) calm = stays (told k (FetchStep name) WasAbsent) tt tt
-  follows_by who step reply image (allowed.Listing k im t out same) calm = stays (told k ListStep WasListed) tt tt
-  follows_by who step reply image (allowed.Raising k n im r same) calm = changed k r.may.t r.may.out.there (λ t. record t { raised = Some w.pending }) refl refl (told k RaiseStep (RaisedTo n)) tt tt
-  follows_by who step reply image (allowed.Settling k im s same) calm = settles k s
-  follows_by who step reply image (allowed.Doing k r im d same) calm = does k r im d
-  follows_by who step reply image (allowed.Finishing k im c same) calm = changed k c.t c.out.there (λ t. record t { out = false }) refl refl (told k FinishStep HasEnded) tt tt
-  follows_by who step reply image (allowed.Dropping k im c same) calm = absurd (h.no_drops k c.may.t c.may.out.there c.may.work)
-  follows_by who step reply image (allowed.Electing im room same) calm = stays (told 0 ElectStep (ElectedTerm (suc w.term))) tt tt
-  follows_by who step reply image (allowed.Looking im same) calm = stays (told 0 LookStep (Looked w.root.snapshots w.safe)) tt tt
-  follows_by who step reply image (allowed.Used name indices time uuid im clear is same) calm = stays (told 0 (AskStep (Snapshot name indices time)) (Refused (NameInUse uuid))) tt tt
-  follows_by who step reply image (allowed.Full name indices time im clear unused full same) calm = stays (told 0 (AskStep (Snapshot name indices time)) (Refused (TooMany 1000))) tt tt
-  follows_by who step reply image (allowed.AskingRestore name place rep im a same) calm = asks_restore name place rep im a
-  follows_by who step reply image (allowed.Reading k read rep im a same) calm = reads k read rep im a calm
-  follows_by who step reply image (allowed.Verifying read rep im a) calm = verifies read rep im a calm
-  follows_by who step reply image (allowed.Cleaning command d x im recorded there clean same) calm = absurd (h.no_deletes d x there)
-  follows_by who step reply image (allowed.Pruning k prune rep im p) calm = let d = prune_has_delete f w k prune rep im p in absurd (h.no_deleting d.k d.t d.uuids d.plan d.there d.work)
-  follows_by who step reply image other calm = absurd calm
+  follows_by : (who : ℕ) (step : Step) (reply : Reply) (image : Option Image) → Allows f size w who step reply image → IsCalm reply step → AsksNoDelete step → FollowsIn (after f w (moment who step reply image)) (es ++ told who step reply ∷ [])
+  follows_by who step reply image (allowed.Accepting name indices time o im acc same) calm unasked = asks name indices time o acc
+  follows_by who step reply image (allowed.GivingNothing im none same) calm unasked = stays (told 0 TakeStep NothingReady) tt tt
+  follows_by who step reply image (allowed.Giving k o unit im is lowest g same) calm unasked = gives_as k o unit is g
+  follows_by who step reply image (allowed.Drawing k n first im d same) calm unasked = changed k d.may.t d.may.out.there (λ t. record t { first = w.next_id; drawn = n }) refl refl (told k (DrawStep n) (DrawnFrom first)) tt tt
+  follows_by who step reply image (allowed.Beginning k name im c same) calm unasked = stays (told k (BeginStep name) WasBegun) tt tt
+  follows_by who step reply image (allowed.BeginningLatest k im c same) calm unasked = stays (told k (BeginStep Latest) WasBegun) tt tt
+  follows_by who step reply image (allowed.Committing k name im c adds) calm unasked = commits k c.t c.out.there name (told_blob f im name) (told k (CommitStep name) WasDone) tt tt
+  follows_by who step reply image (allowed.Finding k name im c found) calm unasked = commits k c.t c.out.there name None (told k (CommitStep name) WasThere) tt tt
+  follows_by who step reply image (allowed.Replacing k im c named puts) calm unasked = changed k c.t c.out.there (λ t. record t { tried_latest = true }) refl refl (told k LatestStep WasReplaced) tt tt
+  follows_by who step reply image (allowed.Fetching k name im g found) calm unasked = fetches k g.t g.out.there name (told_blob f im name) (told k (FetchStep name) WasFetched) tt tt
+  follows_by who step reply image (allowed.Missing k name im g found) calm unasked = stays (told k (FetchStep name) WasAbsent) tt tt
+  follows_by who step reply image (allowed.Listing k im t out same) calm unasked = stays (told k ListStep WasListed) tt tt
+  follows_by who step reply image (allowed.Raising k n im r same) calm unasked = changed k r.may.t r.may.out.there (λ t. record t { raised = Some w.pending }) refl refl (told k RaiseStep (RaisedTo n)) tt tt
+  follows_by who step reply image (allowed.Settling k im s same) calm unasked = settles k s
+  follows_by who step reply image (allowed.Doing k r im d same) calm unasked = does k r im d
+  follows_by who step reply image (allowed.Finishing k im c same) calm unasked = changed k c.t c.out.there (λ t. record t { out = false }) refl refl (told k FinishStep HasEnded) tt tt
+  follows_by who step reply image (allowed.Dropping k im c same) calm unasked = absurd (h.no_drops k c.may.t c.may.out.there c.may.work)
+  follows_by who step reply image (allowed.Electing im room same) calm unasked = stays (told 0 ElectStep (ElectedTerm (suc w.term))) tt tt
+  follows_by who step reply image (allowed.Looking im same) calm unasked = stays (told 0 LookStep (Looked w.root.snapshots w.safe)) tt tt
+  follows_by who step reply image (allowed.Used name indices time uuid im clear is same) calm unasked = stays (told 0 (AskStep (Snapshot name indices time)) (Refused (NameInUse uuid))) tt tt
+  follows_by who step reply image (allowed.Full name indices time im clear unused full same) calm unasked = stays (told 0 (AskStep (Snapshot name indices time)) (Refused (TooMany 1000))) tt tt
+  follows_by who step reply image (allowed.AskingRestore name place rep im a same) calm unasked = asks_restore name place rep im a
+  follows_by who step reply image (allowed.AskingDelete names rep im a same) calm unasked = absurd (unasked names refl)
+  follows_by who step reply image (allowed.Reading k read rep im a same) calm unasked = reads k read rep im a calm
+  follows_by who step reply image (allowed.Verifying read rep im a) calm unasked = verifies read rep im a calm
+  follows_by who step reply image (allowed.Cleaning command d x im recorded there clean same) calm unasked = absurd (h.no_deletes d x there)
+  follows_by who step reply image (allowed.Pruning k prune rep im p) calm unasked = let d = prune_has_delete f w k prune rep im p in absurd (h.no_deleting d.k d.t d.uuids d.plan d.there d.work)
+  follows_by who step reply image other calm unasked = absurd calm
 
-pub follows_step : (f : Formats) (size : ℕ) (w : World) (es : List Entry) → FollowsIn w es → (m : Moment) → Allowed f size w m → IsCalm m.entry.reply m.entry.step → FollowsIn (after f w m) (es ++ m.entry ∷ [])
-follows_step f size w es h m a calm = elim a.answered [
-  | inl alive ↦ follows_by f size w es h m.entry.who m.entry.step m.entry.reply m.image alive.1 calm
+pub follows_step : (f : Formats) (size : ℕ) (w : World) (es : List Entry) → FollowsIn w es → (m : Moment) → Allowed f size w m → IsCalm m.entry.reply m.entry.step → AsksNoDelete m.entry.step → FollowsIn (after f w m) (es ++ m.entry ∷ [])
+follows_step f size w es h m a calm unasked = elim a.answered [
+  | inl alive ↦ follows_by f size w es h m.entry.who m.entry.step m.entry.reply m.image alive.1 calm unasked
   | inr dead ↦ absurd (true≢false (sym dead.deposed ∙ h.live))
 ]

@@ -1,12 +1,12 @@
 -- What a longer history tells of tickets, and how an op ends where nothing fails.
 use Rattle.std.proofs.Common.{◌≡◌, ◌⊎◌, ℕ, Bool, true, false, List, [], ◌∷◌, ◌++◌, Option, Some, None, option_map, if◌then◌else◌, ◌==◌, refl, sym, ap, ◌∙◌, subst, inl, inr}
 use Rattle.std.proofs.lemmas.Bool.Decides.{eqb_tells}
-use Rattle.esr_model.specs.Values.{Has}
-use Rattle.esr_core.specs.Entry.{Step, AskStep, SettleStep, FailedStep, PruneStep, Reply, WasSettled, HasEnded, Refused, Entry}
+use Rattle.esr_model.specs.Values.{Bytes, Has}
+use Rattle.esr_core.specs.Entry.{DeleteSnapshots, AsksNoDelete, Step, AskStep, SettleStep, FailedStep, PruneStep, Reply, WasSettled, HasEnded, Refused, Entry}
 use Rattle.esr_core.specs.After.{or_else}
 use Rattle.esr_quiet.specs.Refusals.{IsByRule}
 use Rattle.esr_report.specs.Replies as report
-use Rattle.esr_report.specs.Replies.{Made, op_by, op_of_ticket, uuid_by, uuid_of_ticket, is_op, ends_by, ends_at, end_of_op}
+use Rattle.esr_report.specs.Replies.{Made, op_by, op_of_ticket, uuid_by, uuid_of_ticket, is_op, ends_by, ends_at, name_of_op, final_out, abort_by, abort_of, aborts_at, end_of_op}
 
 pub none_some : {A : Type 0} (x : A) → ◌≡◌ {A = Option A} None (Some x) → ⊥
 none_some x e = cc
@@ -90,12 +90,31 @@ either_made None b calm (inr made) = made
 either_made (Some (Made u)) b calm made = record { uuid = u; is = refl }
 either_made (Some reply) b calm made = absurd calm
 
-pub end_made : (all : List Entry) (o : ℕ) (es : List Entry) → ((e : Entry) → Has es e → IsCalm e.reply e.step) → ((e : Entry) → Has es e → IsUnpruned e.step) → (e : Entry) → Has es e → IsMade (ends_at all o e) → IsMade (end_of_op all o es)
-end_made all o [] calm own e has made = absurd has
-end_made all o (x ∷ es) calm own e (inl same) made =
-    either_made (ends_at all o x) (end_of_op all o es) (ends_at_calm all o x (calm x (inl refl)) (own x (inl refl))) (inl (subst (λ (y : Entry). IsMade (ends_at all o y)) (sym same) made))
-end_made all o (x ∷ es) calm own e (inr has) made =
-    either_made (ends_at all o x) (end_of_op all o es) (ends_at_calm all o x (calm x (inl refl)) (own x (inl refl))) (inr (end_made all o es (λ y h. calm y (inr h)) (λ y h. own y (inr h)) e has made))
+-- what asks for no delete aborts nothing
+unasked_name : (name : Bytes) (step : Step) (reply : Reply) → AsksNoDelete step → abort_by name step reply ≡ None
+unasked_name name (AskStep (DeleteSnapshots names)) reply unasked = absurd (unasked names refl)
+unasked_name name step reply unasked = refl
+
+unasked_of : (name : Option Bytes) (k : Option ℕ) (step : Step) (reply : Reply) → AsksNoDelete step → abort_of name k step reply ≡ None
+unasked_of None k step reply unasked = refl
+unasked_of (Some name) None step reply unasked = unasked_name name step reply unasked
+unasked_of (Some name) (Some k) step reply unasked = refl
+
+unasked_aborts : (before : List Entry) (o : ℕ) (e : Entry) → AsksNoDelete e.step → aborts_at before o e ≡ None
+unasked_aborts before o e unasked = unasked_of (name_of_op before o) (final_out before o) e.step e.reply unasked
+
+after_none : (a b : Option report.Reply) → a ≡ None → IsMade b → IsMade (or_else a b)
+after_none a b none made = subst (λ (x : Option report.Reply). IsMade (or_else x b)) (sym none) made
+
+pub end_made : (all : List Entry) (o : ℕ) (before es : List Entry) → ((e : Entry) → Has es e → IsCalm e.reply e.step) → ((e : Entry) → Has es e → IsUnpruned e.step) → ((e : Entry) → Has es e → AsksNoDelete e.step)
+    → (e : Entry) → Has es e → IsMade (ends_at all o e) → IsMade (end_of_op all o before es)
+end_made all o before [] calm own unasked e has made = absurd has
+end_made all o before (x ∷ es) calm own unasked e (inl same) made =
+    either_made (ends_at all o x) (or_else (aborts_at before o x) (end_of_op all o (before ++ x ∷ []) es)) (ends_at_calm all o x (calm x (inl refl)) (own x (inl refl))) (inl (subst (λ (y : Entry). IsMade (ends_at all o y)) (sym same) made))
+end_made all o before (x ∷ es) calm own unasked e (inr has) made =
+    let later = end_made all o (before ++ x ∷ []) es (λ y h. calm y (inr h)) (λ y h. own y (inr h)) (λ y h. unasked y (inr h)) e has made in
+    either_made (ends_at all o x) (or_else (aborts_at before o x) (end_of_op all o (before ++ x ∷ []) es)) (ends_at_calm all o x (calm x (inl refl)) (own x (inl refl)))
+    (inr (after_none (aborts_at before o x) (end_of_op all o (before ++ x ∷ []) es) (unasked_aborts before o x (unasked x (inl refl))) later))
 
 pub same_op : (o : ℕ) → (o == o) ≡ true
 same_op o = elim (eqb_tells o o) [ inl h ↦ h.0 | inr h ↦ absurd (h.1 refl) ]

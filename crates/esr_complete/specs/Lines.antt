@@ -1,7 +1,7 @@
 -- What the lines of a script ask for.
 use Rattle.std.specs.Prelude.{ℕ, List, [], ◌∷◌, ◌++◌, map}
 use Rattle.esr_model.specs.Values.{Bytes}
-use Rattle.esr_core.specs.Entry.{AskedIndex, Asked, Snapshot, Restore, DrawTest, Step, AskStep, LookStep, ReadStep, Entry, Moment}
+use Rattle.esr_core.specs.Entry.{AskedIndex, Asked, Snapshot, DeleteSnapshots, Restore, DrawTest, Step, AskStep, LookStep, ReadStep, Entry, Moment}
 use Rattle.esr_script.specs.declared.item.AskedIndex.{AskedIndex as LineIndex}
 use Rattle.esr_script.specs.declared.item.Item.{Item}
 use Rattle.esr_script.specs.declared.item.Item.TheVariants as items
@@ -19,7 +19,7 @@ command_of_line name indices moment = Snapshot name (map index_of_line indices) 
 abbrev pub steps_of_item : ℕ → Item → List Step
 steps_of_item moment (items.Snapshot name indices) = AskStep (command_of_line name indices moment) ∷ []
 steps_of_item moment (items.Clone source name indices) = []
-steps_of_item moment (items.Delete names) = []
+steps_of_item moment (items.Delete names) = AskStep (DeleteSnapshots names) ∷ []
 steps_of_item moment (items.Restore name place) = AskStep (Restore name place) ∷ []
 steps_of_item moment items.Cleanup = []
 steps_of_item moment items.Failover = []
@@ -33,7 +33,7 @@ abbrev pub steps_of : ℕ → List ScriptLine → List Step
 steps_of moment [] = []
 steps_of moment (line ∷ lines) = steps_of_item moment line.item ++ steps_of moment lines
 
--- a snapshot, a restore, a wait, a list, a check or a verification
+-- a snapshot, a restore, a wait, a list, a check or a verification; a delete is none of these, nor is a command that is not there yet
 abbrev pub IsKnown : Item → Type 0
 IsKnown (items.Snapshot name indices) = Unit {0}
 IsKnown (items.Restore name place) = Unit {0}

@@ -19,7 +19,7 @@ use Rattle.esr_core.proofs.Results.{choose_true, choose_false}
 use Rattle.esr_core.proofs.Recorded.{entry_got, got_entry}
 
 -- equal texts are one
-same_one : (a b : Bytes) → ((same_bytes a b ≡ true) × (a ≡ b)) ⊎ (same_bytes a b ≡ false)
+pub same_one : (a b : Bytes) → ((same_bytes a b ≡ true) × (a ≡ b)) ⊎ (same_bytes a b ≡ false)
 same_one a b = elim (split nat_list_cmp_total texts_same a b) [
   | inl e ↦ inl (subst (λ x. same_bytes a x ≡ true) e ((eq_by_cmp_equiv nat_list_cmp_total).refl a), e)
   | inr e ↦ inr e.1
@@ -190,7 +190,7 @@ pending_one w asked next d s z sm zm ref number =
 
 -- ---- names that are not known
 
-same_true : (a b : Bytes) → a ≡ b → same_bytes a b ≡ true
+pub same_true : (a b : Bytes) → a ≡ b → same_bytes a b ≡ true
 same_true a b e = subst (λ x. same_bytes a x ≡ true) e ((eq_by_cmp_equiv nat_list_cmp_total).refl a)
 
 -- no value is found where neither look-up finds one

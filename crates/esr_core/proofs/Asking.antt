@@ -12,6 +12,7 @@ use Rattle.esr_core.specs.Turns.{AskCreate, AskCleanup, IsApart, AskDelete, Merg
 use Rattle.esr_core.specs.Generations.{DoneAt, IsLive, HasShard, ListsOwn, IsOwn, Carries, Base, OpLaw, Together, PlanLaw, Carried}
 use Rattle.esr_core.specs.Ids.{IdsIn}
 use Rattle.esr_core.specs.Queue.{Queue, Lawful}
+use Rattle.esr_core.proofs.DeletesHold.{none_both}
 use Rattle.esr_core.proofs.Reading.{some_same, held_one, reads_one}
 use Rattle.esr_core.proofs.Owning.{OnWith, own_on, plan_on}
 use Rattle.esr_core.proofs.Ordered.{shard_ref}
@@ -272,7 +273,7 @@ merge_lawful f w shelf l uuids n new d = subst (λ x. Lawful f x shelf) (sym d.n
   };
   queue = queue_delete w.term w.root d.ops w.deletes w.completed w.next_op w.tickets (queue_aborts f w shelf l d.ops n d.aborts) n d.x _ d.there refl (λ e. e)
       (λ k h t e same. let one : h.t ≡ t = some_same _ _ (sym h.there ∙ e) in d.waiting k h.t h.there h.out h.present (ap (λ (x : Ticket). x.op) one ∙ same))
-      (λ o op u e is. let (old, there, how) = d.aborts.was o op e in d.spares o old u there (source_of n old op how ∙ is));
+      (λ o op u e is. let (old, there, how) = d.aborts.was o op e in let from = source_of n old op how ∙ is in none_both d.x.uuids d.more u ((l.queue.sources o old u there from).1 n d.x d.there) (d.spares o old u there from));
 })
 
 pub cleanup_asked_lawful : (f : Formats) (w : World) (shelf : List Shelved) → Lawful f w shelf → (new : World) → AskCleanup w new → Lawful f new shelf

@@ -77,7 +77,7 @@ none_by : (listed : List ℕ) (o : Option ShardFiles) (u : ℕ) → names_uuid l
 none_by listed None u e = refl
 none_by listed (Some was) u e = none_of listed was.snapshots u e
 
-none_both : (us vs : List ℕ) (u : ℕ) → names_uuid us u ≡ false → names_uuid vs u ≡ false → names_uuid (us ++ vs) u ≡ false
+pub none_both : (us vs : List ℕ) (u : ℕ) → names_uuid us u ≡ false → names_uuid vs u ≡ false → names_uuid (us ++ vs) u ≡ false
 none_both us vs u a b = names_same us vs u b ∙ a
 
 pub none_listed : (f : Formats) (listed : List ℕ) (read : List (BlobName × Bytes)) (u : ℕ) → names_uuid listed u ≡ true → names_uuid (unlisted_read f listed read) u ≡ false

@@ -3,7 +3,7 @@ use Rattle.std.proofs.Common.{◌≡◌, ◌⊎◌, ℕ, suc, ◌+◌, ◌≤◌
 use Rattle.std.specs.Prelude.{if◌then◌else◌}
 use Rattle.std.specs.FinMap.{FinMap}
 use Rattle.std.specs.FinMap as fin
-use Rattle.esr_model.specs.Values.{Has, ShardResult, Formats}
+use Rattle.esr_model.specs.Values.{Bytes, Has, ShardResult, Formats}
 use Rattle.esr_model.specs.Kept.{first_id}
 use Rattle.esr_model.specs.Names.{BlobName}
 use Rattle.esr_model.specs.Delete.{kept_count}
@@ -14,6 +14,8 @@ use Rattle.esr_core.specs.Turns.{plain_ticket}
 use Rattle.esr_core.specs.Pruning.{planned, dooms}
 use Rattle.esr_core.specs.Entry.{Snapshot, Restore, Given, GivenShard, GivenFinalize, GivenDrop, GivenRestore, Step, AskStep, TakeStep, DrawStep, BeginStep, CommitStep, LatestStep, FetchStep, RaiseStep, SettleStep, DoneStep, FailedStep, FinishStep, DroppedStep, ElectStep, ReadStep, DepotFault, Reply, Gave, WasDone, WasThere, WasFetched, HasEnded, Refused, Clone, DeleteSnapshots, Cleanup, GivenDelete, Prune, FetchShard, PlanShards, SettlePruned, RemoveDoomed, EndDelete, DeleteFails, PruneStep}
 use Rattle.esr_core.specs.After.{asked_op, taken_shard, taken_by, shard_of, with_given, committing, told_blob, fetching, settled_by, settled_of, done_by, done_of, is_stale, failed_by, failed_of, dropped_of, done_step, has_text, fallen, is_latest, tried, faulted, answered, delete_settled_by, delete_settled, delete_failed_by, delete_failed, prune_step}
+use Rattle.esr_core.specs.Deletes.{named_uuids, waiting_delete, running_delete, aborted_ops, delete_merged, delete_by, asked_delete}
+use Rattle.esr_core.proofs.AskedDeletes.{aborts}
 use Rattle.esr_core.proofs.Queues.{was_in, left_in}
 use Rattle.esr_core.proofs.Reading.{Has-right}
 
@@ -168,11 +170,31 @@ goes_prune f w k (RemoveDoomed names) reply image = goes_removed w (names ++ w.r
 goes_prune f w k EndDelete reply image = goes_change w k (λ t. record t { out = false }) (fin.get w.tickets k) refl
 goes_prune f w k (DeleteFails why) reply image = goes_delete_failed w k (fin.get w.tickets k) refl
 
+-- ---- a delete that is asked
+
+goes_aborted : (w : World) (uuids : List ℕ) (by : ℕ) → OldOrNew w.ops w.next_op (aborted_ops w uuids by)
+goes_aborted w uuids by k x e = let (old, there, how) = (aborts w uuids by).was k x e in inl (old, there)
+
+goes_merged : (w : World) (names : List Bytes) (d : ℕ) (x : Option Deletion) → fin.get w.deletes d ≡ x → Goes w (delete_merged w names d x)
+goes_merged w names d None is = goes_same w
+goes_merged w names d (Some x) is =
+    record { restores = refl; readers = refl; caller = refl; doomed = λ name m. m; next_op = omega arith; next_ticket = omega arith; next_id = omega arith; ops = goes_aborted w (named_uuids w names) d; deletes = again w.deletes w.next_op d x _ is; tickets = as_was w.tickets w.next_ticket }
+
+goes_delete_by : (w : World) (names : List Bytes) (waiting running : Option ℕ) → Goes w (delete_by w names waiting running)
+goes_delete_by w names (Some d) running = goes_merged w names d (fin.get w.deletes d) refl
+goes_delete_by w names None (Some d) = goes_same w
+goes_delete_by w names None None =
+    record { restores = refl; readers = refl; caller = refl; doomed = λ name m. m; next_op = omega arith; next_ticket = omega arith; next_id = omega arith; ops = goes_aborted w (named_uuids w names) w.next_op; deletes = more w.deletes w.next_op _; tickets = as_was w.tickets w.next_ticket }
+
+goes_delete : (w : World) (names : List Bytes) → Goes w (asked_delete w names)
+goes_delete w names = goes_delete_by w names (waiting_delete w) (running_delete w (named_uuids w names))
+
 -- ---- all steps
 
 goes_step : (f : Formats) (w : World) (room : w.next_id ≤ first_id (suc w.term)) (k : ℕ) (step : Step) (reply : Reply) (image : Option Image) → IsOld step reply → Goes w (done_step f w k step reply image)
 goes_step f w room k (AskStep (Snapshot name indices moment)) reply image old =
     record { restores = refl; readers = refl; caller = refl; doomed = λ name m. m; next_op = omega arith; next_ticket = omega arith; next_id = omega arith; ops = more w.ops w.next_op (asked_op w name indices moment); deletes = as_was w.deletes w.next_op; tickets = as_was w.tickets w.next_ticket }
+goes_step f w room k (AskStep (DeleteSnapshots names)) reply image old = goes_delete w names
 goes_step f w room k (AskStep (Restore name place)) reply image old = absurd old
 goes_step f w room k TakeStep (Gave ticket op unit) image old = goes_taken f w op unit (fin.get w.ops op) old refl
 goes_step f w room k (DrawStep n) reply image old = goes_drawn w k n (λ t. record t { first = w.next_id; drawn = n }) (fin.get w.tickets k) refl
@@ -202,7 +224,7 @@ goes_fault f w room k LatestStep image old = goes_change w k (λ t. record t { t
 goes_fault f w room k (BeginStep name) image old = goes_either w (tried w k) w (is_latest name) (goes_change w k (λ t. record t { tried_latest = true }) (fin.get w.tickets k) refl) (goes_same w)
 goes_fault f w room k (AskStep (Snapshot name indices moment)) image old = goes_fallen f w _ image (goes_step f w room k (AskStep (Snapshot name indices moment)) HasEnded image tt)
 goes_fault f w room k (AskStep (Clone source name indices moment)) image old = goes_fallen f w w image (goes_same w)
-goes_fault f w room k (AskStep (DeleteSnapshots names)) image old = goes_fallen f w w image (goes_same w)
+goes_fault f w room k (AskStep (DeleteSnapshots names)) image old = goes_fallen f w _ image (goes_delete w names)
 goes_fault f w room k (AskStep Cleanup) image old = goes_fallen f w w image (goes_same w)
 goes_fault f w room k RaiseStep image old = goes_fallen f w _ image (goes_step f w room k RaiseStep HasEnded image tt)
 goes_fault f w room k SettleStep image old = goes_fallen f w _ image (goes_step f w room k SettleStep HasEnded image tt)

@@ -17,6 +17,7 @@ use Rattle.esr_core.specs.Allowed.{Settles, SettlesDeletion, PruneAllows, Allows
 use Rattle.esr_core.specs.History.{world_from, IsLegal, AllKnown, AreTold, AreHonest, counts, is_settle, command_of, commands_at, committed}
 use Rattle.esr_core.specs.Left.{cut_off, Leaves, safe_of, safe_by, safe_in}
 use Rattle.esr_core.proofs.Reading.{some_same}
+use Rattle.esr_core.proofs.AskedDeletes.{delete_leaves}
 use Rattle.esr_core.proofs.Moments.{moment, settled_plain, delete_settled_plain}
 use Rattle.esr_core.proofs.Laws.{kept_of}
 use Rattle.esr_core.proofs.Lists.{shelf_after-append}
@@ -60,7 +61,8 @@ fault_safe : (f : Formats) (w : World) (k : ℕ) (step : Step) (image : Option I
 fault_safe f w k (AskStep (Snapshot name indices time)) image e =
     let up : World = asked w (Snapshot name indices time) in either_safe w up (has_text image (f.cluster.text (record_of up))) refl
 fault_safe f w k (AskStep (entry.Clone source name indices time)) image e = either_safe w w (has_text image (f.cluster.text (record_of w))) refl
-fault_safe f w k (AskStep (entry.DeleteSnapshots names)) image e = either_safe w w (has_text image (f.cluster.text (record_of w))) refl
+fault_safe f w k (AskStep (entry.DeleteSnapshots names)) image e =
+    let up : World = asked w (entry.DeleteSnapshots names) in either_safe w up (has_text image (f.cluster.text (record_of up))) (ap (λ (x : World). x.safe) (delete_leaves w names))
 fault_safe f w k (AskStep entry.Cleanup) image e = either_safe w w (has_text image (f.cluster.text (record_of w))) refl
 fault_safe f w k RaiseStep image e =
     let up : World = raised w k in either_safe w up (has_text image (f.cluster.text (record_of up))) (given_safe w k (λ t. record t { raised = Some w.pending }) (fin.get w.tickets k))

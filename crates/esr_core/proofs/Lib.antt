@@ -54,6 +54,7 @@ pub mod Exists
 pub mod Determined
 pub mod Storing
 pub mod Accepting
+pub mod AskedDeletes
 pub mod ListedInfo
 pub mod PrunedShards
 pub mod DeletedRoots
@@ -73,6 +74,7 @@ pub mod Tracking
 pub mod TrackingOps
 pub mod TrackingGiven
 pub mod TrackingEnds
+pub mod TrackingDeletes
 pub mod TrackingSteps
 pub mod Recording
 pub mod Ranking

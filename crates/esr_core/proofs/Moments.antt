@@ -6,10 +6,10 @@ use Rattle.std.proofs.lemmas.Bool.{lt-ltb, le-ltb}
 use Rattle.std.specs.Cmp.Lexicographic.{nat_list_cmp_total}
 use Rattle.std.specs.FinMap as fin
 use Rattle.esr_model.specs.Names.{BlobName, Root, Latest, Snap, Meta, IndexMeta, ShardSnap, ShardIndex, File, Part, TestMaster, TestNode}
-use Rattle.esr_model.specs.Values.{Bytes, ShardResult, Formats, SnapInfo, Has}
+use Rattle.esr_model.specs.Values.{Bytes, ShardResult, Formats, Has}
 use Rattle.esr_model.specs.Shelf.{Shelved}
 use Rattle.esr_model.specs.Kept.{first_id}
-use Rattle.esr_model.specs.Image.{Blobs, Image, At, Present, Reads}
+use Rattle.esr_model.specs.Image.{Blobs, Image, At, Present}
 use Rattle.esr_core.specs.World.{World, Op, Work, Shard, Finalize, Deleting, Drop, Ticket, ReadState, Restored, NotRestored, Restoring, Reader, Swap}
 use Rattle.esr_core.specs.Ready.{IsShard, IsMaster}
 use Rattle.esr_core.specs.Restores.{IsReading, ListsPiece, waits, restore_opened, shard_ended}
@@ -17,14 +17,16 @@ use Rattle.esr_core.specs.Steps.{IsOut, PutsLatest, Raise, with_ticket, noting, 
 use Rattle.esr_core.specs.Pruning.{dooms}
 use Rattle.esr_core.specs.Ids.{Law}
 use Rattle.esr_core.specs.Queue.{Lists}
-use Rattle.esr_core.specs.Entry.{Asked, Snapshot, Given, GivenShard, GivenFinalize, GivenDrop, Why, Step, AskStep, TakeStep, DrawStep, BeginStep, CommitStep, LatestStep, FetchStep, ListStep, RaiseStep, SettleStep, DoneStep, FailedStep, FinishStep, DroppedStep, ElectStep, LookStep, Refusal, DepotFault, Reply, WasSettled, HasEnded, Refused, Entry, Moment, Restore, Read, ReadBlob, RestoredShard, CheckedAll, ReadFails, ReadStep, AcceptedRestore, GivenRestore, DrawTest, BeginTest, CommitTest, RemoveTests, VerifiedAll, GivenClone, GivenDelete, GivenCleanup, Prune, PruneStep}
+use Rattle.esr_core.specs.Entry.{Asked, Snapshot, DeleteSnapshots, Given, GivenShard, GivenFinalize, GivenDrop, Why, Step, AskStep, TakeStep, DrawStep, BeginStep, CommitStep, LatestStep, FetchStep, ListStep, RaiseStep, SettleStep, DoneStep, FailedStep, FinishStep, DroppedStep, ElectStep, LookStep, Refusal, DepotFault, Reply, WasSettled, HasEnded, Refused, Entry, Moment, Restore, Read, ReadBlob, RestoredShard, CheckedAll, ReadFails, ReadStep, AcceptedRestore, GivenRestore, DrawTest, BeginTest, CommitTest, RemoveTests, VerifiedAll, GivenClone, GivenDelete, GivenCleanup, Prune, PruneStep}
 use Rattle.esr_core.specs.After.{asked, asked_op, taken_by, taken_shard, with_given, change, committing, fetching, told_blob, settled_of, settled_by, failed_of, failed_by, is_stale, dropped_of, is_latest, tried, blobs_in, after, stepped, caller_after, read_told, read_over, shard_over, taken_restore, taken_restore_shard, test_left, delete_settled, delete_settled_by}
 use Rattle.esr_core.specs.Allowed as allowed
-use Rattle.esr_core.specs.Allowed.{PruneAllows, latest_text, Told, SameBlobs, Adds, Accepts, Gives, GivesShard, GivesFinalize, Draws, Commits, Refinds, Puts, Raises, Settles, Fails, Finishes, Drops, Dones, Allows, MayRead, Fetcher, ByReader, ByCheck, RestoreAllows, OpeningRestore, NotListed, NamedByDelete, FullOfRestores, ReadAllows, ReadFound, ReadMissing, ReadFault, RestoringShard, ReaderFailing, CheckingAll, CheckFailing, ByVerify, IsOwnTest, MayRemoveTests, VerifyAllows, DrawingTest, TestSpent, BeginningTest, BeginTestFails, CommittingTest, TestTaken, CommitTestFails, RemovingTests, RemoveTestsFails, VerifyingAll, VerifyFailing}
+use Rattle.esr_core.specs.Allowed.{PruneAllows, latest_text, Told, SameBlobs, Adds, Accepts, Gives, GivesShard, GivesFinalize, Draws, Commits, Refinds, Puts, Raises, Settles, Fails, Finishes, Drops, Dones, Allows, MayRead, Fetcher, ByReader, ByCheck, MayDelete, DeleteAllows, GoingInto, NotNamed, CloneStands, RestoreStands, FullOfOps, DeleteFault, RestoreAllows, OpeningRestore, NotListed, NamedByDelete, FullOfRestores, ReadAllows, ReadFound, ReadMissing, ReadFault, RestoringShard, ReaderFailing, CheckingAll, CheckFailing, ByVerify, IsOwnTest, MayRemoveTests, VerifyAllows, DrawingTest, TestSpent, BeginningTest, BeginTestFails, CommittingTest, TestTaken, CommitTestFails, RemovingTests, RemoveTestsFails, VerifyingAll, VerifyFailing}
 use Rattle.esr_core.specs.History.{counts, is_settle, command_of, command_by, commands_at}
 use Rattle.esr_core.specs.Turns.{AskCreate, AsksCreate, plain_ticket, SettleFinal, Failed, Dropped, Turn, Stays, Latests, Fetches, Raises as RaisesTurn, Finds, SettlesFinal, Elects, TakesShard, TakesFinal, TakesDrop, DrawsShard, Ending, Fails as FailsTurn, Drops as DropsTurn, Deposes, commands_of, Besides, OpensRestore, HandsShard, ReadsMore, EndsShard, Calls, Tests, DrawsTest, AddsTest, RemovesTests, TakesDelete}
 use Rattle.esr_core.specs.Turns as turns
 use Rattle.esr_core.specs.Entry as entry
+use Rattle.esr_core.specs.Deletes.{delete_number, asked_delete}
+use Rattle.esr_core.proofs.AskedDeletes.{delete_leaves, delete_turn}
 use Rattle.esr_core.proofs.Maps.{get_same, texts_same}
 use Rattle.esr_core.proofs.Reading.{some_same}
 use Rattle.esr_core.proofs.ListedInfo.{made_info}
@@ -341,6 +343,24 @@ module _ (f : Formats) (size : ℕ) (w : World) (shelf : List Shelved) (l : Law 
   ask_fails name indices time image acc same =
       falls_plain f w 0 (AskStep (Snapshot name indices time)) (asked w (Snapshot name indices time)) (asked w (Snapshot name indices time)) (AsksCreate _ (asked_op w name indices time) (asking name indices time w.next_op acc)) _ image same refl refl refl refl
 
+  -- ---- a delete that is asked
+
+  going_into : (names : List Bytes) (image : Option Image) → MayDelete w names → SameBlobs w image → Turned f w 0 (AskStep (DeleteSnapshots names)) (entry.Accepted (delete_number w names)) (stepped f w (moment 0 (AskStep (DeleteSnapshots names)) (entry.Accepted (delete_number w names)) image))
+  going_into names image may same =
+      let kept : (asked_delete w names).blobs ≡ blobs_in image w.blobs = ap (λ (x : World). x.blobs) (delete_leaves w names) ∙ sym (blobs_same w image same) in
+      let turn = subst (λ (x : World). (t : Turn f w x) × (commands_of f w x t ≡ [])) (λ j. record (asked_delete w names) { blobs = kept j }) (delete_turn f w names may) in
+      plain f w 0 (AskStep (DeleteSnapshots names)) (entry.Accepted (delete_number w names)) _ turn.0 refl turn.1
+
+  asks_delete : (names : List Bytes) (reply : Reply) (image : Option Image) → DeleteAllows w names reply → SameBlobs w image → Turned f w 0 (AskStep (DeleteSnapshots names)) reply (stepped f w (moment 0 (AskStep (DeleteSnapshots names)) reply image))
+  asks_delete names reply image (GoingInto acc) same = going_into names image acc.may same
+  asks_delete names reply image (NotNamed place clear first) same = stays f w 0 (AskStep (DeleteSnapshots names)) _ image same refl
+  asks_delete names reply image (CloneStands o clear named lowest) same = stays f w 0 (AskStep (DeleteSnapshots names)) _ image same refl
+  asks_delete names reply image (RestoreStands o clear named no_clone lowest) same = stays f w 0 (AskStep (DeleteSnapshots names)) _ image same refl
+  asks_delete names reply image (FullOfOps may new full) same = stays f w 0 (AskStep (DeleteSnapshots names)) _ image same refl
+  asks_delete names reply image (DeleteFault acc) same =
+      let turn = delete_turn f w names acc.may in
+      falls_plain f w 0 (AskStep (DeleteSnapshots names)) (asked_delete w names) (asked_delete w names) turn.0 _ image same refl (ap (λ (x : World). x.blobs) (delete_leaves w names)) refl turn.1
+
   -- ---- restores and reading
 
   -- a restore that is asked
@@ -516,6 +536,7 @@ module _ (f : Formats) (size : ℕ) (w : World) (shelf : List Shelved) (l : Law 
   turn_of who step reply image told (allowed.Electing im room same) = plain f w 0 ElectStep _ _ (Elects _ (record { new_is = λ j. record w { term = suc w.term; next_id = first_id (suc w.term); blobs = blobs_same w im same j } })) refl refl
   turn_of who step reply image told (allowed.Looking im same) = stays f w 0 LookStep _ im same refl
   turn_of who step reply image told (allowed.AskingRestore name place rep im h same) = asks_restore name place rep im told h same
+  turn_of who step reply image told (allowed.AskingDelete names rep im h same) = asks_delete names rep im h same
   turn_of who step reply image told (allowed.Reading k read rep im h same) = reads k read rep im told h same
   turn_of who step reply image told (allowed.Verifying read rep im h) = verifies read rep im told h
   turn_of who step reply image told (allowed.Pruning k prune rep im h) =

@@ -1,5 +1,5 @@
--- Where no delete is open none is after a step: so far no step opens one.
-use Rattle.std.proofs.Common.{◌≡◌, ℕ, zero, suc, ◌+◌, Bool, true, false, Option, Some, None, refl, ap, ◌∙◌, nat_cmp}
+-- Where no delete is open none is after a step that asks for none.
+use Rattle.std.proofs.Common.{◌≡◌, ℕ, zero, suc, Bool, true, false, Option, Some, None, refl, ap, ◌∙◌}
 use Rattle.std.specs.Prelude.{if◌then◌else◌}
 use Rattle.std.specs.FinMap as fin
 use Rattle.esr_model.specs.Names.{BlobName}
@@ -7,7 +7,7 @@ use Rattle.esr_model.specs.Values.{Bytes, ShardResult, Formats}
 use Rattle.esr_model.specs.Image.{Image}
 use Rattle.esr_core.specs.World.{World, Op, ShardWork, Swap, Ticket, swap, record_of}
 use Rattle.esr_core.specs.Steps.{noting, with_ticket}
-use Rattle.esr_core.specs.Entry.{Asked, Snapshot, Restore, Given, GivenShard, GivenFinalize, GivenDrop, GivenRestore, Read, DrawTest, CommitTest, Step, AskStep, TakeStep, DrawStep, BeginStep, CommitStep, LatestStep, FetchStep, RaiseStep, SettleStep, DoneStep, FailedStep, FinishStep, DroppedStep, ElectStep, ReadStep, PruneStep, DepotFault, Reply, Gave, DrawnFrom, WasDone, WasThere, WasFetched, HasEnded, Refused, AcceptedRestore, Moment}
+use Rattle.esr_core.specs.Entry.{Asked, Snapshot, DeleteSnapshots, AsksNoDelete, Restore, Given, GivenShard, GivenFinalize, GivenDrop, GivenRestore, Read, DrawTest, CommitTest, Step, AskStep, TakeStep, DrawStep, BeginStep, CommitStep, LatestStep, FetchStep, RaiseStep, SettleStep, DoneStep, FailedStep, FinishStep, DroppedStep, ElectStep, ReadStep, PruneStep, DepotFault, Reply, Gave, DrawnFrom, WasDone, WasThere, WasFetched, HasEnded, Refused, AcceptedRestore, Moment}
 use Rattle.esr_core.specs.After.{taken_shard, taken_by, shard_of, with_given, change, committing, told_blob, fetching, settled_by, settled_of, done_by, done_of, is_stale, failed_by, failed_of, dropped_of, read_by, done_step, swaps_record, has_text, fallen, is_latest, tried, test_left, faulted, answered, after}
 use Rattle.esr_core.proofs.Besides.{Aside, aside_taken, aside_step}
 use Rattle.esr_core.proofs.PruneFrames.{none_left, prune_stays, prune_fault_stays}
@@ -77,24 +77,25 @@ read_deletes f w zero (CommitTest name) WasDone image = refl
 read_deletes f w zero read reply image = refl
 read_deletes f w (suc k) read reply image = aside w _ (aside_step f w (suc k) read reply image)
 
-step_none : (f : Formats) (w : World) (k : ℕ) (step : Step) (reply : Reply) (image : Option Image) → NoneOpen w → NoneOpen (done_step f w k step reply image)
-step_none f w k (AskStep (Snapshot name indices moment)) reply image e = e
-step_none f w k (AskStep (Restore name place)) (AcceptedRestore o uuid indices) image e = e
-step_none f w k TakeStep (Gave ticket op unit) image e = taken_deletes f w op unit (fin.get w.ops op) ∙ e
-step_none f w k (DrawStep n) reply image e = changed w k (λ t. record t { first = w.next_id; drawn = n }) ∙ e
-step_none f w k (CommitStep name) WasDone image e = changed w k (committing name (told_blob f image name)) ∙ e
-step_none f w k (CommitStep name) WasThere image e = changed w k (λ t. noting t name) ∙ e
-step_none f w k LatestStep reply image e = changed w k (λ t. record t { tried_latest = true }) ∙ e
-step_none f w k (FetchStep name) WasFetched image e = changed w k (fetching name (told_blob f image name)) ∙ e
-step_none f w k RaiseStep reply image e = changed w k (λ t. record t { raised = Some w.pending }) ∙ e
-step_none f w k SettleStep reply image e = settled_none f w k (fin.get w.tickets k) e
-step_none f w k (DoneStep result) reply image e = done_deletes w k result (fin.get w.tickets k) ∙ e
-step_none f w k (FailedStep why) reply image e = failed_deletes w k (fin.get w.tickets k) ∙ e
-step_none f w k FinishStep reply image e = changed w k (λ t. record t { out = false }) ∙ e
-step_none f w k DroppedStep reply image e = dropped_none w k (fin.get w.tickets k) e
-step_none f w k (ReadStep read) reply image e = read_deletes f w k read reply image ∙ e
-step_none f w k (PruneStep prune) reply image e = (prune_stays f w k prune reply image).deletes e
-step_none f w k step reply image e = e
+step_none : (f : Formats) (w : World) (k : ℕ) (step : Step) (reply : Reply) (image : Option Image) → AsksNoDelete step → NoneOpen w → NoneOpen (done_step f w k step reply image)
+step_none f w k (AskStep (Snapshot name indices moment)) reply image other e = e
+step_none f w k (AskStep (DeleteSnapshots names)) reply image other e = absurd (other names refl)
+step_none f w k (AskStep (Restore name place)) (AcceptedRestore o uuid indices) image other e = e
+step_none f w k TakeStep (Gave ticket op unit) image other e = taken_deletes f w op unit (fin.get w.ops op) ∙ e
+step_none f w k (DrawStep n) reply image other e = changed w k (λ t. record t { first = w.next_id; drawn = n }) ∙ e
+step_none f w k (CommitStep name) WasDone image other e = changed w k (committing name (told_blob f image name)) ∙ e
+step_none f w k (CommitStep name) WasThere image other e = changed w k (λ t. noting t name) ∙ e
+step_none f w k LatestStep reply image other e = changed w k (λ t. record t { tried_latest = true }) ∙ e
+step_none f w k (FetchStep name) WasFetched image other e = changed w k (fetching name (told_blob f image name)) ∙ e
+step_none f w k RaiseStep reply image other e = changed w k (λ t. record t { raised = Some w.pending }) ∙ e
+step_none f w k SettleStep reply image other e = settled_none f w k (fin.get w.tickets k) e
+step_none f w k (DoneStep result) reply image other e = done_deletes w k result (fin.get w.tickets k) ∙ e
+step_none f w k (FailedStep why) reply image other e = failed_deletes w k (fin.get w.tickets k) ∙ e
+step_none f w k FinishStep reply image other e = changed w k (λ t. record t { out = false }) ∙ e
+step_none f w k DroppedStep reply image other e = dropped_none w k (fin.get w.tickets k) e
+step_none f w k (ReadStep read) reply image other e = read_deletes f w k read reply image ∙ e
+step_none f w k (PruneStep prune) reply image other e = (prune_stays f w k prune reply image).deletes e
+step_none f w k step reply image other e = e
 
 either_none : (a b : World) (first : Bool) → NoneOpen a → NoneOpen b → NoneOpen (if first then a else b)
 either_none a b true p q = p
@@ -111,26 +112,26 @@ left_deletes w name None (Some b) = refl
 left_deletes w name None None = refl
 left_deletes w name (Some b) now = refl
 
-asked_fault : (f : Formats) (w : World) (k : ℕ) (command : Asked) (image : Option Image) (b : Bool) → NoneOpen w → NoneOpen (if b then fallen f w (done_step f w k (AskStep command) HasEnded image) image else w)
-asked_fault f w k command image true e = fallen_none f w (done_step f w k (AskStep command) HasEnded image) image e (step_none f w k (AskStep command) HasEnded image e)
-asked_fault f w k command image false e = e
+asked_fault : (f : Formats) (w : World) (k : ℕ) (command : Asked) (image : Option Image) (b : Bool) → AsksNoDelete (AskStep command) → NoneOpen w → NoneOpen (if b then fallen f w (done_step f w k (AskStep command) HasEnded image) image else w)
+asked_fault f w k command image true other e = fallen_none f w (done_step f w k (AskStep command) HasEnded image) image e (step_none f w k (AskStep command) HasEnded image other e)
+asked_fault f w k command image false other e = e
 
-fault_none : (f : Formats) (w : World) (k : ℕ) (step : Step) (image : Option Image) → NoneOpen w → NoneOpen (faulted f w k step image)
-fault_none f w k LatestStep image e = tried_none w k e
-fault_none f w k (BeginStep name) image e = either_none (tried w k) w (is_latest name) (tried_none w k e) e
-fault_none f w k (ReadStep (CommitTest name)) image e = left_deletes w name (fin.get w.blobs (f.names.text name)) (told_blob f image name) ∙ e
-fault_none f w k (AskStep command) image e = asked_fault f w k command image (swaps_record (AskStep command)) e
-fault_none f w k RaiseStep image e = fallen_none f w (done_step f w k RaiseStep HasEnded image) image e (step_none f w k RaiseStep HasEnded image e)
-fault_none f w k SettleStep image e = fallen_none f w (done_step f w k SettleStep HasEnded image) image e (step_none f w k SettleStep HasEnded image e)
-fault_none f w k DroppedStep image e = fallen_none f w (done_step f w k DroppedStep HasEnded image) image e (step_none f w k DroppedStep HasEnded image e)
-fault_none f w k ElectStep image e = fallen_none f w (done_step f w k ElectStep HasEnded image) image e (step_none f w k ElectStep HasEnded image e)
-fault_none f w k (PruneStep prune) image e = (prune_fault_stays f w k prune image).deletes e
-fault_none f w k step image e = e
+fault_none : (f : Formats) (w : World) (k : ℕ) (step : Step) (image : Option Image) → AsksNoDelete step → NoneOpen w → NoneOpen (faulted f w k step image)
+fault_none f w k LatestStep image other e = tried_none w k e
+fault_none f w k (BeginStep name) image other e = either_none (tried w k) w (is_latest name) (tried_none w k e) e
+fault_none f w k (ReadStep (CommitTest name)) image other e = left_deletes w name (fin.get w.blobs (f.names.text name)) (told_blob f image name) ∙ e
+fault_none f w k (AskStep command) image other e = asked_fault f w k command image (swaps_record (AskStep command)) other e
+fault_none f w k RaiseStep image other e = fallen_none f w (done_step f w k RaiseStep HasEnded image) image e (step_none f w k RaiseStep HasEnded image other e)
+fault_none f w k SettleStep image other e = fallen_none f w (done_step f w k SettleStep HasEnded image) image e (step_none f w k SettleStep HasEnded image other e)
+fault_none f w k DroppedStep image other e = fallen_none f w (done_step f w k DroppedStep HasEnded image) image e (step_none f w k DroppedStep HasEnded image other e)
+fault_none f w k ElectStep image other e = fallen_none f w (done_step f w k ElectStep HasEnded image) image e (step_none f w k ElectStep HasEnded image other e)
+fault_none f w k (PruneStep prune) image other e = (prune_fault_stays f w k prune image).deletes e
+fault_none f w k step image other e = e
 
-answered_none : (f : Formats) (w : World) (k : ℕ) (step : Step) (reply : Reply) (image : Option Image) → NoneOpen w → NoneOpen (answered f w k step reply image)
-answered_none f w k step (Refused DepotFault) image e = fault_none f w k step image e
-answered_none f w k step (Refused refusal) image e = e
-answered_none f w k step reply image e = step_none f w k step reply image e
+answered_none : (f : Formats) (w : World) (k : ℕ) (step : Step) (reply : Reply) (image : Option Image) → AsksNoDelete step → NoneOpen w → NoneOpen (answered f w k step reply image)
+answered_none f w k step (Refused DepotFault) image other e = fault_none f w k step image other e
+answered_none f w k step (Refused refusal) image other e = e
+answered_none f w k step reply image other e = step_none f w k step reply image other e
 
-pub after_none : (f : Formats) (w : World) (m : Moment) → NoneOpen w → NoneOpen (after f w m)
-after_none f w m e = answered_none f w m.entry.who m.entry.step m.entry.reply m.image e
+pub after_none : (f : Formats) (w : World) (m : Moment) → AsksNoDelete m.entry.step → NoneOpen w → NoneOpen (after f w m)
+after_none f w m other e = answered_none f w m.entry.who m.entry.step m.entry.reply m.image other e

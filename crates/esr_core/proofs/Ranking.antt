@@ -12,16 +12,18 @@ use Rattle.esr_core.specs.Pruning.{planned}
 use Rattle.esr_core.specs.World.{World, Op, Work, Shard, Finalize, Deleting, Drop, Ticket, Swap, swap_of, opened, Deletion}
 use Rattle.esr_core.specs.Ready.{IsMaster}
 use Rattle.esr_core.specs.Steps.{with_ticket}
-use Rattle.esr_core.specs.Entry.{Given, GivenShard, GivenFinalize, GivenDrop, Step, Reply, Moment, GivenRestore, Restore, AskStep, ReadStep, Read, ReadBlob, RestoredShard, ReadFails, WasFetched, WasAbsent, HasEnded, GivenClone, GivenDelete, GivenCleanup, Prune, PruneStep}
+use Rattle.esr_core.specs.Entry.{Given, GivenShard, GivenFinalize, GivenDrop, Step, Reply, Moment, GivenRestore, DeleteSnapshots, Restore, AskStep, ReadStep, Read, ReadBlob, RestoredShard, ReadFails, WasFetched, WasAbsent, HasEnded, GivenClone, GivenDelete, GivenCleanup, Prune, PruneStep}
 use Rattle.esr_core.specs.After.{taken_by, taken_shard, with_given, change, committing, fetching, told_blob, done_of, done_by, failed_of, failed_by, is_stale, settled_of, dropped_of, tried, answered, blobs_in, after, test_left, delete_settled, delete_failed, delete_failed_by}
 use Rattle.esr_core.specs.Allowed as allowed
-use Rattle.esr_core.specs.Allowed.{MayPlan, SettlesDeletion, FailsDeletion, PruneAllows, FetchingShard, ShardMissing, FetchShardFails, Planning, PlanSpent, SettlingDelete, SettleDeleteStale, SettleDeleteFails, RemovingDoomed, RemoveDoomedFails, EndingDelete, FailingDelete, Gives, Settles, Fails, Drops, Dones, Allows, Allowed, MayRaise, RestoreAllows, OpeningRestore, NotListed, NamedByDelete, FullOfRestores, ReadAllows, ReadFound, ReadMissing, ReadFault, RestoringShard, ReaderFailing, CheckingAll, CheckFailing, VerifyAllows, DrawingTest, TestSpent, BeginningTest, BeginTestFails, CommittingTest, TestTaken, CommitTestFails, RemovingTests, RemoveTestsFails, VerifyingAll, VerifyFailing}
+use Rattle.esr_core.specs.Allowed.{MayPlan, SettlesDeletion, FailsDeletion, PruneAllows, FetchingShard, ShardMissing, FetchShardFails, Planning, PlanSpent, SettlingDelete, SettleDeleteStale, SettleDeleteFails, RemovingDoomed, RemoveDoomedFails, EndingDelete, FailingDelete, Gives, Settles, Fails, Drops, Dones, Allows, Allowed, MayRaise, DeleteAllows, GoingInto, NotNamed, CloneStands, RestoreStands, FullOfOps, DeleteFault, RestoreAllows, OpeningRestore, NotListed, NamedByDelete, FullOfRestores, ReadAllows, ReadFound, ReadMissing, ReadFault, RestoringShard, ReaderFailing, CheckingAll, CheckFailing, VerifyAllows, DrawingTest, TestSpent, BeginningTest, BeginTestFails, CommittingTest, TestTaken, CommitTestFails, RemovingTests, RemoveTestsFails, VerifyingAll, VerifyFailing}
 use Rattle.esr_core.specs.History.{world_from, IsLegal}
 use Rattle.esr_core.specs.Tracked.{Tracked}
 use Rattle.esr_core.specs.Ranked.{Ranks, Ranked}
 use Rattle.esr_core.proofs.Opening.{nothing}
 use Rattle.esr_core.proofs.Queues.{was_in}
 use Rattle.esr_core.proofs.Besides.{aside_taken, aside_by, kept_aside}
+use Rattle.esr_core.specs.Deletes.{asked_delete}
+use Rattle.esr_core.proofs.AskedDeletes.{delete_leaves}
 use Rattle.esr_core.proofs.Moments.{moment, not_latest, settled_plain, delete_settled_plain}
 use Rattle.esr_core.proofs.TrackingSteps.{tracked_step}
 
@@ -245,6 +247,16 @@ module _ (f : Formats) (size : ℕ) (w : World) (q : Tracked w) (l : Ranked w) w
   elects : Ranks w.safe w.pending (suc w.term) w.tickets
   elects = ranks_elect w.safe w.pending w.term w.tickets l (suc w.term) (λ k t there same. let b : t.term ≤ w.term = (q.tickets k t there).1 in absurd (omega (arith, b, same)))
 
+  -- ---- a delete that is asked
+
+  asks_delete : (names : List Bytes) (reply : Reply) (image : Option Image) → DeleteAllows w names reply → Ranked (after f w (moment 0 (AskStep (DeleteSnapshots names)) reply image))
+  asks_delete names reply image (GoingInto acc) = subst Ranked (sym (delete_leaves w names)) l
+  asks_delete names reply image (NotNamed place clear first) = l
+  asks_delete names reply image (CloneStands o clear named lowest) = l
+  asks_delete names reply image (RestoreStands o clear named no_clone lowest) = l
+  asks_delete names reply image (FullOfOps may new full) = l
+  asks_delete names reply image (DeleteFault acc) = ranks_falls w (asked_delete w names) l (subst Ranked (sym (delete_leaves w names)) l) _ (blobs_in image w.blobs)
+
   -- ---- restores and reading
 
   asks_restore : (name place : Bytes) (reply : Reply) (image : Option Image) → RestoreAllows f w name reply image → Ranked (answered f w 0 (AskStep (Restore name place)) reply image)
@@ -304,6 +316,7 @@ module _ (f : Formats) (size : ℕ) (w : World) (q : Tracked w) (l : Ranked w) w
   ranked_by who step reply image (allowed.Electing im room same) = elects
   ranked_by who step reply image (allowed.Looking im same) = l
   ranked_by who step reply image (allowed.AskingRestore name place rep im h same) = asks_restore name place rep im h
+  ranked_by who step reply image (allowed.AskingDelete names rep im h same) = asks_delete names rep im h
   ranked_by who step reply image (allowed.Reading k read rep im h same) = reads k read rep im h
   ranked_by who step reply image (allowed.Pruning k prune rep im h) = prunes k prune rep im h
   ranked_by who step reply image (allowed.Verifying read rep im h) = verifies read rep im h

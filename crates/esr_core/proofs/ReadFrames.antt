@@ -14,6 +14,7 @@ use Rattle.esr_core.specs.Ids.{Law}
 use Rattle.esr_core.specs.Turns.{SettleDelete, Turn, Stays, Commits, CommitFails, Finds, Raises, Latests, Fetches, SettlesFinal, SettlesDelete, Elects, TakesShard, TakesFinal, TakesDrop, TakesDelete, TakesCleanup, AsksCleanup, CleanDrops, DrawsShard, DrawsPlan, Dones, Ending, Fails, FailsDelete, Drops, AsksCreate, AsksDelete, Merges, Removing, Deposes, Besides, Tests, TestTurn, DrawsTest, AddsTest, RemovesTests}
 use Rattle.esr_core.proofs.Adds.{at_kept}
 use Rattle.esr_core.proofs.LatestPut.{at_back}
+use Rattle.esr_core.proofs.DeletesHold.{none_both}
 use Rattle.esr_core.proofs.Reading.{some_same}
 use Rattle.esr_core.proofs.Queues.{was_in, left_in}
 use Rattle.esr_core.proofs.Settling.{final_keeps, delete_keeps}
@@ -163,7 +164,7 @@ frame f w new shelf l (AsksDelete m uuids h) q =
     (λ u is spared. with_one w.deletes w.next_op u (record { uuids = uuids; clean = false; failed = false }) (ap (names_uuid uuids) (sym is.uuid_is) ∙ h.spares_restores is.o is.r is.there) spared) refl
 frame f w new shelf l (Merges m uuids n h) q =
     deleted f w m _ h.new_is refl refl (le w.next_op) (le w.next_ticket) refl
-    (λ u is spared. with_one w.deletes n u (record h.x { uuids = h.x.uuids ++ h.more }) (ap (names_uuid (h.x.uuids ++ h.more)) (sym is.uuid_is) ∙ h.spares_restores is.o is.r is.there) spared) refl
+    (λ u is spared. with_one w.deletes n u (record h.x { uuids = h.x.uuids ++ h.more }) (none_both h.x.uuids h.more u (spared n h.x h.there) (ap (names_uuid h.more) (sym is.uuid_is) ∙ h.spares_restores is.o is.r is.there)) spared) refl
 frame f w new shelf l (Removing m k names h) q = blobbed f w m _ h.new_is refl refl (le w.next_op) (le w.next_ticket) refl refl (λ name a b x y. some_same a b (sym x.0 ∙ h.removes.left (f.names.text name) b y.0))
 frame f w new shelf l (Tests m t) q = tested f w m t
 frame f w new shelf l (Deposes m v h e) q = absurd q

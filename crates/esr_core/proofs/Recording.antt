@@ -183,6 +183,7 @@ keeps_prune f w k (DeleteFails why) reply image e = keeps_delete_failed w k (fin
 
 keeps_step : (f : Formats) (w : World) (k : ℕ) (step : Step) (reply : Reply) (image : Option Image) → swaps_record step ≡ false → Keeps w (done_step f w k step reply image)
 keeps_step f w k (AskStep (Snapshot name indices moment)) reply image e = absurd (swaps e)
+keeps_step f w k (AskStep (DeleteSnapshots names)) reply image e = absurd (swaps e)
 keeps_step f w k (AskStep (Restore name place)) (AcceptedRestore o uuid indices) image e = record { ledger = refl; deletes = λ q. refl; ops = λ q. refl }
 keeps_step f w k (ReadStep read) reply image e = keeps_read f w k read reply image
 keeps_step f w k (PruneStep prune) reply image e = keeps_prune f w k prune reply image e

@@ -3,18 +3,19 @@ use Rattle.std.proofs.Common.{◌≡◌, ◌⊎◌, ℕ, zero, suc, List, [], �
 use Rattle.std.specs.Prelude.{if◌then◌else◌}
 use Rattle.std.specs.FinMap as fin
 use Rattle.esr_model.specs.Names.{BlobName, Latest}
-use Rattle.esr_model.specs.Values.{Bytes, Has, ShardResult, Formats}
+use Rattle.esr_model.specs.Values.{Bytes, ShardResult, Formats}
 use Rattle.esr_model.specs.Image.{Image}
 use Rattle.esr_core.specs.World.{World, Op, ShardWork, ReadState, RestoreShard, Restoring, Reader, Ticket, Swap, swap, Deletion}
 use Rattle.esr_core.specs.Restores.{restore_shard}
 use Rattle.esr_core.specs.Steps.{with_ticket}
-use Rattle.esr_core.specs.Entry.{Asked, Snapshot, Restore, Given, GivenShard, GivenFinalize, GivenDrop, GivenRestore, Read, ReadBlob, RestoredShard, CheckedAll, DrawTest, BeginTest, CommitTest, RemoveTests, VerifiedAll, ReadFails, Step, AskStep, TakeStep, DrawStep, BeginStep, CommitStep, LatestStep, FetchStep, ListStep, RaiseStep, SettleStep, DoneStep, FailedStep, FinishStep, DroppedStep, ElectStep, LookStep, ReadStep, Refusal, DepotFault, Reply, Gave, DrawnFrom, WasDone, WasThere, WasFetched, HasEnded, Refused, AcceptedRestore, Moment, Prune, FetchShard, PlanShards, SettlePruned, RemoveDoomed, EndDelete, DeleteFails, PruneStep}
+use Rattle.esr_core.specs.Entry.{Asked, Snapshot, DeleteSnapshots, Restore, Given, GivenShard, GivenFinalize, GivenDrop, GivenRestore, Read, ReadBlob, RestoredShard, DrawTest, CommitTest, ReadFails, Step, AskStep, TakeStep, DrawStep, BeginStep, CommitStep, LatestStep, FetchStep, RaiseStep, SettleStep, DoneStep, FailedStep, FinishStep, DroppedStep, ElectStep, ReadStep, Refusal, DepotFault, Reply, Gave, DrawnFrom, WasDone, WasThere, WasFetched, HasEnded, Refused, AcceptedRestore, Moment, Prune, FetchShard, PlanShards, SettlePruned, RemoveDoomed, EndDelete, DeleteFails, PruneStep}
 use Rattle.esr_core.specs.After.{shard_of, taken_shard, taken_restore_shard, taken_restore, taken_by, with_given, change, told_blob, settled_by, settled_of, done_by, done_of, is_stale, failed_by, failed_of, dropped_of, read_told, shard_over, read_over, read_step, read_by, done_step, swaps_record, fallen, is_latest, tried, test_left, faulted, answered, after, delete_settled_by, delete_settled, delete_failed_by, delete_failed, prune_step}
 use Rattle.esr_core.specs.Pruning.{planned}
 use Rattle.esr_core.specs.Allowed as allowed
-use Rattle.esr_core.specs.Allowed.{RestoreAllows, ReadAllows, VerifyAllows, PruneAllows, Allows, Allowed}
-use Rattle.esr_core.specs.History.{world_from, IsLegal}
-use Rattle.esr_core.specs.Refusing.{MayRefuse, InCleanup, InUse, InFull, NoIdForAsk, AskFault, NotListed, NamedByDelete, FullOfRestores, NoIds, BeginFault, CommitFault, CommitTaken, LatestFault, FetchFault, ListFault, RaiseFault, RaiseStale, RaiseSpent, SettleFault, SettleStale, DropFault, DropStale, ElectFault, NoTerms, ReadFault, NoTestId, BeginTestFault, CommitTestFault, TestTaken, RemoveFault, RefusedSo, SwapFailed, FetchShardFault, NoPlanIds, SettleDeleteFault, SettleDeleteStale, RemoveDoomedFault}
+use Rattle.esr_core.specs.Allowed.{RestoreAllows, DeleteAllows, ReadAllows, VerifyAllows, PruneAllows, Allows, Allowed}
+use Rattle.esr_core.specs.History.{world_from}
+use Rattle.esr_core.specs.Refusing.{MayRefuse, InCleanup, InUse, InFull, NoIdForAsk, AskFault, NotNamed, CloneStands, RestoreStands, FullOfOps, AskDeleteFault, NotListed, NamedByDelete, FullOfRestores, NoIds, BeginFault, CommitFault, CommitTaken, LatestFault, FetchFault, ListFault, RaiseFault, RaiseStale, RaiseSpent, SettleFault, SettleStale, DropFault, DropStale, ElectFault, NoTerms, ReadFault, NoTestId, BeginTestFault, CommitTestFault, TestTaken, RemoveFault, RefusedSo, SwapFailed, FetchShardFault, NoPlanIds, SettleDeleteFault, SettleDeleteStale, RemoveDoomedFault}
+use Rattle.esr_core.proofs.AskedDeletes.{delete_leaves}
 
 -- ---- refusals
 
@@ -23,6 +24,13 @@ module _ (f : Formats) (size : ℕ) (w : World) where
   restore_refused name place refusal image (allowed.NotListed im none) = NotListed name place
   restore_refused name place refusal image (allowed.NamedByDelete uuid d im listed named) = NamedByDelete name place d
   restore_refused name place refusal image (allowed.FullOfRestores uuid im listed spared full) = FullOfRestores name place
+
+  delete_refused : (names : List Bytes) (refusal : Refusal) → DeleteAllows w names (Refused refusal) → MayRefuse (AskStep (DeleteSnapshots names)) refusal
+  delete_refused names refusal (allowed.NotNamed place clear first) = NotNamed names place
+  delete_refused names refusal (allowed.CloneStands o clear named lowest) = CloneStands names o
+  delete_refused names refusal (allowed.RestoreStands o clear named no_clone lowest) = RestoreStands names o
+  delete_refused names refusal (allowed.FullOfOps may new full) = FullOfOps names
+  delete_refused names refusal (allowed.DeleteFault acc) = AskDeleteFault names
 
   read_refused : (k : ℕ) (read : Read) (refusal : Refusal) (image : Option Image) → ReadAllows f w k read (Refused refusal) image → MayRefuse (ReadStep read) refusal
   read_refused k read refusal image (allowed.ReadFault j name im stored by) = ReadFault name
@@ -43,6 +51,7 @@ module _ (f : Formats) (size : ℕ) (w : World) where
 
   refused_by : (who : ℕ) (step : Step) (refusal : Refusal) (image : Option Image) → Allows f size w who step (Refused refusal) image → MayRefuse step refusal
   refused_by who step refusal image (allowed.AskingRestore name place rep im h same) = restore_refused name place refusal image h
+  refused_by who step refusal image (allowed.AskingDelete names rep im h same) = delete_refused names refusal h
   refused_by who step refusal image (allowed.Verifying read rep im h) = verify_refused read refusal image h
   refused_by who step refusal image (allowed.Pruning k prune rep im h) = prune_refused k prune refusal image h
   refused_by who step refusal image (allowed.Reading k read rep im h same) = read_refused k read refusal image h
@@ -200,6 +209,7 @@ module _ (f : Formats) (w : World) where
   step_mark : (k : ℕ) (step : Step) (reply : Reply) (image : Option Image) → (done_step f w k step reply image).deposed ≡ w.deposed
   step_mark k (AskStep (Snapshot name indices moment)) reply image = refl
   step_mark k (AskStep (Restore name place)) (AcceptedRestore o uuid indices) image = refl
+  step_mark k (AskStep (DeleteSnapshots names)) reply image = ap (λ (x : World). x.deposed) (delete_leaves w names)
   step_mark k (AskStep command) reply image = refl
   step_mark k TakeStep (Gave ticket op unit) image = taken_mark op unit (fin.get w.ops op)
   step_mark k (DrawStep n) reply image = change_mark k (λ t. record t { first = w.next_id; drawn = n })

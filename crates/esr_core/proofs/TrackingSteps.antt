@@ -15,10 +15,10 @@ use Rattle.esr_core.specs.World.{World, Op, ShardWork, Out, Done, Work, Shard, F
 use Rattle.esr_core.specs.Ready.{Stopped, IsShard, IsMaster, ReadyDrop, SwapIsOut}
 use Rattle.esr_core.specs.Steps.{with_ticket, completing, final_ticket}
 use Rattle.esr_core.specs.Turns.{plain_ticket, fails}
-use Rattle.esr_core.specs.Entry.{AskedIndex, Snapshot, Given, GivenShard, GivenFinalize, GivenDrop, Step, Reply, Moment, GivenRestore, Restore, AskStep, ReadStep, Read, ReadBlob, RestoredShard, ReadFails, WasFetched, WasAbsent, HasEnded, GivenClone, GivenDelete, GivenCleanup, Prune, PruneStep}
+use Rattle.esr_core.specs.Entry.{AskedIndex, Snapshot, Given, GivenShard, GivenFinalize, GivenDrop, Step, Reply, Moment, GivenRestore, DeleteSnapshots, Restore, AskStep, ReadStep, Read, ReadBlob, RestoredShard, ReadFails, WasFetched, WasAbsent, HasEnded, GivenClone, GivenDelete, GivenCleanup, Prune, PruneStep}
 use Rattle.esr_core.specs.After.{asked, asked_op, taken_by, taken_shard, with_given, change, committing, fetching, told_blob, done_of, done_by, failed_of, failed_by, is_stale, settled_of, dropped_of, tried, answered, blobs_in, after, stepped, test_left, delete_settled, delete_failed, delete_failed_by}
 use Rattle.esr_core.specs.Allowed as allowed
-use Rattle.esr_core.specs.Allowed.{MayPlan, SettlesDeletion, FailsDeletion, PruneAllows, FetchingShard, ShardMissing, FetchShardFails, Planning, PlanSpent, SettlingDelete, SettleDeleteStale, SettleDeleteFails, RemovingDoomed, RemoveDoomedFails, EndingDelete, FailingDelete, Accepts, Gives, Settles, Fails, Drops, Dones, Allows, Allowed, RestoreAllows, OpeningRestore, NotListed, NamedByDelete, FullOfRestores, ReadAllows, ReadFound, ReadMissing, ReadFault, RestoringShard, ReaderFailing, CheckingAll, CheckFailing, VerifyAllows, DrawingTest, TestSpent, BeginningTest, BeginTestFails, CommittingTest, TestTaken, CommitTestFails, RemovingTests, RemoveTestsFails, VerifyingAll, VerifyFailing}
+use Rattle.esr_core.specs.Allowed.{MayPlan, SettlesDeletion, FailsDeletion, PruneAllows, FetchingShard, ShardMissing, FetchShardFails, Planning, PlanSpent, SettlingDelete, SettleDeleteStale, SettleDeleteFails, RemovingDoomed, RemoveDoomedFails, EndingDelete, FailingDelete, Accepts, Gives, Settles, Fails, Drops, Dones, Allows, Allowed, DeleteAllows, GoingInto, NotNamed, CloneStands, RestoreStands, FullOfOps, DeleteFault, RestoreAllows, OpeningRestore, NotListed, NamedByDelete, FullOfRestores, ReadAllows, ReadFound, ReadMissing, ReadFault, RestoringShard, ReaderFailing, CheckingAll, CheckFailing, VerifyAllows, DrawingTest, TestSpent, BeginningTest, BeginTestFails, CommittingTest, TestTaken, CommitTestFails, RemovingTests, RemoveTestsFails, VerifyingAll, VerifyFailing}
 use Rattle.esr_core.specs.History.{world_from, IsLegal}
 use Rattle.esr_core.specs.Tracked.{IsOneIndex, FinalTracked, Named, Tracked, IsWithin, DeleteTracked}
 use Rattle.esr_core.proofs.Reading.{some_same}
@@ -34,6 +34,7 @@ use Rattle.esr_core.proofs.Heard.{aside_heard}
 use Rattle.esr_core.proofs.Naming.{named_left, named_root, named_within}
 use Rattle.esr_core.proofs.Tracking.{Follows, tracked_aside, tracked_ticket, tracked_new, tracked_drawn, tracked_elect, tracked_planned, tracked_failed}
 use Rattle.esr_core.proofs.TrackingOps.{goes_not_stopped, final_apart, tracked_asked, tracked_left}
+use Rattle.esr_core.proofs.TrackingDeletes.{tracked_delete}
 use Rattle.esr_core.proofs.TrackingGiven.{tracked_given}
 use Rattle.esr_core.proofs.Plans.{plan_within}
 use Rattle.esr_core.proofs.TrackingEnds.{GoesOnPast, tracked_went}
@@ -441,6 +442,16 @@ module _ (f : Formats) (size : ℕ) (w : World) (l : Tracked w) where
   prunes who prune reply image (EndingDelete k im e same) = kept _ (changed k e.t e.deleting.out.there (λ (t : Ticket). record t { out = false }) (ended e.t (λ shard. subst IsShard e.deleting.work shard)) (drew k e.t e.deleting.out.there)) (blobs_in im w.blobs)
   prunes who prune reply image (FailingDelete k why im c same) = kept _ (deletion_fails k c) (blobs_in im w.blobs)
 
+  -- ---- a delete that is asked
+
+  asks_delete : (names : List Bytes) (reply : Reply) (image : Option Image) → DeleteAllows w names reply → Tracked (stepped f w (moment 0 (AskStep (DeleteSnapshots names)) reply image))
+  asks_delete names reply image (GoingInto acc) = kept _ (tracked_delete w l names) (blobs_in image w.blobs)
+  asks_delete names reply image (NotNamed place clear first) = kept w l (blobs_in image w.blobs)
+  asks_delete names reply image (CloneStands o clear named lowest) = kept w l (blobs_in image w.blobs)
+  asks_delete names reply image (RestoreStands o clear named no_clone lowest) = kept w l (blobs_in image w.blobs)
+  asks_delete names reply image (FullOfOps may new full) = kept w l (blobs_in image w.blobs)
+  asks_delete names reply image (DeleteFault acc) = falls w _ l (tracked_delete w l names) _ (blobs_in image w.blobs)
+
   -- ---- restores and reading
 
   asks_restore : (name place : Bytes) (reply : Reply) (image : Option Image) → RestoreAllows f w name reply image → Tracked (answered f w 0 (AskStep (Restore name place)) reply image)
@@ -503,6 +514,7 @@ module _ (f : Formats) (size : ℕ) (w : World) (l : Tracked w) where
   tracked_by who step reply image (allowed.Electing im room same) = kept _ (tracked_elect w l) (blobs_in im w.blobs)
   tracked_by who step reply image (allowed.Looking im same) = kept w l (blobs_in im w.blobs)
   tracked_by who step reply image (allowed.AskingRestore name place rep im h same) = kept _ (asks_restore name place rep im h) (blobs_in im w.blobs)
+  tracked_by who step reply image (allowed.AskingDelete names rep im h same) = asks_delete names rep im h
   tracked_by who step reply image (allowed.Reading k read rep im h same) = kept _ (reads k read rep im h) (blobs_in im w.blobs)
   tracked_by who step reply image (allowed.Pruning k prune rep im h) = prunes k prune rep im h
   tracked_by who step reply image (allowed.Verifying read rep im h) = kept _ (verifies read rep im h) (blobs_in im w.blobs)

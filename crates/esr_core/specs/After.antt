@@ -12,7 +12,8 @@ use Rattle.esr_core.specs.Restores.{restore_shard, restore_opened, shard_handed,
 use Rattle.esr_core.specs.Steps.{with_ticket, noting, writing, reading, given, completing, settled, shard_ticket, final_ticket}
 use Rattle.esr_core.specs.Turns.{plain_ticket, fails}
 use Rattle.esr_core.specs.Pruning.{planned, dooms}
-use Rattle.esr_core.specs.Entry.{AskedIndex, Asked, Snapshot, Restore, is_recorded, Given, GivenShard, GivenFinalize, GivenDrop, GivenRestore, GivenDelete, Read, ReadBlob, RestoredShard, CheckedAll, DrawTest, CommitTest, RemoveTests, VerifiedAll, ReadFails, Prune, FetchShard, PlanShards, SettlePruned, RemoveDoomed, EndDelete, DeleteFails, Step, AskStep, TakeStep, DrawStep, BeginStep, CommitStep, LatestStep, FetchStep, RaiseStep, SettleStep, DoneStep, FailedStep, FinishStep, DroppedStep, ElectStep, LookStep, ReadStep, PruneStep, StaleTerm, IdsSpent, DeposedAt, DepotFault, Reply, Gave, DrawnFrom, WasRemoved, WasDone, WasThere, WasFetched, WasAbsent, HasEnded, Refused, AcceptedRestore, Moment}
+use Rattle.esr_core.specs.Deletes.{asked_delete}
+use Rattle.esr_core.specs.Entry.{AskedIndex, Asked, Snapshot, Clone, DeleteSnapshots, Restore, Cleanup, is_recorded, Given, GivenShard, GivenFinalize, GivenDrop, GivenRestore, GivenDelete, Read, ReadBlob, RestoredShard, CheckedAll, DrawTest, CommitTest, RemoveTests, VerifiedAll, ReadFails, Prune, FetchShard, PlanShards, SettlePruned, RemoveDoomed, EndDelete, DeleteFails, Step, AskStep, TakeStep, DrawStep, BeginStep, CommitStep, LatestStep, FetchStep, RaiseStep, SettleStep, DoneStep, FailedStep, FinishStep, DroppedStep, ElectStep, LookStep, ReadStep, PruneStep, StaleTerm, IdsSpent, DeposedAt, DepotFault, Reply, Gave, DrawnFrom, WasRemoved, WasDone, WasThere, WasFetched, WasAbsent, HasEnded, Refused, AcceptedRestore, Moment}
 
 abbrev pub or_else : {A : Type 0} → Option A → Option A → Option A
 or_else None b = b
@@ -82,8 +83,11 @@ abbrev pub asked : World → Asked → World
 asked w (Snapshot name indices moment) =
     let op : Op = asked_op w name indices moment in
     record w { ops = fin.insert w.ops w.next_op op; next_op = suc w.next_op; completed = completing w.completed w.next_op op.shards; next_id = w.next_id + suc (new_names w indices) }
+asked w (DeleteSnapshots names) = asked_delete w names
 -- what a restore reads its acceptance tells; the others are not accepted so far
-asked w command = w
+asked w (Clone source name indices moment) = w
+asked w (Restore name place) = w
+asked w Cleanup = w
 
 -- ---- take
 
@@ -246,6 +250,7 @@ read_by f w (suc k) read reply image = read_step f w (suc k) read reply image
 -- the world after a step that was answered Ok, its blobs aside
 abbrev pub done_step : Formats → World → ℕ → Step → Reply → Option Image → World
 done_step f w k (AskStep (Snapshot name indices moment)) reply image = asked w (Snapshot name indices moment)
+done_step f w k (AskStep (DeleteSnapshots names)) reply image = asked w (DeleteSnapshots names)
 done_step f w k (AskStep (Restore name place)) (AcceptedRestore o uuid indices) image = restore_opened w uuid place indices
 done_step f w k TakeStep (Gave ticket op unit) image = taken_by f w op unit (fin.get w.ops op)
 done_step f w k (DrawStep n) reply image = record (change w k (λ t. record t { first = w.next_id; drawn = n })) { next_id = w.next_id + n }

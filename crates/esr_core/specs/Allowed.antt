@@ -1,5 +1,5 @@
 -- What each step asks of the world before it, by its answer.
-use Rattle.std.specs.Prelude.{◌≡◌, ◌≢◌, ◌⊎◌, ℕ, zero, suc, ◌+◌, ◌-◌, ◌^◌, ◌<◌, ◌≤◌, true, false, List, [], ◌∷◌, length, sum_by, min, Option, Some, None}
+use Rattle.std.specs.Prelude.{◌≡◌, ◌≢◌, ◌⊎◌, ℕ, zero, suc, ◌+◌, ◌-◌, ◌^◌, ◌<◌, ◌≤◌, true, false, List, [], ◌∷◌, length, ◌++◌, sum_by, min, Option, Some, None}
 use Rattle.std.specs.FinMap as fin
 use Rattle.esr_model.specs.Names.{BlobName, Root, Latest, Snap, ShardSnap, ShardIndex, TestMaster}
 use Rattle.esr_model.specs.Values.{Bytes, Has, IndexRef, RootSnap, RootIndex, RootData, SnapInfo, ShardSnapshot, ShardFiles, ShardResult, ReadsBack, IsOneEach, Formats}
@@ -19,7 +19,8 @@ use Rattle.esr_core.specs.Restores.{IsTestOf, AreApart, IsReading, WasRead, IsPi
 use Rattle.esr_core.specs.Steps.{IsOut, Drew, Largest, MayCommit, MaySettle, Removes}
 use Rattle.esr_core.specs.Texts.{IsMetaOf}
 use Rattle.std.specs.Int.{w64, to_be_bytes}
-use Rattle.esr_core.specs.Entry.{AskedIndex, Asked, Snapshot, Restore, is_recorded, Given, GivenShard, GivenFinalize, GivenDrop, GivenRestore, GivenClone, GivenDelete, GivenCleanup, Why, Read, ReadBlob, RestoredShard, CheckedAll, DrawTest, BeginTest, CommitTest, RemoveTests, VerifiedAll, ReadFails, Prune, FetchShard, PlanShards, SettlePruned, RemoveDoomed, EndDelete, DeleteFails, Step, AskStep, TakeStep, DrawStep, BeginStep, CommitStep, LatestStep, FetchStep, ListStep, RaiseStep, SettleStep, DoneStep, FailedStep, FinishStep, DroppedStep, ElectStep, LookStep, ReadStep, PruneStep, CleanupRunning, NameInUse, TooMany, DeposedAt, StaleTerm, GenerationsSpent, TermsSpent, IdsSpent, NameTaken, DepotFault, NoSnapshot, BeingDeleted, Reply, Accepted, NothingReady, Gave, DrawnFrom, WasBegun, WasDone, WasThere, WasReplaced, WasFetched, WasAbsent, WasListed, RaisedTo, WasSettled, HasEnded, ElectedTerm, Looked, Refused, WasRemoved, AcceptedRestore, Moment}
+use Rattle.esr_core.specs.Deletes.{named_uuids, waiting_delete, running_delete, delete_number}
+use Rattle.esr_core.specs.Entry.{AskedIndex, Asked, Snapshot, DeleteSnapshots, Restore, is_recorded, Given, GivenShard, GivenFinalize, GivenDrop, GivenRestore, GivenClone, GivenDelete, GivenCleanup, Why, Read, ReadBlob, RestoredShard, CheckedAll, DrawTest, BeginTest, CommitTest, RemoveTests, VerifiedAll, ReadFails, Prune, FetchShard, PlanShards, SettlePruned, RemoveDoomed, EndDelete, DeleteFails, Step, AskStep, TakeStep, DrawStep, BeginStep, CommitStep, LatestStep, FetchStep, ListStep, RaiseStep, SettleStep, DoneStep, FailedStep, FinishStep, DroppedStep, ElectStep, LookStep, ReadStep, PruneStep, CleanupRunning, NameInUse, TooMany, DeposedAt, StaleTerm, GenerationsSpent, TermsSpent, IdsSpent, NameTaken, DepotFault, NoSnapshot, BeingDeleted, CloneRunning, RestoreRunning, Reply, Accepted, NothingReady, Gave, DrawnFrom, WasBegun, WasDone, WasThere, WasReplaced, WasFetched, WasAbsent, WasListed, RaisedTo, WasSettled, HasEnded, ElectedTerm, Looked, Refused, WasRemoved, AcceptedRestore, Moment}
 use Rattle.esr_core.specs.After.{asked_op, new_names, shard_of, after}
 
 -- what `index.latest` holds: the generation as 8 bytes, the highest first
@@ -134,6 +135,66 @@ pub data RestoreAllows (f : Formats) (w : World) (name : Bytes) : Reply → Opti
   NotListed : (image : Option Image) → ((uuid : ℕ) → IsListed w name uuid → ⊥) → RestoreAllows f w name (Refused (NoSnapshot 0)) image
   NamedByDelete : (uuid d : ℕ) (image : Option Image) → IsListed w name uuid → IsBeingDeleted w uuid d → RestoreAllows f w name (Refused (BeingDeleted d)) image
   FullOfRestores : (uuid : ℕ) (image : Option Image) → IsListed w name uuid → IsSpared w uuid → 1000 ≤ fin.len w.restores → RestoreAllows f w name (Refused (TooMany 1000)) image
+
+-- ---- ask: a delete
+
+-- each of these names is that of a listed snapshot or of an open op
+abbrev pub AreNamed : World → List Bytes → Type 0
+AreNamed w names = (name : Bytes) → Has names name → (uuid : ℕ) × IsNameOf w name uuid
+
+-- the name at this place is the first that is none
+pub record IsFirstUnused (w : World) (names : List Bytes) (place : ℕ) : Type 0 where
+  pub front : List Bytes
+  pub name : Bytes
+  pub back : List Bytes
+  pub is : names ≡ front ++ name ∷ back
+  pub place_is : place ≡ length front
+  pub before : AreNamed w front
+  pub unused : IsUnused w name
+
+-- this open clone copies one of them
+pub record Copies (w : World) (uuids : List ℕ) (o : ℕ) : Type 0 where
+  pub op : Op
+  pub there : fin.get w.ops o ≡ Some op
+  pub source : ℕ
+  pub source_is : op.source ≡ Some source
+  pub names : names_uuid uuids source ≡ true
+
+-- this open restore reads one of them
+pub record ReadsOne (w : World) (uuids : List ℕ) (o : ℕ) : Type 0 where
+  pub r : Restoring
+  pub there : fin.get w.restores o ≡ Some r
+  pub names : names_uuid uuids r.uuid ≡ true
+
+-- of a number, and of no lower one
+abbrev pub IsLowest : (ℕ → Type 0) → ℕ → Type 0
+IsLowest P o = P o × ((p : ℕ) → p < o → P p → ⊥)
+
+-- no rule on what it names refuses the delete
+pub record MayDelete (w : World) (names : List Bytes) : Type 0 where
+  pub no_cleanup : NoCleanup w
+  pub named : AreNamed w names
+  pub no_clone : (o : ℕ) → Copies w (named_uuids w names) o → ⊥
+  pub no_restore : (o : ℕ) → ReadsOne w (named_uuids w names) o → ⊥
+
+-- it needs an op of its own
+abbrev pub IsNewDelete : World → List Bytes → Type 0
+IsNewDelete w names = (waiting_delete w ≡ None) × (running_delete w (named_uuids w names) ≡ None)
+
+-- a new op needs room
+pub record AcceptsDelete (w : World) (names : List Bytes) : Type 0 where
+  pub may : MayDelete w names
+  pub room : IsNewDelete w names → open_count w < 1000
+
+-- how a delete may be answered: by its own op or the one that it goes into, or by the first rule that refuses it
+pub data DeleteAllows (w : World) (names : List Bytes) : Reply → Type 0 where
+  GoingInto : AcceptsDelete w names → DeleteAllows w names (Accepted (delete_number w names))
+  NotNamed : (place : ℕ) → NoCleanup w → IsFirstUnused w names place → DeleteAllows w names (Refused (NoSnapshot place))
+  CloneStands : (o : ℕ) → NoCleanup w → AreNamed w names → IsLowest (Copies w (named_uuids w names)) o → DeleteAllows w names (Refused (CloneRunning o))
+  RestoreStands : (o : ℕ) → NoCleanup w → AreNamed w names → ((p : ℕ) → Copies w (named_uuids w names) p → ⊥) → IsLowest (ReadsOne w (named_uuids w names)) o → DeleteAllows w names (Refused (RestoreRunning o))
+  FullOfOps : MayDelete w names → IsNewDelete w names → 1000 ≤ open_count w → DeleteAllows w names (Refused (TooMany 1000))
+  -- the record swap failed
+  DeleteFault : AcceptsDelete w names → DeleteAllows w names (Refused DepotFault)
 
 -- ---- take
 
@@ -583,6 +644,7 @@ pub data Allows (f : Formats) (part_size : ℕ) (w : World) : ℕ → Step → R
   Electing : (image : Option Image) → suc w.term < 2 ^ 63 → SameBlobs w image → Allows f part_size w 0 ElectStep (ElectedTerm (suc w.term)) image
   Looking : (image : Option Image) → SameBlobs w image → Allows f part_size w 0 LookStep (Looked w.root.snapshots w.safe) image
   AskingRestore : (name place : Bytes) (reply : Reply) (image : Option Image) → RestoreAllows f w name reply image → SameBlobs w image → Allows f part_size w 0 (AskStep (Restore name place)) reply image
+  AskingDelete : (names : List Bytes) (reply : Reply) (image : Option Image) → DeleteAllows w names reply → SameBlobs w image → Allows f part_size w 0 (AskStep (DeleteSnapshots names)) reply image
   Verifying : (read : Read) (reply : Reply) (image : Option Image) → VerifyAllows f w read reply image → Allows f part_size w 0 (ReadStep read) reply image
   Reading : (k : ℕ) (read : Read) (reply : Reply) (image : Option Image) → ReadAllows f w k read reply image → SameBlobs w image → Allows f part_size w k (ReadStep read) reply image
   Pruning : (k : ℕ) (prune : Prune) (reply : Reply) (image : Option Image) → PruneAllows f w k prune reply image → Allows f part_size w k (PruneStep prune) reply image

@@ -1,5 +1,5 @@
 -- A step of the repository as the history tells it: who made it, what was asked, and what was answered.
-use Rattle.std.specs.Prelude.{ℕ, ℤ, Bool, true, false, List, Option}
+use Rattle.std.specs.Prelude.{◌≢◌, ℕ, ℤ, Bool, true, false, List, Option}
 use Rattle.esr_model.specs.Names.{BlobName}
 use Rattle.esr_model.specs.Values.{Bytes, IndexRef, RootSnap, SnapInfo, ShardResult}
 use Rattle.esr_model.specs.Delete.{PrunedShard}
@@ -11,7 +11,7 @@ pub record AskedIndex : Type 0 where
   pub shards : ℕ
   pub place : Bytes
 
--- A command as it is asked. Of clones, deletes and cleanups only the refusals in an open cleanup are steps so far.
+-- A command as it is asked. Of clones and cleanups only the refusals in an open cleanup are steps so far.
 pub data Asked : Type 0 where
   Snapshot : (name : Bytes) (indices : List AskedIndex) (moment : ℕ) → Asked
   -- of these indices of a listed snapshot, of all where none is named
@@ -125,6 +125,10 @@ pub data Step : Type 0 where
   LookStep : Step
   ReadStep : (read : Read) → Step
   PruneStep : (prune : Prune) → Step
+
+-- it asks for no delete
+abbrev pub AsksNoDelete : Step → Type 0
+AsksNoDelete step = (names : List Bytes) → step ≢ AskStep (DeleteSnapshots names)
 
 pub data Refusal : Type 0 where
   CleanupRunning : (op : ℕ) → Refusal

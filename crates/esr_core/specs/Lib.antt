@@ -16,6 +16,7 @@ pub mod Ranked
 pub mod ReadTracked
 pub mod Turns
 pub mod Entry
+pub mod Deletes
 pub mod After
 pub mod Allowed
 pub mod ReadLaw

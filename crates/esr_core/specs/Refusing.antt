@@ -4,7 +4,7 @@ use Rattle.esr_model.specs.Names.{BlobName}
 use Rattle.esr_model.specs.Values.{Bytes, Has}
 use Rattle.esr_model.specs.Delete.{PrunedShard}
 use Rattle.esr_core.specs.World.{World}
-use Rattle.esr_core.specs.Entry.{AskedIndex, Asked, Snapshot, Restore, is_recorded, ReadBlob, DrawTest, BeginTest, CommitTest, RemoveTests, FetchShard, PlanShards, SettlePruned, RemoveDoomed, Step, AskStep, DrawStep, BeginStep, CommitStep, LatestStep, FetchStep, ListStep, RaiseStep, SettleStep, DroppedStep, ElectStep, ReadStep, PruneStep, Refusal, CleanupRunning, NameInUse, TooMany, DeposedAt, StaleTerm, GenerationsSpent, TermsSpent, IdsSpent, NameTaken, DepotFault, NoSnapshot, BeingDeleted, Refused, Moment}
+use Rattle.esr_core.specs.Entry.{AskedIndex, Asked, Snapshot, DeleteSnapshots, Restore, is_recorded, ReadBlob, DrawTest, BeginTest, CommitTest, RemoveTests, FetchShard, PlanShards, SettlePruned, RemoveDoomed, Step, AskStep, DrawStep, BeginStep, CommitStep, LatestStep, FetchStep, ListStep, RaiseStep, SettleStep, DroppedStep, ElectStep, ReadStep, PruneStep, Refusal, CleanupRunning, NameInUse, TooMany, DeposedAt, StaleTerm, GenerationsSpent, TermsSpent, IdsSpent, NameTaken, DepotFault, NoSnapshot, BeingDeleted, CloneRunning, RestoreRunning, Refused, Moment}
 use Rattle.esr_core.specs.After.{swaps_record}
 
 -- A step may be refused so: a command by a rule of its kind, with the place or the limit that this has, or since its ids are spent; a
@@ -16,6 +16,11 @@ pub data MayRefuse : Step → Refusal → Type 0 where
   InFull : (name : Bytes) (indices : List AskedIndex) (moment : ℕ) → MayRefuse (AskStep (Snapshot name indices moment)) (TooMany 1000)
   NoIdForAsk : (name : Bytes) (indices : List AskedIndex) (moment next : ℕ) → MayRefuse (AskStep (Snapshot name indices moment)) (IdsSpent next)
   AskFault : (name : Bytes) (indices : List AskedIndex) (moment : ℕ) → MayRefuse (AskStep (Snapshot name indices moment)) DepotFault
+  NotNamed : (names : List Bytes) (place : ℕ) → MayRefuse (AskStep (DeleteSnapshots names)) (NoSnapshot place)
+  CloneStands : (names : List Bytes) (op : ℕ) → MayRefuse (AskStep (DeleteSnapshots names)) (CloneRunning op)
+  RestoreStands : (names : List Bytes) (op : ℕ) → MayRefuse (AskStep (DeleteSnapshots names)) (RestoreRunning op)
+  FullOfOps : (names : List Bytes) → MayRefuse (AskStep (DeleteSnapshots names)) (TooMany 1000)
+  AskDeleteFault : (names : List Bytes) → MayRefuse (AskStep (DeleteSnapshots names)) DepotFault
   NotListed : (name place : Bytes) → MayRefuse (AskStep (Restore name place)) (NoSnapshot 0)
   NamedByDelete : (name place : Bytes) (op : ℕ) → MayRefuse (AskStep (Restore name place)) (BeingDeleted op)
   FullOfRestores : (name place : Bytes) → MayRefuse (AskStep (Restore name place)) (TooMany 1000)

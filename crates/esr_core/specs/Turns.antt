@@ -303,8 +303,8 @@ pub record MergeDelete (w : World) (uuids : List ℕ) (d : ℕ) (new : World) : 
   pub more : List ℕ
   pub known : (u : ℕ) → Has more u → IsKnown w u
   -- no open clone copies one of them
-  pub spares : (o : ℕ) (op : Op) (u : ℕ) → fin.get w.ops o ≡ Some op → op.source ≡ Some u → names_uuid (x.uuids ++ more) u ≡ false
-  pub spares_restores : SparesRestores w (x.uuids ++ more)
+  pub spares : (o : ℕ) (op : Op) (u : ℕ) → fin.get w.ops o ≡ Some op → op.source ≡ Some u → names_uuid more u ≡ false
+  pub spares_restores : SparesRestores w more
   pub new_is : new ≡ record w { ops = ops; deletes = fin.insert w.deletes d (record x { uuids = x.uuids ++ more }) }
 
 -- ---- restores, and what who 0 reads: these steps leave all else as it is, but for the numbers of ops and tickets

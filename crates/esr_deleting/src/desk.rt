@@ -1,9 +1,9 @@
-//! One call for each step of a delete's ticket.
+//! One call for each step of a delete: the one that asks for it, and those of its ticket.
 ghost use Rattle.std.specs.Prelude.{◌≡◌, ◌+◌, ◌<◌, ◌^◌, map, true, false, length, IsTrue, IfOk, IfSome, OnOk, OnErr};
 ghost use Rattle.esr_model.specs.Values.{Bytes, Has};
 ghost use Rattle.esr_model.specs.Delete.{deleted_root};
 ghost use Rattle.esr_core.specs.Pruning.{planned};
-ghost use Rattle.esr_core.specs.Entry.{PruneStep, FetchShard, PlanShards, SettlePruned, RemoveDoomed, EndDelete, DeleteFails, DrawnFrom, WasSettled, WasRemoved, HasEnded};
+ghost use Rattle.esr_core.specs.Entry.{DeleteSnapshots, AskStep, PruneStep, FetchShard, PlanShards, SettlePruned, RemoveDoomed, EndDelete, DeleteFails, Accepted, DrawnFrom, WasSettled, WasRemoved, HasEnded};
 ghost use Rattle.esr_names.specs.Layout.{IsName};
 ghost use Rattle.esr_formats.specs.Ids.{number_of};
 ghost use Rattle.esr_formats.specs.Names.{name_of};
@@ -21,7 +21,7 @@ ghost use Rattle.esr_deleting.specs.Shown.{IsDeleteShown};
 
 use esr_depot::Fetch;
 use esr_desk::{By, Desk, StepRefusal, Why};
-use esr_names::{BlobName, Id, Ids};
+use esr_names::{BlobName, Id, Ids, SnapNames};
 use esr_results::PrunedShards;
 use esr_root::RootData;
 use esr_seq::Seq;
@@ -34,9 +34,13 @@ pub struct Planned {
     pub root: RootData,
 }
 
-/// The steps of a delete's ticket. What it begins, commits and raises are steps of `Desk`. Each adds one entry to the history, or
+/// The steps of a delete. What its ticket begins, commits and raises are steps of `Desk`. Each adds one entry to the history, or
 /// none where it answers `Memory` or `TurnsSpent`; nothing else of the caller's own changes then.
 pub trait DeleteDesk: Desk {
+    /// Asks for a delete of the snapshots of these names, each once. It is the op that is answered, or goes into that one.
+    fn delete(&mut self, alloc: Global, names: &SnapNames) -> Result<u64, StepRefusal>
+        ensures step { Outcome Self.start (Self.seen self.old) (Self.seen self.new) 0 (AskStep (DeleteSnapshots names.now)) (λ op. Accepted op) result };
+
     /// The index of a shard that loses a snapshot, to be read from its first byte, or `None` where there is none.
     fn fetch_shard(
         &mut self,

@@ -15,8 +15,9 @@ use Rattle.esr_core.specs.Turns.{plain_ticket}
 use Rattle.esr_core.specs.Entry.{Asked, Snapshot, Clone, DeleteSnapshots, Restore, Cleanup, Given, GivenShard, GivenFinalize, GivenDrop, GivenRestore, Read, ReadBlob, RestoredShard, CheckedAll, DrawTest, CommitTest, ReadFails, Step, AskStep, TakeStep, DrawStep, BeginStep, CommitStep, LatestStep, FetchStep, RaiseStep, SettleStep, DoneStep, FailedStep, FinishStep, DroppedStep, ElectStep, ReadStep, DepotFault, DeposedAt, Reply, Gave, DrawnFrom, WasDone, WasThere, WasFetched, HasEnded, Refused, AcceptedRestore, Moment, GivenDelete, Prune, PruneStep}
 use Rattle.esr_core.specs.After.{asked, taken_shard, taken_restore_shard, taken_restore, taken_by, read_told, shard_over, read_over, read_step, read_by, test_left, shard_of, with_given, committing, told_blob, fetching, settled_by, settled_of, done_by, done_of, is_stale, failed_by, failed_of, dropped_of, done_step, has_text, fallen, is_latest, faulted, answered, after}
 use Rattle.esr_core.specs.Allowed as allowed
-use Rattle.esr_core.specs.Allowed.{Fetcher, ByReader, ByCheck, ByVerify, RestoreAllows, OpeningRestore, ReadAllows, ReadFound, ReadMissing, ReadFault, RestoringShard, ReaderFailing, CheckingAll, CheckFailing, VerifyAllows, DrawingTest, PruneAllows, Allows, Allowed}
+use Rattle.esr_core.specs.Allowed.{Fetcher, ByReader, ByCheck, ByVerify, DeleteAllows, RestoreAllows, OpeningRestore, ReadAllows, ReadFound, ReadMissing, ReadFault, RestoringShard, ReaderFailing, CheckingAll, CheckFailing, VerifyAllows, DrawingTest, PruneAllows, Allows, Allowed}
 use Rattle.esr_core.specs.History.{world_from, IsLegal}
+use Rattle.esr_core.proofs.AskedDeletes.{delete_leaves}
 use Rattle.esr_core.proofs.PruneFrames.{PruneStays, prune_stays, prune_fault_stays}
 use Rattle.esr_desk.specs.Start.{Start, formats_of, world_of, Legal}
 use Rattle.esr_desk.specs.Once.{WasMade, HasMadeNone}
@@ -76,6 +77,7 @@ module _ (least : ℕ) where
 
   numbered_asked : (w : World) (command : Asked) → Numbered least w → Numbered least (asked w command)
   numbered_asked w (Snapshot name indices moment) n = record { next = n.next; tickets = n.tickets; readers = n.readers }
+  numbered_asked w (DeleteSnapshots names) n = subst (Numbered least) (sym (delete_leaves w names)) (record { next = n.next; tickets = n.tickets; readers = n.readers })
   numbered_asked w command n = n
 
   numbered_shard : (w : World) (o : ℕ) (op : Op) (base : Option ℕ) (s : Option ShardWork) → Numbered least w → Numbered least (taken_shard w o op base s)
@@ -180,6 +182,7 @@ module _ (least : ℕ) where
 
   numbered_step : (f : Formats) (w : World) (k : ℕ) (step : Step) (reply : Reply) (image : Option Image) → Numbered least w → Numbered least (done_step f w k step reply image)
   numbered_step f w k (AskStep (Snapshot name indices moment)) reply image n = numbered_asked w (Snapshot name indices moment) n
+  numbered_step f w k (AskStep (DeleteSnapshots names)) reply image n = numbered_asked w (DeleteSnapshots names) n
   numbered_step f w k (AskStep (Restore name place)) (AcceptedRestore o uuid indices) image n = record { next = n.next; tickets = n.tickets; readers = n.readers }
   numbered_step f w k TakeStep (Gave ticket op unit) image n = numbered_taken f w op unit (fin.get w.ops op) n
   numbered_step f w k (DrawStep count) reply image n =
@@ -224,7 +227,7 @@ module _ (least : ℕ) where
   numbered_fault f w k (PruneStep prune) image n = numbered_prune w _ k (prune_fault_stays f w k prune image) n
   numbered_fault f w k (AskStep (Snapshot name indices moment)) image n = numbered_fallen f w _ image n (numbered_step f w k (AskStep (Snapshot name indices moment)) HasEnded image n)
   numbered_fault f w k (AskStep (Clone source name indices moment)) image n = numbered_fallen f w w image n n
-  numbered_fault f w k (AskStep (DeleteSnapshots names)) image n = numbered_fallen f w w image n n
+  numbered_fault f w k (AskStep (DeleteSnapshots names)) image n = numbered_fallen f w (asked w (DeleteSnapshots names)) image n (numbered_step f w k (AskStep (DeleteSnapshots names)) HasEnded image n)
   numbered_fault f w k (AskStep (Restore name place)) image n = n
   numbered_fault f w k (AskStep Cleanup) image n = numbered_fallen f w w image n n
   numbered_fault f w k RaiseStep image n = numbered_fallen f w _ image n (numbered_step f w k RaiseStep HasEnded image n)
@@ -299,6 +302,7 @@ below f size w who step reply image n (allowed.Dropping k im c same) = n.tickets
 below f size w who step reply image n (allowed.Electing im room same) = n.next
 below f size w who step reply image n (allowed.Looking im same) = n.next
 below f size w who step reply image n (allowed.AskingRestore name place rep im h same) = n.next
+below f size w who step reply image n (allowed.AskingDelete names rep im h same) = n.next
 below f size w who step reply image n (allowed.Reading k read rep im h same) = reader_below f w k read rep im n h
 below f size w who step reply image n (allowed.Verifying read rep im h) = n.next
 below f size w who step reply image n (allowed.Pruning k prune rep im h) = prune_below f w k prune rep im n h
@@ -350,6 +354,10 @@ gift_restore : (f : Formats) (w : World) (name : Bytes) (reply : Reply) (image :
 gift_restore f w name reply image (OpeningRestore o uuid indices im h) = tt
 gift_restore f w name reply image a = tt
 
+gift_delete : (w : World) (names : List Bytes) (reply : Reply) → DeleteAllows w names reply → IsGift w 0 reply
+gift_delete w names reply (allowed.GoingInto acc) = tt
+gift_delete w names reply a = tt
+
 gift_read : (f : Formats) (w : World) (who : ℕ) (read : Read) (reply : Reply) (image : Option Image) → ReadAllows f w who read reply image → IsGift w who reply
 gift_read f w who read reply image (ReadFound k name im stored by found) = tt
 gift_read f w who read reply image a = tt
@@ -365,6 +373,7 @@ gift_prune f w who prune reply image a = tt
 gift : (f : Formats) (size : ℕ) (w : World) (who : ℕ) (step : Step) (reply : Reply) (image : Option Image) → Allows f size w who step reply image → IsGift w who reply
 gift f size w who step reply image (allowed.Giving k o unit im is lowest g same) = (refl, is)
 gift f size w who step reply image (allowed.AskingRestore name place rep im a same) = gift_restore f w name rep im a
+gift f size w who step reply image (allowed.AskingDelete names rep im a same) = gift_delete w names rep a
 gift f size w who step reply image (allowed.Reading k read rep im a same) = gift_read f w k read rep im a
 gift f size w who step reply image (allowed.Verifying read rep im a) = gift_verify f w read rep im a
 gift f size w who step reply image (allowed.Pruning k prune rep im a) = gift_prune f w k prune rep im a

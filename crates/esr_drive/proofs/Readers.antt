@@ -12,6 +12,7 @@ use Rattle.esr_core.specs.Restores.{restore_shard}
 use Rattle.esr_core.specs.Steps.{noting}
 use Rattle.esr_core.specs.Entry.{Asked, Snapshot, Clone, DeleteSnapshots, Restore, Cleanup, Given, GivenShard, GivenFinalize, GivenDrop, GivenRestore, Read, ReadBlob, RestoredShard, CheckedAll, DrawTest, CommitTest, ReadFails, Step, AskStep, TakeStep, DrawStep, BeginStep, CommitStep, LatestStep, FetchStep, RaiseStep, SettleStep, DoneStep, FailedStep, FinishStep, DroppedStep, ElectStep, ReadStep, DepotFault, Reply, Gave, DrawnFrom, WasDone, WasThere, WasFetched, HasEnded, Refusal, Refused, AcceptedRestore, Moment, PruneStep}
 use Rattle.esr_core.specs.After.{asked, taken_shard, taken_restore_shard, taken_restore, taken_by, read_told, shard_over, read_over, read_step, read_by, test_left, shard_of, with_given, committing, told_blob, fetching, settled_by, settled_of, done_by, done_of, is_stale, failed_by, failed_of, dropped_of, done_step, has_text, fallen, is_latest, faulted, answered, after}
+use Rattle.esr_core.proofs.AskedDeletes.{delete_leaves}
 use Rattle.esr_core.proofs.PruneFrames.{prune_stays, prune_fault_stays}
 use Rattle.esr_core.proofs.Queues.{other_in}
 
@@ -29,6 +30,7 @@ same_change w k g (Some t) = refl
 
 same_asked : (w : World) (command : Asked) → (asked w command).readers ≡ w.readers
 same_asked w (Snapshot name indices moment) = refl
+same_asked w (DeleteSnapshots names) = ap (λ (x : World). x.readers) (delete_leaves w names)
 same_asked w command = refl
 
 same_settled_by : (f : Formats) (w : World) (k : ℕ) (t : Ticket) (s : Option Swap) (n : Option ℕ) → (settled_by f w k t s n).readers ≡ w.readers
@@ -72,6 +74,7 @@ IsOther step reply = Unit {0}
 
 pub same_step : (f : Formats) (w : World) (k : ℕ) (step : Step) (reply : Reply) (image : Option Image) → IsOther step reply → (done_step f w k step reply image).readers ≡ w.readers
 same_step f w k (AskStep (Snapshot name indices moment)) reply image other = same_asked w (Snapshot name indices moment)
+same_step f w k (AskStep (DeleteSnapshots names)) reply image other = same_asked w (DeleteSnapshots names)
 same_step f w k (AskStep (Restore name place)) (AcceptedRestore o uuid indices) image other = refl
 same_step f w k TakeStep (Gave ticket op unit) image other = absurd other
 same_step f w k (DrawStep n) reply image other = same_change w k (λ t. record t { first = w.next_id; drawn = n }) (fin.get w.tickets k)
@@ -109,7 +112,7 @@ same_fault f w k (BeginStep name) image = same_either w.readers _ w (is_latest n
 same_fault f w k (ReadStep (CommitTest name)) image = same_left w name (fin.get w.blobs (f.names.text name)) (told_blob f image name)
 same_fault f w k (AskStep (Snapshot name indices moment)) image = same_fallen f w _ image (same_step f w k (AskStep (Snapshot name indices moment)) HasEnded image tt)
 same_fault f w k (AskStep (Clone source name indices moment)) image = same_fallen f w w image refl
-same_fault f w k (AskStep (DeleteSnapshots names)) image = same_fallen f w w image refl
+same_fault f w k (AskStep (DeleteSnapshots names)) image = same_fallen f w (asked w (DeleteSnapshots names)) image (same_step f w k (AskStep (DeleteSnapshots names)) HasEnded image tt)
 same_fault f w k (AskStep (Restore name place)) image = refl
 same_fault f w k (AskStep Cleanup) image = same_fallen f w w image refl
 same_fault f w k RaiseStep image = same_fallen f w _ image (same_step f w k RaiseStep HasEnded image tt)

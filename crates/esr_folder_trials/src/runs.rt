@@ -17,8 +17,9 @@ use std::test::Fail;
 /// The folder.
 const DIR: &str = "esr_folder_killed";
 
-/// Two snapshots of one shard, which are open at once, and a verification.
-const SCRIPT: &str = "snapshot s1 logs/1/src\nsnapshot s2 logs/1/src\nwait\nverify\n";
+/// Two snapshots of one shard, which are open at once, a delete of the first, and a verification.
+const SCRIPT: &str =
+    "snapshot s1 logs/1/src\nsnapshot s2 logs/1/src\nwait\ndelete s1\nwait\nverify\n";
 
 /// More calls than a run of the script makes.
 const CALLS: u64 = 1000;
@@ -65,12 +66,24 @@ fn made_of(line: &str) -> Option<(&str, &str)> {
     told.split_once(" ok ")
 }
 
+/// The same, unless the snapshot has this name.
+fn listed_of<'a>(line: &'a str, gone: &str) -> Option<(&'a str, &'a str)> {
+    let made = made_of(line)?;
+    if made.0 == gone { None } else { Some(made) }
+}
+
+/// Whether a report tells that `s1` was deleted.
+fn is_deleted(report: &str) -> bool {
+    report.contains(" delete ok op ")
+}
+
 /// What a `list` is to print after a run with that report.
 fn listing_of(alloc: Global, report: &str) -> Result<String, AllocError> {
+    let gone = if is_deleted(report) { "s1" } else { "" };
     let mut text = String::new(alloc);
     let mut count = 0u64;
     for line in report.lines() {
-        if let Some((name, uuid)) = made_of(line) {
+        if let Some((name, uuid)) = listed_of(line, gone) {
             text.push_str(format!(in alloc; "- {name} {uuid} success\n")?.as_str())?;
             count = count.saturating_add(1);
         }
@@ -122,13 +135,14 @@ fn a_run_that_is_killed_keeps_what_it_told(rt: HostRuntime) -> Result<(), Fail> 
             "{calls}: {listing}"
         );
         if faults == 0 {
-            assert_eq!(rt; listing.lines().count(), 3);
+            // The second snapshot alone is listed.
+            assert_eq!(rt; listing.lines().count(), 2);
             break;
         }
         most = calls;
     }
-    // Each of the two snapshots takes more than ten calls.
-    assert!(rt; 20 < most && most < 999, "{most}");
+    // Each of the two snapshots, and the delete, takes more than ten calls.
+    assert!(rt; 30 < most && most < 999, "{most}");
     Ok(())
 }
 

@@ -1,11 +1,15 @@
 -- What stays known of a list of open ops.
-use Rattle.std.proofs.Common.{◌≡◌, ℕ, suc, ◌+◌, ◌≤◌, Bool, true, false, cond, eqb, List, [], ◌∷◌, Option, Some, None, refl, sym, ap, ◌∙◌, subst, arith, nat_cmp}
+use Rattle.std.proofs.Common.{◌≡◌, ℕ, suc, ◌+◌, ◌^◌, ◌<◌, ◌≤◌, Bool, true, false, true≢false, cond, eqb, ltb, List, [], ◌∷◌, Option, Some, None, refl, sym, ap, ◌∙◌, subst, inl, inr, arith, nat_cmp}
+use Rattle.std.proofs.lemmas.Bool.{cases_lt}
+use Rattle.std.proofs.lemmas.Bool.Decides.{Decides-ltb}
+use Rattle.std.specs.Prelude.{Ok}
 use Rattle.std.specs.FinMap as fin
-use Rattle.esr_model.specs.Values.{Formats, RootData}
+use Rattle.esr_model.specs.Values.{Bytes, Formats, RootData}
 use Rattle.esr_core.specs.World.{World, Op, Deletion, ShardWork, RestoreShard, Restoring, Ticket, numbered_deletes, no_root}
 use Rattle.esr_core.specs.Allowed.{NoCleanup}
 use Rattle.esr_core.specs.Entry.{Given, GivenShard, GivenFinalize, GivenDrop, GivenRestore, GivenClone, GivenDelete, GivenCleanup}
-use Rattle.esr_core.specs.After.{shard_of, taken_by, taken_shard, taken_restore_shard, taken_restore, is_stale, dropped_of, delete_failed_by, delete_failed}
+use Rattle.esr_core.specs.After.{shard_of, taken_by, taken_shard, taken_restore_shard, taken_restore, with_given, change, is_stale, dropped_of, delete_failed_by, delete_failed}
+use Rattle.esr_core.specs.Deletes.{with_named, named_uuids, waiting_delete, running_delete, delete_merged, delete_by, asked_delete}
 use Rattle.esr_core.specs.Restores.{restore_shard}
 use Rattle.esr_core.specs.Steps.{with_ticket}
 use Rattle.esr_formats.specs.Formats.{formats}
@@ -14,7 +18,7 @@ use Rattle.esr_progress.specs.declared.command.Command.{Command}
 use Rattle.esr_progress.specs.declared.command.Command.TheVariants as commands
 use Rattle.esr_progress.specs.declared.unit.ReadyUnit.{ReadyUnit}
 use Rattle.esr_progress.specs.Asked.{asked_of, IsAskable}
-use Rattle.esr_progress.specs.Accepting.{IsAccepted}
+use Rattle.esr_progress.specs.Accepting.{IsAccepted, AcceptingDelete}
 use Rattle.esr_progress.specs.Deletes.{kept_delete, kept_plan}
 use Rattle.esr_progress.specs.Plan.{Plan, RestorePlan, IsPlanOf, IsAskedIn, IsGivenIn}
 use Rattle.esr_progress.specs.Units.{given_of, NextUnit}
@@ -22,6 +26,10 @@ use Rattle.esr_progress.proofs.Lists.{none_some, some_same}
 use Rattle.esr_progress.proofs.Entries.{get_put, get_left}
 use Rattle.esr_list_trials.specs.Known.{IsKnown, IsNext}
 use Rattle.esr_list_trials.proofs.Worlds.{world_with, asked_in}
+
+-- a list that isn't long has room
+pub few_ops : (n : ℕ) → ltb 5000 n ≡ false → n < 2 ^ 62
+few_ops n e = elim (cases_lt 5000 n) [ inl lt ↦ absurd (true≢false (sym ((Decides-ltb 5000 n).1 lt) ∙ e)) | inr le ↦ omega (arith, le) ]
 
 -- ---- the deletes that opening keeps
 
@@ -121,9 +129,26 @@ fails w k (Some t) = either (is_stale w t t.work) (fin.get w.deletes t.op) refl
     either false None e = stays w
     either false (Some x) e = record { clean = λ h. put_clean w.deletes t.op (record x { failed = true }) (h t.op x e) h; term_is = refl; safe_is = refl; root_is = refl; few = omega arith }
 
+ends : (w : World) (k : ℕ) (o : Option Ticket) → Follows w (with_given w k (λ t. record t { out = false }) o)
+ends w k None = stays w
+ends w k (Some t) = record { clean = λ h. h; term_is = refl; safe_is = refl; root_is = refl; few = omega arith }
+
 drops : (w : World) (k : ℕ) (o : Option Ticket) → Follows w (dropped_of w k o)
 drops w k None = stays w
 drops w k (Some t) = record { clean = λ h. left_clean w.deletes t.op h; term_is = refl; safe_is = refl; root_is = refl; few = omega arith }
+
+grows : (w : World) (names : List Bytes) (d : ℕ) (o : Option Deletion) → fin.get w.deletes d ≡ o → Follows w (delete_merged w names d o)
+grows w names d None e = stays w
+grows w names d (Some x) e = record { clean = λ h. put_clean w.deletes d (record x { uuids = with_named w x.uuids names }) (h d x e) h; term_is = refl; safe_is = refl; root_is = refl; few = omega arith }
+
+asks : (w : World) (names : List Bytes) (waiting running : Option ℕ) → Follows w (delete_by w names waiting running)
+asks w names (Some d) running = grows w names d (fin.get w.deletes d) refl
+asks w names None (Some d) = stays w
+asks w names None None = record { clean = λ h. put_clean w.deletes w.next_op (kept_delete (named_uuids w names)) refl h; term_is = refl; safe_is = refl; root_is = refl; few = omega arith }
+
+-- the list doesn't tell of the root
+rooted : (w : World) (p : Plan) (root : RootData) → IsPlanOf w p → IsPlanOf (record w { root = root }) p
+rooted w p root is = record { ops = is.ops; deletes = is.deletes; completed = is.completed; seats = is.seats; next_op = is.next_op; next_ticket = is.next_ticket; restores = is.restores; restore_count = is.restore_count; readers = is.readers }
 
 -- the list of a world that follows one that is known
 next_of : (p new : Plan) (known : IsKnown p) (v : World) → Follows known.w v → IsPlanOf v new → IsNext p new
@@ -156,3 +181,15 @@ module _ (p : Plan) (known : IsKnown p) where
 
     pub dropped : (k : ℕ) → ((w : World) → IsPlanOf w p → IsPlanOf (dropped_of w k (fin.get w.tickets k)) new) → IsNext p new
     dropped k h = next_of p new known _ (drops known.w k (fin.get known.w.tickets k)) (h known.w known.plan)
+
+    pub ended : (k : ℕ) → ((w : World) → IsPlanOf w p → IsPlanOf (change w k (λ t. record t { out = false })) new) → IsNext p new
+    ended k h = next_of p new known _ (ends known.w k (fin.get known.w.tickets k)) (h known.w known.plan)
+
+    -- with any root
+    pub asked : (root : RootData) (names : List Bytes) (op : ℕ) → ((w : World) → IsPlanOf w p → w.root ≡ root → w.term ≡ 1 → AcceptingDelete w names (Ok (new, op))) → IsNext p new
+    asked root names op h =
+        let w : World = record known.w { root = root } in
+        let v : World = asked_delete w names in
+        let follows = asks w names (waiting_delete w) (running_delete w (named_uuids w names)) in
+        let made = h w (rooted known.w p root known.plan) refl known.term_is in
+        next_of p new known (record v { root = known.w.root }) (record { clean = follows.clean; term_is = follows.term_is; safe_is = follows.safe_is; root_is = refl; few = follows.few }) (rooted v new known.w.root made.2)

@@ -2,6 +2,10 @@
 #![tactic(auto)]
 
 #[cfg(test)]
+mod aborted;
+#[cfg(test)]
+mod asked_deletes;
+#[cfg(test)]
 mod deletes;
 #[cfg(test)]
 mod held;

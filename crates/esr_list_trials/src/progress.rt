@@ -27,14 +27,14 @@ pub(crate) fn logs_command(alloc: Global, name: &str) -> Result<Command, Fail>
     })
 }
 
-/// What so many commands on an empty list are answered in term 1, whose ids are drawn from this counter on, up to the first
-/// that is refused: the last that was accepted, and the refusal. The root is empty.
-fn answers(
+/// What so many commands on an empty list make of it and are answered in term 1, whose ids are drawn from this counter on, up
+/// to the first that is refused: the last that was accepted, and the refusal. The root is empty.
+pub(crate) fn answers(
     alloc: Global,
     root: &RootData,
     counter: u64,
     count: u32,
-) -> Result<(Option<Accepted>, Option<Refusal>), Fail>
+) -> Result<(Progress, Option<Accepted>, Option<Refusal>), Fail>
     requires { root.now ≡ empty_root }
 {
     let first = Id::new(1, counter);
@@ -52,10 +52,10 @@ fn answers(
                 };
                 last = Some(accepted);
             }
-            Err(refusal) => return Ok((last, Some(refusal))),
+            Err(refusal) => return Ok((list, last, Some(refusal))),
         }
     }
-    Ok((last, None))
+    Ok((list, last, None))
 }
 
 /// The counter of the first id; how many commands there are; the last that is accepted; and the refusal.
@@ -87,8 +87,11 @@ const ANSWERS: [(u64, u32, Option<Accepted>, Option<Refusal>); 4] = [
 fn commands_are_accepted_and_refused(rt: HostRuntime) -> Result<(), Fail> {
     let root = RootData::new(rt.alloc());
     for (counter, count, accepted, refusal) in &ANSWERS {
-        let found = answers(rt.alloc(), &root, *counter, *count)?;
-        assert!(rt; found == (*accepted, *refusal), "{count} from {counter}");
+        let (_list, last, found) = answers(rt.alloc(), &root, *counter, *count)?;
+        assert!(rt;
+            (last, found) == (*accepted, *refusal),
+            "{count} from {counter}"
+        );
     }
     Ok(())
 }
@@ -98,6 +101,6 @@ fn a_name_that_is_not_listed_is_not_restored(rt: HostRuntime) -> Result<(), Fail
     let name = SnapName::new(rt.alloc(), "s1")?;
     let root = RootData::new(rt.alloc());
     let list = Progress::new(rt.alloc());
-    assert!(rt; list.restorable(&root, &name) == Err(Refusal::NoSnapshot));
+    assert!(rt; list.restorable(&root, &name) == Err(Refusal::NoSnapshot { place: 0 }));
     Ok(())
 }

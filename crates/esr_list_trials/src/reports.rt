@@ -753,7 +753,7 @@ fn history_of(alloc: Global, pieces: &[&[Told]]) -> Result<History, Fail> {
 }
 
 /// How many lines are answered, the report, and the exit status.
-fn reported(
+pub fn reported(
     alloc: Global,
     script: &Script,
     history: &History,

@@ -16,7 +16,7 @@ const FIRST: &str =
     "{\"indices\":{\"logs\":{\"id\":\"AAAAAAAAAAEAAAAAAAAAAQ\",\"shard_generations\":[\"AAAAAAAAAAEAAAAAAAAAAw\"],\"snapshots\":[\"AAAAAAAAAAEAAAAAAAAAAA\"]}},\"snapshots\":[{\"name\":\"s1\",\"state\":1,\"uuid\":\"AAAAAAAAAAEAAAAAAAAAAA\"}]}";
 
 /// The root after a snapshot `s2` of it more, whose shard was done at a smaller generation.
-const SECOND: &str =
+pub(crate) const SECOND: &str =
     "{\"indices\":{\"logs\":{\"id\":\"AAAAAAAAAAEAAAAAAAAAAQ\",\"shard_generations\":[\"AAAAAAAAAAEAAAAAAAAAAw\"],\"snapshots\":[\"AAAAAAAAAAEAAAAAAAAAAA\",\"AAAAAAAAAAEAAAAAAAAABA\"]}},\"snapshots\":[{\"name\":\"s1\",\"state\":1,\"uuid\":\"AAAAAAAAAAEAAAAAAAAAAA\"},{\"name\":\"s2\",\"state\":1,\"uuid\":\"AAAAAAAAAAEAAAAAAAAABA\"}]}";
 
 /// The index `logs` of one shard.

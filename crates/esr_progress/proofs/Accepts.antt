@@ -54,10 +54,10 @@ module _ (ops : List (ℕ × Op)) (deletes : List (ℕ × Deletion)) (p : Plan) 
 
   -- ---- look-ups
 
-  op_there : (e : ℕ × Op) → Has ops e → fin.get w.ops e.0 ≡ Some e.1
+  pub op_there : (e : ℕ × Op) → Has ops e → fin.get w.ops e.0 ≡ Some e.1
   op_there e m = ap (λ (z : FinMap nat_cmp Op). fin.get z e.0) ops_in ∙ get_from ops e.0 ∙ found_member ops h.ops_rise e m
 
-  op_listed : (o : ℕ) (op : Op) → fin.get w.ops o ≡ Some op → Has ops (o, op)
+  pub op_listed : (o : ℕ) (op : Op) → fin.get w.ops o ≡ Some op → Has ops (o, op)
   op_listed o op e = find-member o ops op (sym (get_from ops o) ∙ ap (λ (z : FinMap nat_cmp Op). fin.get z o) (sym ops_in) ∙ e)
 
   delete_there : (e : ℕ × Deletion) → Has deletes e → fin.get w.deletes e.0 ≡ Some e.1
@@ -69,18 +69,18 @@ module _ (ops : List (ℕ × Op)) (deletes : List (ℕ × Deletion)) (p : Plan) 
   pub knows : (name : Bytes) → known_id w name ≡ known_in root ops name
   knows name = λ j. known_in (is.root_is j) ((ap fin.entries ops_in ∙ entries_from ops h.ops_rise) j) name
 
-  count : open_count w ≡ length ops + length deletes
+  pub count : open_count w ≡ length ops + length deletes
   count = λ j. (ap fin.len ops_in ∙ len_from ops h.ops_rise) j + (ap fin.len deletes_in ∙ len_from deletes h.deletes_rise) j
 
-  cleanup_there : (d : ℕ) → open_cleanup deletes ≡ Some d → (x : Deletion) × (fin.get w.deletes d ≡ Some x) × (x.clean ≡ true)
+  pub cleanup_there : (d : ℕ) → open_cleanup deletes ≡ Some d → (x : Deletion) × (fin.get w.deletes d ≡ Some x) × (x.clean ≡ true)
   cleanup_there d e =
       let r = found open_cleanup (λ (y : ℕ × Deletion). y.1.clean) (λ (y : ℕ × Deletion). y.0) refl (λ x xs. refl) deletes d e in
       (r.x.1, ap (fin.get w.deletes) (sym r.value) ∙ delete_there r.x r.there, r.hit)
 
-  no_cleanup : open_cleanup deletes ≡ None → NoCleanup w
+  pub no_cleanup : open_cleanup deletes ≡ None → NoCleanup w
   no_cleanup e d x got = missed open_cleanup (λ (y : ℕ × Deletion). y.1.clean) (λ (y : ℕ × Deletion). y.0) refl (λ x xs. refl) deletes (d, x) e (delete_listed d x got)
 
-  user_there : (name : Bytes) (uuid : ℕ) → (snap_uuid root.snapshots name ≡ Some uuid) ⊎ (op_uuid ops name ≡ Some uuid) → IsNameOf w name uuid
+  pub user_there : (name : Bytes) (uuid : ℕ) → (snap_uuid root.snapshots name ≡ Some uuid) ⊎ (op_uuid ops name ≡ Some uuid) → IsNameOf w name uuid
   user_there name uuid (inl e) =
       let r = found (λ (xs : List RootSnap). snap_uuid xs name) (λ (s : RootSnap). same_bytes s.name name) (λ (s : RootSnap). s.uuid) refl (λ x xs. refl) root.snapshots uuid e in
       inl (r.x, subst (λ (z : RootData). Has z.snapshots r.x) (sym is.root_is) r.there, same_true r.x.name name r.hit, r.value)
@@ -88,7 +88,7 @@ module _ (ops : List (ℕ × Op)) (deletes : List (ℕ × Deletion)) (p : Plan) 
       let r = found (λ (xs : List (ℕ × Op)). op_uuid xs name) (λ (s : ℕ × Op). same_bytes s.1.name name) (λ (s : ℕ × Op). s.1.uuid) refl (λ x xs. refl) ops uuid e in
       inr (r.x.0, r.x.1, op_there r.x r.there, same_true r.x.1.name name r.hit, r.value)
 
-  unused : (name : Bytes) → name_user root ops name ≡ None → IsUnused w name
+  pub unused : (name : Bytes) → name_user root ops name ≡ None → IsUnused w name
   unused name e uuid (inl (s, there, name_is, uuid_is)) =
       let none = (neither (snap_uuid root.snapshots name) (op_uuid ops name) e).0 in
       same_false s.name name (missed (λ (xs : List RootSnap). snap_uuid xs name) (λ (x : RootSnap). same_bytes x.name name) (λ (x : RootSnap). x.uuid) refl (λ x xs. refl) root.snapshots s none (subst (λ (z : RootData). Has z.snapshots s) is.root_is there)) name_is

@@ -26,3 +26,7 @@ pub mod Restorables
 pub mod Lowest
 pub mod NextDeletes
 pub mod Reopening
+pub mod NamedUuids
+pub mod DeleteTickets
+pub mod DeletePlans
+pub mod DeleteRules

@@ -96,7 +96,7 @@ coded : (o : Option Slot) (s : Seat) → told_in seat_in o ≡ Some s → (c : S
 coded None s e = absurd (none_some s e)
 coded (Some c) s e = (c, refl, e)
 
-held : (p : Seat → Bool) (o : Option Seat) → holds p o ≡ true → (s : Seat) × (o ≡ Some s) × (p s ≡ true)
+pub held : (p : Seat → Bool) (o : Option Seat) → holds p o ≡ true → (s : Seat) × (o ≡ Some s) × (p s ≡ true)
 held p None e = absurd (true≢false (sym e))
 held p (Some s) e = (s, refl, e)
 
@@ -163,12 +163,12 @@ module _ (ops : List (ℕ × Op)) (deletes : List (ℕ × Deletion)) (completed 
   seat_is : (k : ℕ) → fin.get now.seats k ≡ told_in seat_in (seat_at seats k)
   seat_is k = ap (λ (p : Plan). fin.get p.seats k) (sym view) ∙ get-seats seats k
 
-  seat_by : (k : ℕ) (t : Ticket) → fin.get w.tickets k ≡ Some t → (c : Slot) × Has seats c × (seat_in c ≡ Some (seat_of t))
+  pub seat_by : (k : ℕ) (t : Ticket) → fin.get w.tickets k ≡ Some t → (c : Slot) × Has seats c × (seat_in c ≡ Some (seat_of t))
   seat_by k t e =
       let (c, at, same) = coded (seat_at seats k) (seat_of t) (sym (seat_is k) ∙ is.plan.seats k ∙ ap (option_map seat_of) e) in
       (c, seat_member seats k c at, same)
 
-  by_seat : (c : Slot) (s : Seat) → seat_in c ≡ Some s → Has seats c → (k : ℕ) × ((t : Ticket) × (fin.get w.tickets k ≡ Some t) × (seat_of t ≡ s))
+  pub by_seat : (c : Slot) (s : Seat) → seat_in c ≡ Some s → Has seats c → (k : ℕ) × ((t : Ticket) × (fin.get w.tickets k ≡ Some t) × (seat_of t ≡ s))
   by_seat c s e m = let (k, at) = place_of seats c m in (suc k, ticket_of w now is.plan (suc k) s (seat_is (suc k) ∙ ap (told_in seat_in) at ∙ e))
 
   pub none_out : (o : ℕ) → is_out_of seats term o ≡ false → (k : ℕ) → UnitIsOut w.tickets w.term o k → ⊥

@@ -1,5 +1,5 @@
 -- What accepting a command answers.
-use Rattle.std.specs.Prelude.{◌≡◌, ℕ, Bool, List, [], suc, ◌+◌, ◌<◌, ◌≤◌, true, Some, Result, Ok, Err}
+use Rattle.std.specs.Prelude.{◌≡◌, ℕ, Bool, List, [], suc, ◌+◌, ◌<◌, ◌≤◌, true, Option, Some, None, Result, Ok, Err}
 use Rattle.std.specs.FinMap as fin
 use Rattle.esr_model.specs.Values.{Bytes, RootData}
 use Rattle.esr_model.specs.Kept.{first_id}
@@ -8,7 +8,8 @@ use Rattle.esr_core.specs.Entry.{AskedIndex, Asked, Snapshot, Clone, DeleteSnaps
 use Rattle.esr_core.specs.After.{asked, asked_op, new_names}
 use Rattle.esr_core.specs.Generations.{OpTexts}
 use Rattle.esr_formats.specs.Formats.{formats}
-use Rattle.esr_core.specs.Allowed.{NoCleanup, IsNameOf, IsUnused, open_count, IsListed, IsSpared, IsBeingDeleted}
+use Rattle.esr_core.specs.Allowed.{NoCleanup, IsNameOf, IsUnused, open_count, IsListed, IsSpared, IsBeingDeleted, AreNamed, IsFirstUnused, Copies, ReadsOne, IsLowest, MayDelete, IsNewDelete, AcceptsDelete}
+use Rattle.esr_core.specs.Deletes.{named_uuids, delete_number, asked_delete}
 use Rattle.esr_names.specs.declared.ids.Id.{Id}
 use Rattle.esr_progress.specs.declared.refusal.Refusal.{Refusal}
 use Rattle.esr_progress.specs.declared.refusal.Refusal.TheVariants as refusals
@@ -46,8 +47,10 @@ IsRefused w name command refusals.Memory = Unit {0}
 IsRefused w name command (refusals.CleanupRunning op) = (x : Deletion) × (fin.get w.deletes op ≡ Some x) × (x.clean ≡ true)
 IsRefused w name command (refusals.NameInUse uuid) = NoCleanup w × IsNameOf w name uuid.number
 IsRefused w name command (refusals.TooMany limit) = (limit ≡ 1000) × NoCleanup w × IsUnused w name × (1000 ≤ open_count w)
-IsRefused w name command refusals.NoSnapshot = ⊥
+IsRefused w name command (refusals.NoSnapshot place) = ⊥
 IsRefused w name command (refusals.BeingDeleted op) = ⊥
+IsRefused w name command (refusals.CloneRunning op) = ⊥
+IsRefused w name command (refusals.RestoreRunning op) = ⊥
 IsRefused w name command (refusals.IdsSpent next) = (next.number ≡ w.next_id) × MayAccept w name × (first_id (suc w.term) ≤ w.next_id + drawn_by w command)
 
 abbrev pub name_asked : Asked → Bytes
@@ -61,13 +64,15 @@ name_asked Cleanup = []
 
 -- the first rule that refuses a restore of this snapshot
 abbrev pub IsRestoreRefused : World → Bytes → Refusal → Type 0
-IsRestoreRefused w name refusals.NoSnapshot = (uuid : ℕ) → IsListed w name uuid → ⊥
+IsRestoreRefused w name (refusals.NoSnapshot place) = (place ≡ 0) × ((uuid : ℕ) → IsListed w name uuid → ⊥)
 IsRestoreRefused w name (refusals.BeingDeleted op) = (uuid : ℕ) × IsListed w name uuid × IsBeingDeleted w uuid op
 IsRestoreRefused w name (refusals.TooMany limit) = (limit ≡ 1000) × ((uuid : ℕ) × IsListed w name uuid × IsSpared w uuid × (1000 ≤ fin.len w.restores))
 IsRestoreRefused w name refusals.Memory = ⊥
 IsRestoreRefused w name (refusals.CleanupRunning op) = ⊥
 IsRestoreRefused w name (refusals.NameInUse uuid) = ⊥
 IsRestoreRefused w name (refusals.IdsSpent next) = ⊥
+IsRestoreRefused w name (refusals.CloneRunning op) = ⊥
+IsRestoreRefused w name (refusals.RestoreRunning op) = ⊥
 
 -- a snapshot of this name is listed that no open delete names, and a restore more may be open
 abbrev pub Restorable : World → Bytes → Result Id Refusal → Type 0
@@ -78,3 +83,27 @@ Restorable w name (Err refusal) = IsRestoreRefused w name refusal
 abbrev pub Accepting : World → Asked → Result (Plan × Accepted) Refusal → Type 0
 Accepting w command (Ok (new, accepted)) = MayAccept w (name_asked command) × IsAccepted w command new accepted
 Accepting w command (Err refusal) = IsRefused w (name_asked command) command refusal
+
+-- ---- a delete
+
+-- the first rule that refuses a delete of the snapshots of these names
+abbrev pub IsDeleteRefused : World → List Bytes → Refusal → Type 0
+IsDeleteRefused w names refusals.Memory = Unit {0}
+IsDeleteRefused w names (refusals.CleanupRunning op) = (x : Deletion) × (fin.get w.deletes op ≡ Some x) × (x.clean ≡ true)
+IsDeleteRefused w names (refusals.NoSnapshot place) = NoCleanup w × IsFirstUnused w names place
+IsDeleteRefused w names (refusals.CloneRunning op) = NoCleanup w × AreNamed w names × IsLowest (Copies w (named_uuids w names)) op
+IsDeleteRefused w names (refusals.RestoreRunning op) = NoCleanup w × AreNamed w names × ((o : ℕ) → Copies w (named_uuids w names) o → ⊥) × IsLowest (ReadsOne w (named_uuids w names)) op
+IsDeleteRefused w names (refusals.TooMany limit) = (limit ≡ 1000) × MayDelete w names × IsNewDelete w names × (1000 ≤ open_count w)
+IsDeleteRefused w names (refusals.NameInUse uuid) = ⊥
+IsDeleteRefused w names (refusals.BeingDeleted op) = ⊥
+IsDeleteRefused w names (refusals.IdsSpent next) = ⊥
+
+-- by the first rule on what it names that refuses it
+abbrev pub IsRuledOn : World → List Bytes → Option Refusal → Type 0
+IsRuledOn w names None = MayDelete w names
+IsRuledOn w names (Some refusal) = IsDeleteRefused w names refusal
+
+-- by the list of ops that is answered, and the op that the delete goes into
+abbrev pub AcceptingDelete : World → List Bytes → Result (Plan × ℕ) Refusal → Type 0
+AcceptingDelete w names (Ok (new, op)) = AcceptsDelete w names × (op ≡ delete_number w names) × IsPlanOf (asked_delete w names) new
+AcceptingDelete w names (Err refusal) = IsDeleteRefused w names refusal

@@ -21,8 +21,8 @@ asked_of commands.Cleanup = Cleanup
 abbrev pub HasShards : AskedIndex → Type 0
 HasShards a = (1 ≤ a.shards) × (a.shards ≤ 1024)
 
--- It asks for a snapshot; the names of its indices are distinct, and each has 1 to 1,024 shards. A restore is asked for by a
--- step of its own, and the other commands by none so far.
+-- It asks for a snapshot; the names of its indices are distinct, and each has 1 to 1,024 shards. A restore and a delete
+-- are asked for by steps of their own, and the other commands by none so far.
 abbrev pub IsAskable : Asked → Type 0
 IsAskable (Snapshot name indices moment) = AreDistinct indices × AllByRecursion HasShards indices
 IsAskable command = ⊥

@@ -13,3 +13,4 @@ pub mod Units
 pub mod Infos
 pub mod Changes
 pub mod Choice
+pub mod AskedDeletes

@@ -49,3 +49,11 @@ is_swap_out term s = ((s.out && not s.settled) && (s.term == term)) && is_master
 -- a unit of the op is out
 abbrev pub is_unit_out : ℕ → ℕ → Seat → Bool
 is_unit_out term o s = (s.out && (s.op == o)) && (is_of_shard s.kind || (s.term == term))
+
+-- a ticket of the term that is out has the op
+abbrev pub has_op : ℕ → ℕ → Seat → Bool
+has_op term o s = (s.out && (s.term == term)) && (s.op == o)
+
+-- a swap of the term that hasn't settled has the op
+abbrev pub swaps_op : ℕ → ℕ → Seat → Bool
+swaps_op term o s = (has_op term o s && not s.settled) && is_master s.kind

@@ -128,14 +128,22 @@ fn refusal(
     if let Some(uuid) = name_user(root, ops, name) {
         return Some(Refusal::NameInUse { uuid });
     }
-    if (ops.len() + deletes.len()) as u64 >= LIMIT {
+    if is_full(ops, deletes) {
         return Some(Refusal::TooMany { limit: LIMIT });
     }
     None
 }
 
+/// Whether as many ops and deletes are open as may be.
+pub(crate) fn is_full(ops: &[OpenOp], deletes: &[OpenDelete]) -> bool
+    requires { length ops.now + length deletes.now < 2 ^ 64 }
+    ensures { result ≡ not (nat_lt (length ops.now + length deletes.now) 1000) }
+{
+    (ops.len() + deletes.len()) as u64 >= LIMIT
+}
+
 /// The number of the first open cleanup.
-fn open_cleanup(deletes: &[OpenDelete]) -> Option<u64>
+pub(crate) fn open_cleanup(deletes: &[OpenDelete]) -> Option<u64>
     ensures { result ≡ open_cleanup deletes.now }
 {
     for delete in deletes {
@@ -147,7 +155,7 @@ fn open_cleanup(deletes: &[OpenDelete]) -> Option<u64>
 }
 
 /// The uuid of a listed snapshot of this name, or of an open op.
-fn name_user(root: &RootData, ops: &[OpenOp], name: &SnapName) -> Option<Id>
+pub(crate) fn name_user(root: &RootData, ops: &[OpenOp], name: &SnapName) -> Option<Id>
     ensures { option_map number_of result ≡ name_user (root_of root.now) ops.now name.now }
 {
     match snap_uuid(root.snapshots.as_slice(), name) {

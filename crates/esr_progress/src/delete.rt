@@ -1,17 +1,21 @@
 //! An open delete, or a cleanup.
-ghost use Rattle.std.specs.Prelude.{◌≡◌, true, ◌==◌, ◌<◌, ◌≤◌, ◌^◌, ◌++◌, [], map, IfOk, OnOk};
-ghost use Rattle.std.specs.List.{list_any};
+ghost use Rattle.std.specs.Prelude.{◌≡◌, true, ◌==◌, ◌<◌, ◌≤◌, ◌^◌, ◌&&◌, ◌||◌, ◌++◌, [], Some, map, not, IfOk, OnOk};
+ghost use Rattle.std.specs.List.{list_any, list_all, filter};
 ghost use Rattle.esr_model.specs.Shelf.{names_uuid};
 ghost use Rattle.esr_formats.specs.Ids.{number_of};
+ghost use Rattle.esr_formats.specs.Roots.{root_snap_of};
 ghost use Rattle.esr_core.specs.World.{deletion_work};
+ghost use Rattle.esr_core.specs.Deletes.{with_uuid, is_listed_uuid, name_the_same};
 ghost use Rattle.esr_formats.specs.Clusters.{op_of};
 ghost use Rattle.esr_record.specs.Op.{AreUuids, IsWork, last_op};
 ghost use Rattle.esr_progress.specs.Deletes.{deletion_entry, lies_between, between, IsDeleteWork, delete_kind, kept_delete};
+ghost use Rattle.esr_progress.specs.AskedDeletes.{with_uuids, grown};
 ghost use Rattle.esr_progress.specs.Inside.{numbers_of, Rise};
 
 use crate::{SeatKind, Work};
 use esr_names::{Id, Ids};
 use esr_record::{OpWork, RecordOp, RecordOps};
+use esr_root::RootSnap;
 use std::alloc::{AllocError, Global};
 use std::marker::Model;
 
@@ -76,6 +80,32 @@ impl OpenDelete {
         ensures { result ≡ names_uuid self.now.1.uuids uuid.number }
     {
         names(self.uuids.as_slice(), uuid)
+    }
+
+    /// Whether it has this number.
+    pub(crate) fn has_number(&self, number: u64) -> bool
+        ensures { result ≡ (self.now.0 == number) }
+    {
+        self.number == number
+    }
+
+    /// Whether those of its snapshots that are listed are just these.
+    pub(crate) fn lists_just(&self, snaps: &[RootSnap], uuids: &[Id]) -> bool
+        ensures { result ≡ name_the_same (filter (is_listed_uuid (map root_snap_of snaps.now)) self.now.1.uuids) (map number_of uuids.now) }
+    {
+        list_the_same(snaps, self.uuids.as_slice(), uuids)
+    }
+
+    /// A copy that names these snapshots too.
+    pub(crate) fn grown(&self, alloc: Global, uuids: &[Id]) -> Result<OpenDelete, AllocError>
+        ensures { IfOk result (λ d. d ≡ (self.now.0, grown (map number_of uuids.now) self.now.1)) }
+    {
+        Ok(OpenDelete {
+            number: self.number,
+            uuids: with_uuids(alloc, self.uuids.as_slice(), uuids)?,
+            clean: self.clean,
+            failed: self.failed,
+        })
     }
 
     /// The op as the cluster record tells it.
@@ -153,10 +183,81 @@ fn are_with(uuids: &[Id], uuid: Id) -> bool
 }
 
 /// The same, as a delete names snapshots.
-fn names(uuids: &[Id], uuid: Id) -> bool
+pub(crate) fn names(uuids: &[Id], uuid: Id) -> bool
     ensures { result ≡ names_uuid (map number_of uuids.now) uuid.number }
 {
     are_with(uuids, uuid)
+}
+
+/// Whether a snapshot of this uuid is among them.
+fn stand_with(snaps: &[RootSnap], uuid: Id) -> bool
+    ensures { result ≡ list_any (λ s. s.uuid.number == uuid.number) snaps.now }
+{
+    snaps.iter().any(|snap| snap.uuid == uuid)
+}
+
+/// The same, as a root lists snapshots.
+fn is_listed(snaps: &[RootSnap], uuid: Id) -> bool
+    ensures { result ≡ is_listed_uuid (map root_snap_of snaps.now) uuid.number }
+{
+    stand_with(snaps, uuid)
+}
+
+/// Whether each of these is listed, and one of the others.
+fn are_listed_in(snaps: &[RootSnap], uuids: &[Id], all: &[Id]) -> bool
+    ensures { result ≡ list_all (λ u. is_listed_uuid (map root_snap_of snaps.now) u.number && names_uuid (map number_of all.now) u.number) uuids.now }
+{
+    uuids
+        .iter()
+        .all(|uuid| is_listed(snaps, *uuid) && names(all, *uuid))
+}
+
+/// Whether each of these that is listed is one of the others.
+fn listed_are_in(snaps: &[RootSnap], all: &[Id], uuids: &[Id]) -> bool
+    ensures { result ≡ list_all (λ u. not (is_listed_uuid (map root_snap_of snaps.now) u.number) || names_uuid (map number_of uuids.now) u.number) all.now }
+{
+    all.iter()
+        .all(|uuid| !is_listed(snaps, *uuid) || names(uuids, *uuid))
+}
+
+/// Whether those of some uuids that are listed are just the others.
+fn list_the_same(snaps: &[RootSnap], all: &[Id], uuids: &[Id]) -> bool
+    ensures { result ≡ name_the_same (filter (is_listed_uuid (map root_snap_of snaps.now)) (map number_of all.now)) (map number_of uuids.now) }
+{
+    are_listed_in(snaps, uuids, all) && listed_are_in(snaps, all, uuids)
+}
+
+/// A uuid has at most 128 bits.
+fn rule(uuid: Id)
+    ensures { uuid.number < 2 ^ 128 }
+{
+    let _number = uuid.number;
+}
+
+/// Appends a uuid that isn't among them.
+pub(crate) fn push_new(uuids: &mut Ids, uuid: Id) -> Result<(), AllocError>
+    ensures named { OnOk result (map number_of uuids.new ≡ with_uuid (map number_of uuids.old) (Some uuid.number)) }
+    ensures valid { OnOk result (AreUuids [] uuids.old → AreUuids [] uuids.new) }
+{
+    rule(uuid);
+    if names(uuids.as_slice(), uuid) {
+        return Ok(());
+    }
+    uuids.push(uuid)?;
+    Ok(())
+}
+
+/// A copy of some uuids, with those of the others that aren't among them.
+fn with_uuids(alloc: Global, known: &[Id], uuids: &[Id]) -> Result<Ids, AllocError>
+    requires { AreUuids [] known.now }
+    ensures named { IfOk result (λ v. map number_of v ≡ with_uuids (map number_of known.now) (map number_of uuids.now)) }
+    ensures valid { IfOk result (AreUuids []) }
+{
+    let mut all = Ids::from_slice(alloc, known)?;
+    for uuid in uuids {
+        push_new(&mut all, *uuid)?;
+    }
+    Ok(all)
 }
 
 /// Appends the deletes whose numbers lie between two others.

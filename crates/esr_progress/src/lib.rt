@@ -2,6 +2,7 @@
 #![tactic(auto)]
 
 mod accept;
+mod accept_delete;
 mod changes;
 mod command;
 mod delete;

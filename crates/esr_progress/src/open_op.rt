@@ -1,5 +1,5 @@
 //! An open op.
-ghost use Rattle.std.specs.Prelude.{◌≡◌, ◌<◌, ◌↔◌, ◌==◌, ℕ, false, true, None, Some, map, length, option_map, IsTrue, IfOk, IfSome, slice_get, position, min, sum_by, ◌-◌, ◌^◌};
+ghost use Rattle.std.specs.Prelude.{◌≡◌, ◌<◌, ◌↔◌, ◌==◌, ℕ, false, true, None, Some, is_some, map, length, option_map, IsTrue, IfOk, IfSome, slice_get, position, min, sum_by, ◌-◌, ◌^◌};
 ghost use Rattle.std.specs.List.{list_any};
 ghost use Rattle.esr_core.specs.World.{marked, work_of, Done};
 ghost use Rattle.esr_core.specs.Steps.{given, all_done};
@@ -80,6 +80,21 @@ impl OpenOp {
         &self.making
     }
 
+    /// The uuid of what it makes.
+    pub(crate) fn uuid(&self) -> Id
+        ensures { result.number ≡ self.now.1.uuid }
+    {
+        self.making.uuid
+    }
+
+    /// The snapshot that it copies, where it is a clone: none is begun so far.
+    pub(crate) fn source(&self) -> Option<Id>
+        ensures { option_map number_of result ≡ self.now.1.source }
+    {
+        let _making = &self.making;
+        None
+    }
+
     /// The id of its index of this name.
     pub(crate) fn index_id(&self, name: &IndexName) -> Option<Id>
         ensures { option_map number_of result ≡ index_id self.now.1.indices name.now }
@@ -97,6 +112,13 @@ impl OpenOp {
         ensures { result ≡ has_stopped self.now.1 }
     {
         self.failed || self.aborted.is_some()
+    }
+
+    /// Whether a delete has aborted it.
+    pub(crate) fn is_aborted(&self) -> bool
+        ensures { result ≡ is_some self.now.1.aborted }
+    {
+        self.aborted.is_some()
     }
 
     /// Whether all its shards are done.
@@ -221,6 +243,15 @@ impl OpenOp {
             failed: self.failed,
             aborted: self.aborted,
         })
+    }
+
+    /// A copy that this delete has aborted.
+    pub(crate) fn aborted_by(&self, alloc: Global, by: u64) -> Result<OpenOp, AllocError>
+        ensures { IfOk result (λ o. o ≡ (self.now.0, record self.now.1 { aborted = Some by })) }
+    {
+        let mut copy = self.try_clone(alloc)?;
+        copy.aborted = Some(by);
+        Ok(copy)
     }
 
     /// The op as the cluster record tells it.

@@ -14,10 +14,14 @@ pub enum Refusal {
     TooMany { limit: u64 },
     /// The term has too few ids left from this one on.
     IdsSpent { next: Id },
-    /// No snapshot of this name is listed.
-    NoSnapshot,
+    /// No snapshot has the name at this place of the command: for a restore none is listed, for a delete none is made either.
+    NoSnapshot { place: u64 },
     /// This open delete names the snapshot.
     BeingDeleted { op: u64 },
+    /// This open clone copies one of the snapshots.
+    CloneRunning { op: u64 },
+    /// This open restore reads one of the snapshots.
+    RestoreRunning { op: u64 },
 }
 
 impl From<AllocError> for Refusal {

@@ -64,6 +64,13 @@ impl OpenRestore {
         self.number
     }
 
+    /// The uuid of its snapshot.
+    pub(crate) fn uuid(&self) -> Id
+        ensures { result.number ≡ self.now.1.uuid }
+    {
+        self.uuid
+    }
+
     /// The place of the first shard that is unread.
     pub(crate) fn first_unread(&self) -> Option<usize>
         ensures { result ≡ position is_unread self.now.1.shards }

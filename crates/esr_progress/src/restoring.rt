@@ -26,7 +26,7 @@ impl Progress {
         ensures { (w : World) → IsPlanOf w self.now → w.root ≡ root_of root.now → Restorable w name.now result }
     {
         let Some(uuid) = listed(root, name) else {
-            return Err(Refusal::NoSnapshot);
+            return Err(Refusal::NoSnapshot { place: 0 });
         };
         if let Some(op) = deleting(&self.deletes, uuid) {
             return Err(Refusal::BeingDeleted { op });

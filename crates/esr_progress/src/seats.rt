@@ -2,10 +2,26 @@
 ghost use Rattle.std.specs.Prelude.{◌≡◌, option_map};
 ghost use Rattle.std.specs.List.{list_any};
 ghost use Rattle.esr_progress.specs.Plan.{seat_of_code, reader_of_code};
-ghost use Rattle.esr_progress.specs.Seats.{seat_at, seat_in, reader_in, holds, is_swap_out, is_unit_out};
+ghost use Rattle.esr_progress.specs.Seats.{seat_at, seat_in, reader_in, holds, is_swap_out, is_unit_out, has_op, swaps_op};
 
 use crate::unit::Slot;
 use crate::{ReaderSeat, Seat};
+
+impl Seat {
+    /// Whether its ticket is out, of the term, and has the op.
+    fn has_op(&self, term: u64, op: u64) -> bool
+        ensures { result ≡ has_op term op (seat_of_code self.now) }
+    {
+        self.out && self.term == term && self.op == op
+    }
+
+    /// Whether it is a swap, too, that hasn't settled.
+    fn swaps_op(&self, term: u64, op: u64) -> bool
+        ensures { result ≡ swaps_op term op (seat_of_code self.now) }
+    {
+        self.has_op(term, op) && !self.settled && self.kind.is_master()
+    }
+}
 
 impl Slot {
     /// What is kept of a ticket.
@@ -51,6 +67,26 @@ impl Slot {
             Slot::Reader(_) => false,
         }
     }
+
+    /// Whether it is a ticket of the term that is out and has the op.
+    fn has_op(&self, term: u64, op: u64) -> bool
+        ensures { result ≡ holds (has_op term op) (seat_in self.now) }
+    {
+        match self {
+            Slot::Ticket(seat) => seat.has_op(term, op),
+            Slot::Reader(_) => false,
+        }
+    }
+
+    /// Whether it is a swap of the term that hasn't settled and has the op.
+    fn swaps_op(&self, term: u64, op: u64) -> bool
+        ensures { result ≡ holds (swaps_op term op) (seat_in self.now) }
+    {
+        match self {
+            Slot::Ticket(seat) => seat.swaps_op(term, op),
+            Slot::Reader(_) => false,
+        }
+    }
 }
 
 /// What is kept under a number: they begin with 1.
@@ -75,4 +111,18 @@ pub(crate) fn unit_is_out(slots: &[Slot], term: u64, op: u64) -> bool
     ensures { result ≡ list_any (λ s. holds (is_unit_out term op) (seat_in s)) slots.now }
 {
     slots.iter().any(|slot| slot.is_unit_out(term, op))
+}
+
+/// Whether a ticket of the term that is out has the op.
+pub(crate) fn op_is_taken(slots: &[Slot], term: u64, op: u64) -> bool
+    ensures { result ≡ list_any (λ s. holds (has_op term op) (seat_in s)) slots.now }
+{
+    slots.iter().any(|slot| slot.has_op(term, op))
+}
+
+/// Whether a swap of the term that hasn't settled has the op.
+pub(crate) fn op_is_swapped(slots: &[Slot], term: u64, op: u64) -> bool
+    ensures { result ≡ list_any (λ s. holds (swaps_op term op) (seat_in s)) slots.now }
+{
+    slots.iter().any(|slot| slot.swaps_op(term, op))
 }

@@ -8,11 +8,12 @@ use Rattle.esr_model.specs.Image.{Image}
 use Rattle.esr_core.specs.World.{World, Op, ShardWork, ReadState, RestoreShard, Restoring, Reader, Caller, Ticket, Swap, swap}
 use Rattle.esr_core.specs.Restores.{restore_shard}
 use Rattle.esr_core.specs.Steps.{with_ticket}
-use Rattle.esr_core.specs.Entry.{Asked, Snapshot, Restore, Given, GivenShard, GivenFinalize, GivenDrop, GivenRestore, Read, ReadBlob, RestoredShard, DrawTest, CommitTest, ReadFails, Step, AskStep, TakeStep, DrawStep, BeginStep, CommitStep, LatestStep, FetchStep, RaiseStep, SettleStep, DoneStep, FailedStep, FinishStep, DroppedStep, ElectStep, LookStep, ReadStep, DepotFault, Reply, Gave, DrawnFrom, WasDone, WasThere, WasFetched, HasEnded, Refused, AcceptedRestore, Moment, PruneStep}
+use Rattle.esr_core.specs.Entry.{Asked, Snapshot, DeleteSnapshots, Restore, Given, GivenShard, GivenFinalize, GivenDrop, GivenRestore, Read, ReadBlob, RestoredShard, DrawTest, CommitTest, ReadFails, Step, AskStep, TakeStep, DrawStep, BeginStep, CommitStep, LatestStep, FetchStep, RaiseStep, SettleStep, DoneStep, FailedStep, FinishStep, DroppedStep, ElectStep, LookStep, ReadStep, DepotFault, Reply, Gave, DrawnFrom, WasDone, WasThere, WasFetched, HasEnded, Refused, AcceptedRestore, Moment, PruneStep}
 use Rattle.esr_core.specs.After.{shard_of, taken_shard, taken_restore_shard, taken_restore, taken_by, with_given, change, told_blob, settled_by, settled_of, done_by, done_of, is_stale, failed_by, failed_of, dropped_of, read_told, shard_over, read_over, read_step, read_by, done_step, swaps_record, fallen, is_latest, tried, test_left, faulted, answered, caller_after, after}
 use Rattle.esr_core.specs.Allowed as allowed
 use Rattle.esr_core.specs.Allowed.{ReadAllows, VerifyAllows, Allows, Allowed}
 use Rattle.esr_core.specs.History.{world_from}
+use Rattle.esr_core.proofs.AskedDeletes.{delete_leaves}
 use Rattle.esr_core.proofs.PruneFrames.{prune_stays, prune_fault_stays}
 use Rattle.esr_core.proofs.Histories.{deposed_stays}
 use Rattle.esr_desk.specs.Start.{Start, Legal, formats_of, world_of, ticket_of}
@@ -112,6 +113,7 @@ module _ (f : Formats) (w : World) where
   step_same : (k : ℕ) (step : Step) (reply : Reply) (image : Option Image) → (done_step f w k step reply image).caller ≡ w.caller
   step_same k (AskStep (Snapshot name indices moment)) reply image = refl
   step_same k (AskStep (Restore name place)) (AcceptedRestore o uuid indices) image = refl
+  step_same k (AskStep (DeleteSnapshots names)) reply image = ap (λ (x : World). x.caller) (delete_leaves w names)
   step_same k (AskStep command) reply image = refl
   step_same k TakeStep (Gave ticket op unit) image = taken_same op unit (fin.get w.ops op)
   step_same k (DrawStep n) reply image = change_same k (λ t. record t { first = w.next_id; drawn = n })
@@ -168,6 +170,7 @@ module _ (f : Formats) (w : World) where
 ask_zero : (f : Formats) (size : ℕ) (w : World) (who : ℕ) (command : Asked) (reply : Reply) (image : Option Image) → Allows f size w who (AskStep command) reply image → who ≡ 0
 ask_zero f size w who command reply image (allowed.Accepting name indices moment o im acc same) = refl
 ask_zero f size w who command reply image (allowed.AskingRestore name place rep im h same) = refl
+ask_zero f size w who command reply image (allowed.AskingDelete names rep im h same) = refl
 ask_zero f size w who command reply image (allowed.Cleaning asked d x im recorded there clean same) = refl
 ask_zero f size w who command reply image (allowed.Used name indices moment uuid im clear is same) = refl
 ask_zero f size w who command reply image (allowed.Full name indices moment im clear unused full same) = refl

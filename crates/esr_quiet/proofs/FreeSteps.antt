@@ -17,7 +17,7 @@ use Rattle.esr_core.specs.Ready.{Waits}
 use Rattle.esr_core.specs.Steps.{Largest, Removes, with_ticket, settled, given, shard_ticket, final_ticket}
 use Rattle.esr_core.specs.Turns.{plain_ticket, fails}
 use Rattle.esr_core.specs.Ids.{Law}
-use Rattle.esr_core.specs.Entry.{AskedIndex, Snapshot, Restore, Given, GivenShard, GivenFinalize, GivenDrop, GivenRestore, GivenClone, GivenDelete, GivenCleanup, Why, Read, ReadBlob, RestoredShard, CommitTest, RemoveTests, ReadFails, Step, AskStep, CommitStep, LatestStep, ReadStep, DepotFault, Reply, WasDone, WasReplaced, WasFetched, WasAbsent, WasRemoved, HasEnded, Refused, Moment}
+use Rattle.esr_core.specs.Entry.{AskedIndex, Snapshot, AsksNoDelete, Restore, Given, GivenShard, GivenFinalize, GivenDrop, GivenRestore, GivenClone, GivenDelete, GivenCleanup, Why, Read, ReadBlob, RestoredShard, CommitTest, RemoveTests, ReadFails, Step, AskStep, CommitStep, LatestStep, ReadStep, DepotFault, Reply, WasDone, WasReplaced, WasFetched, WasAbsent, WasRemoved, HasEnded, Refused, Moment}
 use Rattle.esr_core.specs.After.{asked, asked_op, taken_by, taken_shard, taken_restore, taken_restore_shard, read_told, shard_over, read_over, caller_told, caller_wrote, with_given, change, committing, fetching, told_blob, done_of, done_by, failed_of, failed_by, is_stale, settled_of, dropped_of, tried, blobs_in, after}
 use Rattle.esr_core.specs.Allowed as allowed
 use Rattle.esr_core.specs.Allowed.{latest_text, Told, SameBlobs, Adds, Accepts, Gives, Draws, Commits, Raises, Settles, Fails, Dones, Drops, IsOwnTest, RestoreAllows, OpeningRestore, NotListed, NamedByDelete, FullOfRestores, ReadAllows, ReadFound, ReadMissing, ReadFault, RestoringShard, ReaderFailing, CheckingAll, CheckFailing, VerifyAllows, DrawingTest, TestSpent, BeginningTest, BeginTestFails, CommittingTest, TestTaken, CommitTestFails, RemovingTests, RemoveTestsFails, VerifyingAll, VerifyFailing, Allows, Allowed}
@@ -454,60 +454,61 @@ module _ (f : Formats) (size : ℕ) (w : World) (shelf : List Shelved) (law : La
   verifies read reply image calm i told (VerifyingAll im done same) = anew im same no_caller refl refl
   verifies read reply image calm i told (VerifyFailing why im begun same) = anew im same no_caller refl refl
 
-  free_by : (who : ℕ) (step : Step) (reply : Reply) (image : Option Image) → reply ≢ Refused DepotFault → (i : Image) → image ≡ Some i → Allows f size w who step reply image → IsFree f (after f w (moment who step reply image))
-  free_by who step reply image calm i told (allowed.Accepting name indices time o im acc same) = asks f w shelf law l name indices time (blobs_in im w.blobs) (at_same f w im same)
-  free_by who step reply image calm i told (allowed.GivingNothing im none same) = still im same
-  free_by who step reply image calm i told (allowed.Giving k o unit im is lowest g same) = gives f w shelf law l none_open o unit g (blobs_in im w.blobs) (at_same f w im same)
-  free_by who step reply image calm i told (allowed.Drawing k n first im d same) = draws f w shelf law l k n d.may.t d.may.out.there (blobs_in im w.blobs) (at_same f w im same)
-  free_by who step reply image calm i told (allowed.Beginning k name im c same) = still im same
-  free_by who step reply image calm i told (allowed.BeginningLatest k im c same) = still im same
-  free_by who step reply image calm i told (allowed.Committing k name im c adds) = commits k name im c adds i told
-  free_by who step reply image calm i told (allowed.Finding k name im c found) =
+  free_by : (who : ℕ) (step : Step) (reply : Reply) (image : Option Image) → reply ≢ Refused DepotFault → AsksNoDelete step → (i : Image) → image ≡ Some i → Allows f size w who step reply image → IsFree f (after f w (moment who step reply image))
+  free_by who step reply image calm unasked i told (allowed.Accepting name indices time o im acc same) = asks f w shelf law l name indices time (blobs_in im w.blobs) (at_same f w im same)
+  free_by who step reply image calm unasked i told (allowed.GivingNothing im none same) = still im same
+  free_by who step reply image calm unasked i told (allowed.Giving k o unit im is lowest g same) = gives f w shelf law l none_open o unit g (blobs_in im w.blobs) (at_same f w im same)
+  free_by who step reply image calm unasked i told (allowed.Drawing k n first im d same) = draws f w shelf law l k n d.may.t d.may.out.there (blobs_in im w.blobs) (at_same f w im same)
+  free_by who step reply image calm unasked i told (allowed.Beginning k name im c same) = still im same
+  free_by who step reply image calm unasked i told (allowed.BeginningLatest k im c same) = still im same
+  free_by who step reply image calm unasked i told (allowed.Committing k name im c adds) = commits k name im c adds i told
+  free_by who step reply image calm unasked i told (allowed.Finding k name im c found) =
       finds f w shelf law l k c.t c.out.there name (blobs_in im w.blobs) (at_same f w im (told_same im (λ blobs. Present f w.blobs name × (blobs ≡ w.blobs)) (λ blobs h. h.1) found))
-  free_by who step reply image calm i told (allowed.Replacing k im c named puts) = replaces k im c.t c.out.there c.n named puts i told
-  free_by who step reply image calm i told (allowed.Fetching k name im g found) =
+  free_by who step reply image calm unasked i told (allowed.Replacing k im c named puts) = replaces k im c.t c.out.there c.n named puts i told
+  free_by who step reply image calm unasked i told (allowed.Fetching k name im g found) =
       fetches f w shelf law l k g.t g.out.there name (told_blob f im name) (blobs_in im w.blobs)
       (at_same f w im (told_same im (λ blobs. (bytes : Bytes) × (fin.get w.blobs (f.names.text name) ≡ Some bytes) × (blobs ≡ w.blobs)) (λ blobs h. h.2) found))
-  free_by who step reply image calm i told (allowed.Missing k name im g found) = still im (told_same im (λ blobs. (fin.get w.blobs (f.names.text name) ≡ None) × (blobs ≡ w.blobs)) (λ blobs h. h.1) found)
-  free_by who step reply image calm i told (allowed.Listing k im t out same) = still im same
-  free_by who step reply image calm i told (allowed.Raising k n im r same) = raises f w shelf law l k n r (blobs_in im w.blobs) (at_same f w im same)
-  free_by who step reply image calm i told (allowed.Settling k im s same) = settles_step f w shelf law l k s (blobs_in im w.blobs) (at_same f w im same)
-  free_by who step reply image calm i told (allowed.Doing k r im d same) = does k r im d same i told
-  free_by who step reply image calm i told (allowed.Failing k why im c same) = fails_step f w shelf law l k c (blobs_in im w.blobs) (at_same f w im same)
-  free_by who step reply image calm i told (allowed.Finishing k im c same) =
+  free_by who step reply image calm unasked i told (allowed.Missing k name im g found) = still im (told_same im (λ blobs. (fin.get w.blobs (f.names.text name) ≡ None) × (blobs ≡ w.blobs)) (λ blobs h. h.1) found)
+  free_by who step reply image calm unasked i told (allowed.Listing k im t out same) = still im same
+  free_by who step reply image calm unasked i told (allowed.Raising k n im r same) = raises f w shelf law l k n r (blobs_in im w.blobs) (at_same f w im same)
+  free_by who step reply image calm unasked i told (allowed.Settling k im s same) = settles_step f w shelf law l k s (blobs_in im w.blobs) (at_same f w im same)
+  free_by who step reply image calm unasked i told (allowed.Doing k r im d same) = does k r im d same i told
+  free_by who step reply image calm unasked i told (allowed.Failing k why im c same) = fails_step f w shelf law l k c (blobs_in im w.blobs) (at_same f w im same)
+  free_by who step reply image calm unasked i told (allowed.Finishing k im c same) =
       changed f w shelf law l k c.t c.out.there (λ (t : Ticket). record t { out = false }) (ended f w shelf law l c.t) refl (blobs_in im w.blobs) (at_same f w im same)
-  free_by who step reply image calm i told (allowed.Dropping k im c same) = drops_step f w shelf law l k c (blobs_in im w.blobs) (at_same f w im same)
-  free_by who step reply image calm i told (allowed.Electing im room same) = elected f w shelf law l (blobs_in im w.blobs) (at_same f w im same)
-  free_by who step reply image calm i told (allowed.Looking im same) = anew im same (record no_caller { looked = true }) refl refl
-  free_by who step reply image calm i told (allowed.AskingRestore name place rep im h same) = asks_restore name place rep im h same
-  free_by who step reply image calm i told (allowed.Reading k read rep im h same) = reads k read rep im calm h same
-  free_by who step reply image calm i told (allowed.Verifying read rep im h) = verifies read rep im calm i told h
-  free_by who step reply image calm i told (allowed.Pruning k prune rep im h) = let d = prune_has_delete f w k prune rep im h in absurd (l.no_deletes d.k d.t d.uuids d.plan d.there d.work)
-  free_by who step reply image calm i told (allowed.Cleaning c d x im recorded there clean same) = anew im same no_caller refl refl
-  free_by who step reply image calm i told (allowed.Used name indices time uuid im clear is same) = anew im same no_caller refl refl
-  free_by who step reply image calm i told (allowed.Full name indices time im clear unused full same) = anew im same no_caller refl refl
-  free_by who step reply image calm i told (allowed.AskSpent name indices time im clear unused room spent same) = anew im same no_caller refl refl
-  free_by who step reply image calm i told (allowed.DrawSpent k n im may spent same) = still im same
-  free_by who step reply image calm i told (allowed.RaiseStale k im may apart same) = still im same
-  free_by who step reply image calm i told (allowed.SettleStale k n t s im may apart same) = still im same
-  free_by who step reply image calm i told (allowed.DropStale k im may apart same) = still im same
-  free_by who step reply image calm i told (allowed.RaiseSpent k im may present spent same) = still im same
-  free_by who step reply image calm i told (allowed.ElectSpent im spent same) = still im same
-  free_by who step reply image calm i told (allowed.Taken k name im c aside found) = still im (told_same im (λ blobs. Present f w.blobs name × (blobs ≡ w.blobs)) (λ blobs h. h.1) found)
-  free_by who step reply image calm i told (allowed.BeginFails k name im c same) = absurd (calm refl)
-  free_by who step reply image calm i told (allowed.BeginLatestFails k im c same) = absurd (calm refl)
-  free_by who step reply image calm i told (allowed.CommitFails k name im c leaves) = absurd (calm refl)
-  free_by who step reply image calm i told (allowed.ReplaceFails k im c named puts) = absurd (calm refl)
-  free_by who step reply image calm i told (allowed.FetchFails k name im g same) = absurd (calm refl)
-  free_by who step reply image calm i told (allowed.ListFails k im t out same) = absurd (calm refl)
-  free_by who step reply image calm i told (allowed.AskFails name indices time im acc same) = absurd (calm refl)
-  free_by who step reply image calm i told (allowed.RaiseFails k im r same) = absurd (calm refl)
-  free_by who step reply image calm i told (allowed.SettleFails k im s same) = absurd (calm refl)
-  free_by who step reply image calm i told (allowed.DropFails k im c same) = absurd (calm refl)
-  free_by who step reply image calm i told (allowed.ElectFails im room same) = absurd (calm refl)
+  free_by who step reply image calm unasked i told (allowed.Dropping k im c same) = drops_step f w shelf law l k c (blobs_in im w.blobs) (at_same f w im same)
+  free_by who step reply image calm unasked i told (allowed.Electing im room same) = elected f w shelf law l (blobs_in im w.blobs) (at_same f w im same)
+  free_by who step reply image calm unasked i told (allowed.Looking im same) = anew im same (record no_caller { looked = true }) refl refl
+  free_by who step reply image calm unasked i told (allowed.AskingRestore name place rep im h same) = asks_restore name place rep im h same
+  free_by who step reply image calm unasked i told (allowed.AskingDelete names rep im h same) = absurd (unasked names refl)
+  free_by who step reply image calm unasked i told (allowed.Reading k read rep im h same) = reads k read rep im calm h same
+  free_by who step reply image calm unasked i told (allowed.Verifying read rep im h) = verifies read rep im calm i told h
+  free_by who step reply image calm unasked i told (allowed.Pruning k prune rep im h) = let d = prune_has_delete f w k prune rep im h in absurd (l.no_deletes d.k d.t d.uuids d.plan d.there d.work)
+  free_by who step reply image calm unasked i told (allowed.Cleaning c d x im recorded there clean same) = anew im same no_caller refl refl
+  free_by who step reply image calm unasked i told (allowed.Used name indices time uuid im clear is same) = anew im same no_caller refl refl
+  free_by who step reply image calm unasked i told (allowed.Full name indices time im clear unused full same) = anew im same no_caller refl refl
+  free_by who step reply image calm unasked i told (allowed.AskSpent name indices time im clear unused room spent same) = anew im same no_caller refl refl
+  free_by who step reply image calm unasked i told (allowed.DrawSpent k n im may spent same) = still im same
+  free_by who step reply image calm unasked i told (allowed.RaiseStale k im may apart same) = still im same
+  free_by who step reply image calm unasked i told (allowed.SettleStale k n t s im may apart same) = still im same
+  free_by who step reply image calm unasked i told (allowed.DropStale k im may apart same) = still im same
+  free_by who step reply image calm unasked i told (allowed.RaiseSpent k im may present spent same) = still im same
+  free_by who step reply image calm unasked i told (allowed.ElectSpent im spent same) = still im same
+  free_by who step reply image calm unasked i told (allowed.Taken k name im c aside found) = still im (told_same im (λ blobs. Present f w.blobs name × (blobs ≡ w.blobs)) (λ blobs h. h.1) found)
+  free_by who step reply image calm unasked i told (allowed.BeginFails k name im c same) = absurd (calm refl)
+  free_by who step reply image calm unasked i told (allowed.BeginLatestFails k im c same) = absurd (calm refl)
+  free_by who step reply image calm unasked i told (allowed.CommitFails k name im c leaves) = absurd (calm refl)
+  free_by who step reply image calm unasked i told (allowed.ReplaceFails k im c named puts) = absurd (calm refl)
+  free_by who step reply image calm unasked i told (allowed.FetchFails k name im g same) = absurd (calm refl)
+  free_by who step reply image calm unasked i told (allowed.ListFails k im t out same) = absurd (calm refl)
+  free_by who step reply image calm unasked i told (allowed.AskFails name indices time im acc same) = absurd (calm refl)
+  free_by who step reply image calm unasked i told (allowed.RaiseFails k im r same) = absurd (calm refl)
+  free_by who step reply image calm unasked i told (allowed.SettleFails k im s same) = absurd (calm refl)
+  free_by who step reply image calm unasked i told (allowed.DropFails k im c same) = absurd (calm refl)
+  free_by who step reply image calm unasked i told (allowed.ElectFails im room same) = absurd (calm refl)
 
-pub step_free : (f : Formats) (size : ℕ) (w : World) (shelf : List Shelved) → Law f w shelf → IsFree f w → w.deletes ≡ fin.empty → (m : Moment) → m.entry.reply ≢ Refused DepotFault → (i : Image) → m.image ≡ Some i → Allowed f size w m → IsFree f (after f w m)
-step_free f size w shelf law l none m calm i told a = elim a.answered [
-  | inl alive ↦ free_by f size w shelf law l none m.entry.who m.entry.step m.entry.reply m.image calm i told alive.1
+pub step_free : (f : Formats) (size : ℕ) (w : World) (shelf : List Shelved) → Law f w shelf → IsFree f w → w.deletes ≡ fin.empty → (m : Moment) → m.entry.reply ≢ Refused DepotFault → AsksNoDelete m.entry.step → (i : Image) → m.image ≡ Some i → Allowed f size w m → IsFree f (after f w m)
+step_free f size w shelf law l none m calm unasked i told a = elim a.answered [
+  | inl alive ↦ free_by f size w shelf law l none m.entry.who m.entry.step m.entry.reply m.image calm unasked i told alive.1
   | inr dead ↦ subst (IsFree f) (sym (deposed_stays f w m dead)) l
 ]

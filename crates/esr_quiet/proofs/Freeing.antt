@@ -13,7 +13,7 @@ use Rattle.esr_core.specs.History.{world_from, IsLegal, AllKnown, AreTold, IsHon
 use Rattle.esr_core.proofs.NoDeletes.{after_none}
 use Rattle.esr_core.proofs.Opening.{nothing}
 use Rattle.esr_quiet.specs.Free.{Free}
-use Rattle.esr_quiet.specs.Smooth.{AreCalm}
+use Rattle.esr_quiet.specs.Smooth.{AreCalm, NoDeleteAsked}
 use Rattle.esr_quiet.proofs.Core.{CoreLaws}
 use Rattle.esr_quiet.proofs.FreeFrame.{IsFree}
 use Rattle.esr_quiet.proofs.FreeParts.{tests_none}
@@ -79,17 +79,18 @@ opened_free f image w (OpenedRecord cluster text root there reads is) =
 
 module _ (laws : CoreLaws) (f : Formats) (part_size : ℕ) (image : Image) (shelf : List Shelved) (w : World) (known : AllKnown f) (kept : Kept f image shelf) (opens : Opened f image w) where
   -- after the front of a history, over the rest of it
-  free_from : (rest log : List Moment) → IsFree f (world_from f w log) → (world_from f w log).deletes ≡ fin.empty → IsLegal f part_size w (log ++ rest) → AreTold (log ++ rest) → AreHonest f w (log ++ rest) → AreCalm (log ++ rest) → IsFree f (world_from f w (log ++ rest))
-  free_from [] log l none legal told honest calm = subst (λ xs. IsFree f (world_from f w xs)) (sym (no_more log)) l
-  free_from (m ∷ rest) log l none legal told honest calm =
+  free_from : (rest log : List Moment) → IsFree f (world_from f w log) → (world_from f w log).deletes ≡ fin.empty → IsLegal f part_size w (log ++ rest) → AreTold (log ++ rest) → AreHonest f w (log ++ rest) → AreCalm (log ++ rest) → NoDeleteAsked (log ++ rest) → IsFree f (world_from f w (log ++ rest))
+  free_from [] log l none legal told honest calm unasked = subst (λ xs. IsFree f (world_from f w xs)) (sym (no_more log)) l
+  free_from (m ∷ rest) log l none legal told honest calm unasked =
       let law = laws.lawful f part_size image shelf w log known kept opens (legal_front f part_size w log (m ∷ rest) legal) (told_front log (m ∷ rest) told) (honest_front f w log (m ∷ rest) honest) in
       let (i, is) = told_next log rest m told in
-      let next = step_free f part_size (world_from f w log) _ law l none m (calm m (has_next log rest m)) i is (legal_next f part_size w log rest m legal) in
+      let other = unasked m (has_next log rest m) in
+      let next = step_free f part_size (world_from f w log) _ law l none m (calm m (has_next log rest m)) other i is (legal_next f part_size w log rest m legal) in
       let same : log ++ m ∷ rest ≡ (log ++ m ∷ []) ++ rest = sym (one_more log rest m) in
       subst (λ xs. IsFree f (world_from f w xs)) (sym same)
-      (free_from rest (log ++ m ∷ []) (subst (IsFree f) (sym (world_next f w log m)) next) (subst (λ (x : World). x.deletes ≡ fin.empty) (sym (world_next f w log m)) (after_none f (world_from f w log) m none)) (subst (IsLegal f part_size w) same legal) (subst AreTold same told) (subst (AreHonest f w) same honest) (subst AreCalm same calm))
+      (free_from rest (log ++ m ∷ []) (subst (IsFree f) (sym (world_next f w log m)) next) (subst (λ (x : World). x.deletes ≡ fin.empty) (sym (world_next f w log m)) (after_none f (world_from f w log) m other none)) (subst (IsLegal f part_size w) same legal) (subst AreTold same told) (subst (AreHonest f w) same honest) (subst AreCalm same calm) (subst NoDeleteAsked same unasked))
 
 pub histories_free : CoreLaws → (f : Formats) (part_size : ℕ) (image : Image) (shelf : List Shelved) (w : World) (log : List Moment) → AllKnown f → Kept f image shelf → Opened f image w → w.deletes ≡ fin.empty → IsLegal f part_size w log → AreTold log → AreHonest f w log
-    → AreCalm log → Free f (world_from f w log)
-histories_free laws f part_size image shelf w log known kept opens no_deletes legal told honest calm =
-    (free_from laws f part_size image shelf w known kept opens log [] (opened_free f image w opens) no_deletes legal told honest calm).free
+    → AreCalm log → NoDeleteAsked log → Free f (world_from f w log)
+histories_free laws f part_size image shelf w log known kept opens no_deletes legal told honest calm unasked =
+    (free_from laws f part_size image shelf w known kept opens log [] (opened_free f image w opens) no_deletes legal told honest calm unasked).free

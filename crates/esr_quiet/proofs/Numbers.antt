@@ -12,6 +12,7 @@ use Rattle.esr_core.specs.Turns.{plain_ticket}
 use Rattle.esr_core.specs.Entry.{Asked, Snapshot, Clone, DeleteSnapshots, Restore, Cleanup, Given, GivenShard, GivenFinalize, GivenDrop, GivenRestore, Read, ReadBlob, RestoredShard, CheckedAll, DrawTest, CommitTest, ReadFails, Step, AskStep, TakeStep, DrawStep, BeginStep, CommitStep, LatestStep, FetchStep, RaiseStep, SettleStep, DoneStep, FailedStep, FinishStep, DroppedStep, ElectStep, ReadStep, DepotFault, Reply, Gave, DrawnFrom, WasDone, WasThere, WasFetched, HasEnded, Refused, AcceptedRestore, Moment, GivenDelete, PruneStep}
 use Rattle.esr_core.specs.After.{asked, taken_shard, taken_restore_shard, taken_restore, taken_by, read_told, shard_over, read_over, read_step, read_by, test_left, shard_of, with_given, committing, told_blob, fetching, settled_by, settled_of, done_by, done_of, is_stale, failed_by, failed_of, dropped_of, done_step, has_text, fallen, is_latest, faulted, answered, after}
 use Rattle.esr_core.specs.History.{world_from}
+use Rattle.esr_core.proofs.AskedDeletes.{delete_leaves}
 use Rattle.esr_core.proofs.PruneFrames.{PruneStays, prune_stays, prune_fault_stays}
 use Rattle.esr_quiet.proofs.Maps.{get_other, some_none}
 
@@ -39,6 +40,7 @@ numbered_change w k g (Some t) is n = record { next = n.next; none = put_numbere
 
 numbered_asked : (w : World) (command : Asked) → Numbered w → Numbered (asked w command)
 numbered_asked w (Snapshot name indices moment) n = record { next = n.next; none = n.none }
+numbered_asked w (DeleteSnapshots names) n = subst Numbered (sym (delete_leaves w names)) (record { next = n.next; none = n.none })
 numbered_asked w command n = n
 
 numbered_shard : (w : World) (o : ℕ) (op : Op) (base : Option ℕ) (s : Option ShardWork) → Numbered w → Numbered (taken_shard w o op base s)
@@ -141,6 +143,7 @@ numbered_prune w new k h n =
 
 numbered_step : (f : Formats) (w : World) (k : ℕ) (step : Step) (reply : Reply) (image : Option Image) → Numbered w → Numbered (done_step f w k step reply image)
 numbered_step f w k (AskStep (Snapshot name indices moment)) reply image n = numbered_asked w (Snapshot name indices moment) n
+numbered_step f w k (AskStep (DeleteSnapshots names)) reply image n = numbered_asked w (DeleteSnapshots names) n
 numbered_step f w k (AskStep (Restore name place)) (AcceptedRestore o uuid indices) image n = record { next = n.next; none = n.none }
 numbered_step f w k TakeStep (Gave ticket op unit) image n = numbered_taken f w op unit (fin.get w.ops op) n
 numbered_step f w k (DrawStep count) reply image n =
@@ -185,7 +188,7 @@ numbered_fault f w k (ReadStep (CommitTest name)) image n = numbered_left w name
 numbered_fault f w k (PruneStep prune) image n = numbered_prune w _ k (prune_fault_stays f w k prune image) n
 numbered_fault f w k (AskStep (Snapshot name indices moment)) image n = numbered_fallen f w _ image n (numbered_step f w k (AskStep (Snapshot name indices moment)) HasEnded image n)
 numbered_fault f w k (AskStep (Clone source name indices moment)) image n = numbered_fallen f w w image n n
-numbered_fault f w k (AskStep (DeleteSnapshots names)) image n = numbered_fallen f w w image n n
+numbered_fault f w k (AskStep (DeleteSnapshots names)) image n = numbered_fallen f w (asked w (DeleteSnapshots names)) image n (numbered_step f w k (AskStep (DeleteSnapshots names)) HasEnded image n)
 numbered_fault f w k (AskStep (Restore name place)) image n = n
 numbered_fault f w k (AskStep Cleanup) image n = numbered_fallen f w w image n n
 numbered_fault f w k RaiseStep image n = numbered_fallen f w _ image n (numbered_step f w k RaiseStep HasEnded image n)

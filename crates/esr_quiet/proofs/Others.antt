@@ -11,8 +11,9 @@ use Rattle.esr_core.specs.Steps.{noting}
 use Rattle.esr_core.specs.Entry.{Asked, Snapshot, Clone, DeleteSnapshots, Restore, Cleanup, Given, GivenShard, GivenFinalize, GivenDrop, GivenRestore, Read, ReadBlob, RestoredShard, CheckedAll, DrawTest, CommitTest, ReadFails, Step, AskStep, TakeStep, DrawStep, BeginStep, CommitStep, LatestStep, FetchStep, RaiseStep, SettleStep, DoneStep, FailedStep, FinishStep, DroppedStep, ElectStep, ReadStep, DeposedAt, DepotFault, Reply, Gave, DrawnFrom, WasDone, WasThere, WasFetched, HasEnded, Refused, AcceptedRestore, Moment, GivenDelete, Prune, PruneStep}
 use Rattle.esr_core.specs.After.{asked, taken_shard, taken_restore_shard, taken_restore, taken_by, read_told, shard_over, read_over, read_step, read_by, test_left, shard_of, with_given, committing, told_blob, fetching, settled_by, settled_of, done_by, done_of, is_stale, failed_by, failed_of, dropped_of, done_step, has_text, fallen, is_latest, faulted, answered, after}
 use Rattle.esr_core.specs.Allowed as allowed
-use Rattle.esr_core.specs.Allowed.{RestoreAllows, OpeningRestore, ReadAllows, ReadFound, VerifyAllows, DrawingTest, Allows, Allowed, PruneAllows}
+use Rattle.esr_core.specs.Allowed.{DeleteAllows, RestoreAllows, OpeningRestore, ReadAllows, ReadFound, VerifyAllows, DrawingTest, Allows, Allowed, PruneAllows}
 use Rattle.esr_core.specs.History.{world_from, IsLegal}
+use Rattle.esr_core.proofs.AskedDeletes.{delete_leaves}
 use Rattle.esr_core.proofs.PruneFrames.{PruneStays, prune_stays, prune_fault_stays}
 use Rattle.esr_desk.specs.Start.{Start, Legal, formats_of, or_no_ticket, ticket_of}
 use Rattle.esr_desk.specs.Grew.{AllOf}
@@ -37,6 +38,7 @@ others_change w k g (Some t) q apart = get_other w.tickets k (g t) q apart
 
 others_asked : (w : World) (command : Asked) (q : ℕ) → held (asked w command) q ≡ held w q
 others_asked w (Snapshot name indices moment) q = refl
+others_asked w (DeleteSnapshots names) q = ap (λ (x : World). held x q) (delete_leaves w names)
 others_asked w command q = refl
 
 others_shard : (w : World) (o : ℕ) (op : Op) (base : Option ℕ) (s : Option ShardWork) (q : ℕ) → q ≢ w.next_ticket → held (taken_shard w o op base s) q ≡ held w q
@@ -134,6 +136,7 @@ others_prune w new k q h apart = elim h.tickets [
 
 others_step : (f : Formats) (w : World) (k : ℕ) (step : Step) (reply : Reply) (image : Option Image) (q : ℕ) → q ≢ k → GivesNone reply → held (done_step f w k step reply image) q ≡ held w q
 others_step f w k (AskStep (Snapshot name indices moment)) reply image q apart none = others_asked w (Snapshot name indices moment) q
+others_step f w k (AskStep (DeleteSnapshots names)) reply image q apart none = others_asked w (DeleteSnapshots names) q
 others_step f w k (AskStep (Restore name place)) (AcceptedRestore o uuid indices) image q apart none = refl
 others_step f w k TakeStep (Gave ticket op unit) image q apart none = absurd (none ticket op unit refl)
 others_step f w k (DrawStep n) reply image q apart none = others_change w k (λ t. record t { first = w.next_id; drawn = n }) (fin.get w.tickets k) q apart
@@ -172,7 +175,7 @@ others_fault f w k (ReadStep (CommitTest name)) image q apart = others_left w na
 others_fault f w k (PruneStep prune) image q apart = others_prune w _ k q (prune_fault_stays f w k prune image) apart
 others_fault f w k (AskStep (Snapshot name indices moment)) image q apart = others_fallen f w _ image q (others_step f w k (AskStep (Snapshot name indices moment)) HasEnded image q apart ended_none)
 others_fault f w k (AskStep (Clone source name indices moment)) image q apart = others_fallen f w w image q refl
-others_fault f w k (AskStep (DeleteSnapshots names)) image q apart = others_fallen f w w image q refl
+others_fault f w k (AskStep (DeleteSnapshots names)) image q apart = others_fallen f w (asked w (DeleteSnapshots names)) image q (others_step f w k (AskStep (DeleteSnapshots names)) HasEnded image q apart ended_none)
 others_fault f w k (AskStep (Restore name place)) image q apart = refl
 others_fault f w k (AskStep Cleanup) image q apart = others_fallen f w w image q refl
 others_fault f w k RaiseStep image q apart = others_fallen f w _ image q (others_step f w k RaiseStep HasEnded image q apart ended_none)
@@ -200,6 +203,10 @@ gift_restore : (f : Formats) (w : World) (name : Bytes) (reply : Reply) (image :
 gift_restore f w name reply image (OpeningRestore o uuid indices im acc) = tt
 gift_restore f w name reply image a = tt
 
+gift_delete : (w : World) (names : List Bytes) (reply : Reply) → DeleteAllows w names reply → IsGift w 0 reply
+gift_delete w names reply (allowed.GoingInto acc) = tt
+gift_delete w names reply a = tt
+
 gift_read : (f : Formats) (w : World) (who : ℕ) (read : Read) (reply : Reply) (image : Option Image) → ReadAllows f w who read reply image → IsGift w who reply
 gift_read f w who read reply image (ReadFound k name im stored by found) = tt
 gift_read f w who read reply image a = tt
@@ -215,6 +222,7 @@ gift_prune f w who prune reply image a = tt
 gift : (f : Formats) (size : ℕ) (w : World) (who : ℕ) (step : Step) (reply : Reply) (image : Option Image) → Allows f size w who step reply image → IsGift w who reply
 gift f size w who step reply image (allowed.Giving k o unit im is lowest g same) = (refl, is)
 gift f size w who step reply image (allowed.AskingRestore name place rep im a same) = gift_restore f w name rep im a
+gift f size w who step reply image (allowed.AskingDelete names rep im a same) = gift_delete w names rep a
 gift f size w who step reply image (allowed.Reading k read rep im a same) = gift_read f w k read rep im a
 gift f size w who step reply image (allowed.Verifying read rep im a) = gift_verify f w read rep im a
 gift f size w who step reply image (allowed.Pruning k prune rep im a) = gift_prune f w k prune rep im a

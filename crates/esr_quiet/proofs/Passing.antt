@@ -15,7 +15,7 @@ module _ (s : Start) (log : List Moment) (smooth : IsSmooth s log) where
       let within : (m : Moment) → Has front m → Has log m = λ m h. subst (λ (l : List Moment). Has l m) (sym is) (has_front front back m h) in
       quiet_history s (formats_of s) s.part_size front s.world (quiet_opened s (formats_of s) smooth.image s.world smooth.opened smooth.no_deletes)
       (legal_front (formats_of s) s.part_size front back s.world (subst (IsLegal (formats_of s) s.part_size s.world) is smooth.legal))
-      (λ m name indices moment h. smooth.steady m name indices moment (within m h)) (λ m h. smooth.calm m (within m h)) (λ m h. smooth.unelected m (within m h))
+      (λ m name indices moment h. smooth.steady m name indices moment (within m h)) (λ m h. smooth.calm m (within m h)) (λ m h. smooth.unelected m (within m h)) (λ m h. smooth.no_delete_asked m (within m h))
 
   pub legal_at : (front back : List Moment) (m : Moment) → log ≡ front ++ m ∷ back → Allowed (formats_of s) s.part_size (world_of s front) m
   legal_at front back m is = (legal_rest (formats_of s) s.part_size front (m ∷ back) s.world (subst (IsLegal (formats_of s) s.part_size s.world) is smooth.legal)).0
@@ -33,6 +33,7 @@ module _ (s : Start) (log : List Moment) (smooth : IsSmooth s log) where
         kept = smooth.kept;
         opened = smooth.opened;
         no_deletes = smooth.no_deletes;
+        no_delete_asked = λ m h. smooth.no_delete_asked m (within m h);
         legal = legal_front (formats_of s) s.part_size front back s.world (subst (IsLegal (formats_of s) s.part_size s.world) is smooth.legal);
         told = told_front front back (subst AreTold is smooth.told);
         honest = honest_front (formats_of s) front back s.world (subst (AreHonest (formats_of s) s.world) is smooth.honest);

@@ -12,7 +12,7 @@ use Rattle.esr_core.specs.World.{World, Op, ShardWork, ShardState, Pending, Out,
 use Rattle.esr_core.specs.Restores.{restore_shard}
 use Rattle.esr_core.specs.Steps.{noting, given, shard_ticket, final_ticket}
 use Rattle.esr_core.specs.Turns.{fails, fails_by}
-use Rattle.esr_core.specs.Entry.{AskedIndex, Asked, Snapshot, Restore, Given, GivenShard, GivenFinalize, GivenDrop, GivenRestore, Read, ReadBlob, RestoredShard, CheckedAll, DrawTest, CommitTest, ReadFails, Step, AskStep, TakeStep, DrawStep, CommitStep, LatestStep, FetchStep, RaiseStep, SettleStep, DoneStep, FailedStep, FinishStep, DroppedStep, ElectStep, ReadStep, DepotFault, Reply, Gave, DrawnFrom, WasDone, WasThere, WasFetched, Refused, AcceptedRestore, Moment, GivenDelete, Prune, PruneStep}
+use Rattle.esr_core.specs.Entry.{AskedIndex, Snapshot, DeleteSnapshots, AsksNoDelete, Restore, Given, GivenShard, GivenFinalize, GivenDrop, GivenRestore, Read, ReadBlob, RestoredShard, CheckedAll, DrawTest, CommitTest, ReadFails, Step, AskStep, TakeStep, DrawStep, CommitStep, LatestStep, FetchStep, RaiseStep, SettleStep, DoneStep, FailedStep, FinishStep, DroppedStep, ElectStep, ReadStep, DepotFault, Reply, Gave, DrawnFrom, WasDone, WasThere, WasFetched, Refused, AcceptedRestore, Moment, GivenDelete, Prune, PruneStep}
 use Rattle.esr_core.specs.After.{asked, asked_op, known_id, ref_by, next_by, refs_from, pending_shards, all_pending, taken_shard, taken_restore_shard, taken_restore, taken_by, read_told, shard_over, read_over, read_step, read_by, shard_of, with_given, committing, told_blob, fetching, settled_by, settled_of, done_by, done_of, is_stale, failed_by, failed_of, dropped_of, done_step, answered, after}
 use Rattle.esr_core.specs.Allowed as allowed
 use Rattle.esr_core.specs.Allowed.{PruneAllows, Allows, Allowed}
@@ -20,7 +20,7 @@ use Rattle.esr_core.specs.History.{world_from, IsLegal}
 use Rattle.esr_core.proofs.PruneFrames.{prune_has_delete}
 use Rattle.esr_desk.specs.Start.{Start}
 use Rattle.esr_quiet.specs.Asked.{IsSteady, AreSteady}
-use Rattle.esr_quiet.specs.Smooth.{AreCalm, AreUnelected}
+use Rattle.esr_quiet.specs.Smooth.{AreCalm, AreUnelected, NoDeleteAsked}
 use Rattle.esr_quiet.proofs.Maps.{some_same, some_none, get_was, get_left, removed_none, nothing}
 
 abbrev Ops : Type 0
@@ -158,15 +158,14 @@ module _ (s : Start) where
   quiet_change w q k g like None there = q
   quiet_change w q k g like (Some t) there = record { present = q.present; no_deletes = q.no_deletes; ops = q.ops; tickets = put_fine s w.term w.tickets k (g t) (like t (q.tickets k t there)) q.tickets }
 
-  quiet_asked : (w : World) → IsQuiet s w → (command : Asked) → ((name : Bytes) (indices : List AskedIndex) (moment : ℕ) → AskStep command ≡ AskStep (Snapshot name indices moment) → IsSteady s indices) → IsQuiet s (asked w command)
-  quiet_asked w q (Snapshot name indices moment) steady =
+  quiet_asked : (w : World) → IsQuiet s w → (name : Bytes) (indices : List AskedIndex) (moment : ℕ) → IsSteady s indices → IsQuiet s (asked w (Snapshot name indices moment))
+  quiet_asked w q name indices moment steady =
       record {
         present = q.present;
         no_deletes = q.no_deletes;
-        ops = put_steady s w.ops w.next_op (asked_op w name indices moment) (asked_steady s w (suc w.next_id) indices (steady name indices moment refl)) q.ops;
+        ops = put_steady s w.ops w.next_op (asked_op w name indices moment) (asked_steady s w (suc w.next_id) indices steady) q.ops;
         tickets = q.tickets;
       }
-  quiet_asked w q command steady = q
 
   -- restores, their tickets and numbers aside
   quiet_same : (w v : World) → IsQuiet s w → v.deposed ≡ w.deposed → v.deletes ≡ w.deletes → v.ops ≡ w.ops → v.term ≡ w.term → v.tickets ≡ w.tickets → IsQuiet s v
@@ -339,15 +338,17 @@ module _ (s : Start) where
   quiet_read_by f w q zero read reply image = q
   quiet_read_by f w q (suc k) read reply image = quiet_read f w q (suc k) read reply image
 
-  -- what is asked is steady, nobody is elected, and no delete is given or worked
+  -- what is asked is steady, nobody is elected, and no delete is asked, given or worked
   record Suits (step : Step) (reply : Reply) : Type 0 where
     steady : (name : Bytes) (indices : List AskedIndex) (moment : ℕ) → step ≡ AskStep (Snapshot name indices moment) → IsSteady s indices
     unelected : step ≢ ElectStep
+    unasked : AsksNoDelete step
     unpruned : (prune : Prune) → step ≡ PruneStep prune → ⊥
     undeleted : (ticket op : ℕ) (uuids : List ℕ) → reply ≡ Gave ticket op (GivenDelete uuids) → ⊥
 
   quiet_step : (f : Formats) (w : World) → IsQuiet s w → (k : ℕ) (step : Step) (reply : Reply) (image : Option Image) → Suits step reply → IsQuiet s (done_step f w k step reply image)
-  quiet_step f w q k (AskStep (Snapshot name indices moment)) reply image h = quiet_asked w q (Snapshot name indices moment) h.steady
+  quiet_step f w q k (AskStep (Snapshot name indices moment)) reply image h = quiet_asked w q name indices moment (h.steady name indices moment refl)
+  quiet_step f w q k (AskStep (DeleteSnapshots names)) reply image h = absurd (h.unasked names refl)
   quiet_step f w q k (AskStep (Restore name place)) (AcceptedRestore o uuid indices) image h = quiet_same w _ q refl refl refl refl refl
   quiet_step f w q k TakeStep (Gave ticket op unit) image h = quiet_taken f w q op unit (fin.get w.ops op) refl (λ uuids e. h.undeleted ticket op uuids (ap (λ (x : Given). Gave ticket op x) e))
   quiet_step f w q k (DrawStep n) reply image h = quiet_drawn w q k n (fin.get w.tickets k) refl
@@ -389,6 +390,7 @@ module _ (s : Start) where
   no_gift : (f : Formats) (size : ℕ) (w : World) → IsQuiet s w → (who : ℕ) (step : Step) (ticket op : ℕ) (uuids : List ℕ) (image : Option Image) → Allows f size w who step (Gave ticket op (GivenDelete uuids)) image → ⊥
   no_gift f size w q who step ticket op uuids image (allowed.Giving k o unit im is lowest g same) = nothing w.deletes o g.0 q.no_deletes g.1.there
   no_gift f size w q who step ticket op uuids image (allowed.AskingRestore name place rep im h same) = elim h [ ]
+  no_gift f size w q who step ticket op uuids image (allowed.AskingDelete names rep im h same) = elim h [ ]
   no_gift f size w q who step ticket op uuids image (allowed.Reading k read rep im h same) = elim h [ ]
   no_gift f size w q who step ticket op uuids image (allowed.Verifying read rep im h) = elim h [ ]
   no_gift f size w q who step ticket op uuids image (allowed.Pruning k prune rep im h) = elim h [ ]
@@ -405,13 +407,13 @@ module _ (s : Start) where
     | inr dead ↦ absurd (true≢false (sym dead.deposed ∙ q.present))
   ]
 
-  pub quiet_history : (f : Formats) (size : ℕ) (log : List Moment) (w : World) → IsQuiet s w → IsLegal f size w log → AreSteady s log → AreCalm log → AreUnelected log → IsQuiet s (world_from f w log)
-  quiet_history f size [] w q legal steady calm unelected = q
-  quiet_history f size (m ∷ log) w q legal steady calm unelected =
+  pub quiet_history : (f : Formats) (size : ℕ) (log : List Moment) (w : World) → IsQuiet s w → IsLegal f size w log → AreSteady s log → AreCalm log → AreUnelected log → NoDeleteAsked log → IsQuiet s (world_from f w log)
+  quiet_history f size [] w q legal steady calm unelected unasked = q
+  quiet_history f size (m ∷ log) w q legal steady calm unelected unasked =
       let none = by_allowed f size w q m legal.0 in
       quiet_history f size log (after f w m)
-      (quiet_after f w q m (record { steady = λ name indices moment e. steady m name indices moment (inl refl) e; unelected = unelected m (inl refl); unpruned = none.0; undeleted = none.1 }) (calm m (inl refl))) legal.1
-      (λ n name indices moment h. steady n name indices moment (inr h)) (λ n h. calm n (inr h)) (λ n h. unelected n (inr h))
+      (quiet_after f w q m (record { steady = λ name indices moment e. steady m name indices moment (inl refl) e; unelected = unelected m (inl refl); unasked = unasked m (inl refl); unpruned = none.0; undeleted = none.1 }) (calm m (inl refl))) legal.1
+      (λ n name indices moment h. steady n name indices moment (inr h)) (λ n h. calm n (inr h)) (λ n h. unelected n (inr h)) (λ n h. unasked n (inr h))
 
   none_open : AreSteadyOps s fin.empty
   none_open o op z there h = absurd (nothing fin.empty o op refl there)

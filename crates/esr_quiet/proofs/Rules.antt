@@ -6,9 +6,9 @@ use Rattle.esr_model.specs.Values.{Bytes, Has, IndexRef, RootData, SnapInfo, For
 use Rattle.esr_model.specs.Image.{Image, Present}
 use Rattle.esr_core.specs.World.{World, Work, Shard, Finalize, Deleting, Drop, Ticket, Swap, swap_of, metadata}
 use Rattle.esr_core.specs.Steps.{IsOut}
-use Rattle.esr_core.specs.Entry.{Asked, Snapshot, Restore, Read, CommitTest, Step, AskStep, CommitStep, ReadStep, NameTaken, Reply, Refused, DepotFault, Moment}
+use Rattle.esr_core.specs.Entry.{Asked, Snapshot, DeleteSnapshots, Restore, Read, CommitTest, Step, AskStep, CommitStep, ReadStep, NameTaken, Reply, Refused, DepotFault, Moment}
 use Rattle.esr_core.specs.Allowed as allowed
-use Rattle.esr_core.specs.Allowed.{Told, Commits, IsMetadata, IsOwnTest, RestoreAllows, OpeningRestore, NotListed, NamedByDelete, FullOfRestores, ReadAllows, ReadFound, ReadMissing, ReadFault, RestoringShard, ReaderFailing, CheckingAll, CheckFailing, VerifyAllows, DrawingTest, TestSpent, BeginningTest, BeginTestFails, CommittingTest, TestTaken, CommitTestFails, RemovingTests, RemoveTestsFails, VerifyingAll, VerifyFailing, Allows, Allowed}
+use Rattle.esr_core.specs.Allowed.{Told, Commits, IsMetadata, IsOwnTest, DeleteAllows, GoingInto, NotNamed, CloneStands, RestoreStands, FullOfOps, DeleteFault, RestoreAllows, OpeningRestore, NotListed, NamedByDelete, FullOfRestores, ReadAllows, ReadFound, ReadMissing, ReadFault, RestoringShard, ReaderFailing, CheckingAll, CheckFailing, VerifyAllows, DrawingTest, TestSpent, BeginningTest, BeginTestFails, CommittingTest, TestTaken, CommitTestFails, RemovingTests, RemoveTestsFails, VerifyingAll, VerifyFailing, Allows, Allowed}
 use Rattle.esr_core.proofs.PruneFrames.{prune_has_delete}
 use Rattle.esr_desk.specs.Start.{Start, formats_of, world_of, or_no_ticket}
 use Rattle.esr_quiet.specs.Free.{Free}
@@ -80,6 +80,14 @@ module _ (s : Start) (f : Formats) (size : ℕ) (w : World) (q : IsQuiet s w) (f
   asks_restore name place reply image (NamedByDelete uuid d im listed named) = ((Restore name place, refl), tt)
   asks_restore name place reply image (FullOfRestores uuid im listed spared full) = ((Restore name place, refl), tt)
 
+  asks_delete : (names : List Bytes) (reply : Reply) → (reply ≢ Refused DepotFault) → DeleteAllows w names reply → IsRuled (AskStep (DeleteSnapshots names)) reply
+  asks_delete names reply calm (GoingInto acc) = tt
+  asks_delete names reply calm (NotNamed place clear first) = ((DeleteSnapshots names, refl), tt)
+  asks_delete names reply calm (CloneStands o clear named lowest) = ((DeleteSnapshots names, refl), tt)
+  asks_delete names reply calm (RestoreStands o clear named no_clone lowest) = ((DeleteSnapshots names, refl), tt)
+  asks_delete names reply calm (FullOfOps may new full) = ((DeleteSnapshots names, refl), tt)
+  asks_delete names reply calm (DeleteFault acc) = absurd (calm refl)
+
   reads : (k : ℕ) (read : Read) (reply : Reply) (image : Option Image) → (reply ≢ Refused DepotFault) → ReadAllows f w k read reply image → IsRuled (ReadStep read) reply
   reads k read reply image calm (ReadFound j name im stored by there) = tt
   reads k read reply image calm (ReadMissing j name im stored by none) = tt
@@ -105,6 +113,7 @@ module _ (s : Start) (f : Formats) (size : ℕ) (w : World) (q : IsQuiet s w) (f
 
   ruled : (who : ℕ) (step : Step) (reply : Reply) (image : Option Image) (i : Image) → image ≡ Some i → (reply ≢ Refused DepotFault) → (IsSpent reply → ⊥) → IsNew w who step → IsNewTest w step → Allows f size w who step reply image → IsRuled step reply
   ruled who step reply image i told calm unspent new new_test (allowed.AskingRestore name place rep im h same) = asks_restore name place rep im h
+  ruled who step reply image i told calm unspent new new_test (allowed.AskingDelete names rep im h same) = asks_delete names rep calm h
   ruled who step reply image i told calm unspent new new_test (allowed.Reading k read rep im h same) = reads k read rep im calm h
   ruled who step reply image i told calm unspent new new_test (allowed.Verifying read rep im h) = verifies read rep im i told calm unspent new_test h
   ruled who step reply image i told calm unspent new new_test (allowed.Pruning k prune rep im h) = let d = prune_has_delete f w k prune rep im h in absurd ((q.tickets d.k d.t d.there).no_delete d.uuids d.plan d.work)
@@ -155,4 +164,5 @@ by_rule s log smooth prefixes m refusal has reply =
 pub no_rule : (command : Asked) (name : BlobName) → IsByRule command (NameTaken name) → ⊥
 no_rule (Snapshot of indices time) name h = h
 no_rule (Restore of place) name h = h
+no_rule (DeleteSnapshots names) name h = h
 no_rule command name h = h

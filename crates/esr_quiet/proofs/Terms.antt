@@ -13,8 +13,9 @@ use Rattle.esr_core.specs.Turns.{plain_ticket}
 use Rattle.esr_core.specs.Entry.{Asked, Snapshot, Clone, DeleteSnapshots, Restore, Cleanup, Given, GivenShard, GivenFinalize, GivenDrop, GivenRestore, Read, ReadBlob, RestoredShard, CheckedAll, DrawTest, CommitTest, ReadFails, Step, AskStep, TakeStep, DrawStep, BeginStep, CommitStep, LatestStep, FetchStep, RaiseStep, SettleStep, DoneStep, FailedStep, FinishStep, DroppedStep, ElectStep, ReadStep, DeposedAt, StaleTerm, DepotFault, Reply, Gave, DrawnFrom, WasDone, WasThere, WasFetched, HasEnded, Refused, AcceptedRestore, Moment, GivenDelete, Prune, PruneStep}
 use Rattle.esr_core.specs.After.{asked, taken_shard, taken_restore_shard, taken_restore, taken_by, read_told, shard_over, read_over, read_step, read_by, test_left, shard_of, with_given, committing, told_blob, fetching, settled_by, settled_of, done_by, done_of, is_stale, failed_by, failed_of, dropped_of, done_step, has_text, fallen, is_latest, faulted, answered, after}
 use Rattle.esr_core.specs.Allowed as allowed
-use Rattle.esr_core.specs.Allowed.{PruneAllows, RestoreAllows, OpeningRestore, NotListed, NamedByDelete, FullOfRestores, ReadAllows, ReadFound, ReadMissing, ReadFault, RestoringShard, ReaderFailing, CheckingAll, CheckFailing, VerifyAllows, DrawingTest, TestSpent, BeginningTest, BeginTestFails, CommittingTest, TestTaken, CommitTestFails, RemovingTests, RemoveTestsFails, VerifyingAll, VerifyFailing, Allows, Allowed}
+use Rattle.esr_core.specs.Allowed.{PruneAllows, DeleteAllows, RestoreAllows, OpeningRestore, NotListed, NamedByDelete, FullOfRestores, ReadAllows, ReadFound, ReadMissing, ReadFault, RestoringShard, ReaderFailing, CheckingAll, CheckFailing, VerifyAllows, DrawingTest, TestSpent, BeginningTest, BeginTestFails, CommittingTest, TestTaken, CommitTestFails, RemovingTests, RemoveTestsFails, VerifyingAll, VerifyFailing, Allows, Allowed}
 use Rattle.esr_core.specs.History.{world_from}
+use Rattle.esr_core.proofs.AskedDeletes.{delete_leaves}
 use Rattle.esr_core.proofs.PruneFrames.{PruneStays, prune_stays, prune_fault_stays}
 use Rattle.esr_desk.specs.Start.{Start, formats_of, world_of, Legal}
 use Rattle.esr_quiet.specs.Smooth.{AreUnelected}
@@ -41,6 +42,7 @@ present_change w k g (Some t) there like h = put w k (g t) (like t ∙ h k t the
 
 present_asked : (w : World) (command : Asked) → ArePresent w → ArePresent (asked w command)
 present_asked w (Snapshot name indices moment) h = h
+present_asked w (DeleteSnapshots names) h = subst ArePresent (sym (delete_leaves w names)) h
 present_asked w command h = h
 
 present_shard : (w : World) (o : ℕ) (op : Op) (base : Option ℕ) (s : Option ShardWork) → ArePresent w → ArePresent (taken_shard w o op base s)
@@ -139,6 +141,7 @@ present_prune w new k p h j u there = elim p.tickets [
 
 present_step : (f : Formats) (w : World) (k : ℕ) (step : Step) (reply : Reply) (image : Option Image) → step ≢ ElectStep → ArePresent w → ArePresent (done_step f w k step reply image)
 present_step f w k (AskStep (Snapshot name indices moment)) reply image none h = present_asked w (Snapshot name indices moment) h
+present_step f w k (AskStep (DeleteSnapshots names)) reply image none h = present_asked w (DeleteSnapshots names) h
 present_step f w k (AskStep (Restore name place)) (AcceptedRestore o uuid indices) image none h = h
 present_step f w k TakeStep (Gave ticket op unit) image none h = present_taken f w op unit (fin.get w.ops op) h
 present_step f w k (DrawStep count) reply image none h = present_change w k (λ t. record t { first = w.next_id; drawn = count }) (fin.get w.tickets k) refl (λ t. refl) h
@@ -185,7 +188,7 @@ present_fault f w k (ReadStep (CommitTest name)) image none h = present_left w n
 present_fault f w k (PruneStep prune) image none h = present_prune w _ k (prune_fault_stays f w k prune image) h
 present_fault f w k (AskStep (Snapshot name indices moment)) image none h = present_fallen f w _ image h (present_step f w k (AskStep (Snapshot name indices moment)) HasEnded image none h)
 present_fault f w k (AskStep (Clone source name indices moment)) image none h = present_fallen f w w image h h
-present_fault f w k (AskStep (DeleteSnapshots names)) image none h = present_fallen f w w image h h
+present_fault f w k (AskStep (DeleteSnapshots names)) image none h = present_fallen f w (asked w (DeleteSnapshots names)) image h (present_step f w k (AskStep (DeleteSnapshots names)) HasEnded image none h)
 present_fault f w k (AskStep (Restore name place)) image none h = h
 present_fault f w k (AskStep Cleanup) image none h = present_fallen f w w image h h
 present_fault f w k RaiseStep image none h = present_fallen f w _ image h (present_step f w k RaiseStep HasEnded image none h)
@@ -216,6 +219,14 @@ restores_now f w name reply image (OpeningRestore o uuid indices im acc) = tt
 restores_now f w name reply image (NotListed im none) = tt
 restores_now f w name reply image (NamedByDelete uuid d im listed named) = tt
 restores_now f w name reply image (FullOfRestores uuid im listed spared full) = tt
+
+deletes_now : (w : World) (names : List Bytes) (reply : Reply) → DeleteAllows w names reply → NotStale reply
+deletes_now w names reply (allowed.GoingInto acc) = tt
+deletes_now w names reply (allowed.NotNamed place clear first) = tt
+deletes_now w names reply (allowed.CloneStands o clear named lowest) = tt
+deletes_now w names reply (allowed.RestoreStands o clear named no_clone lowest) = tt
+deletes_now w names reply (allowed.FullOfOps may new full) = tt
+deletes_now w names reply (allowed.DeleteFault acc) = tt
 
 reads_now : (f : Formats) (w : World) (k : ℕ) (read : Read) (reply : Reply) (image : Option Image) → ReadAllows f w k read reply image → NotStale reply
 reads_now f w k read reply image (ReadFound j name im stored by there) = tt
@@ -248,6 +259,7 @@ allowed_now f size w h who step reply image (allowed.RaiseStale k im may apart s
 allowed_now f size w h who step reply image (allowed.SettleStale k n t swapped im may apart same) = apart (h k t may.out.there)
 allowed_now f size w h who step reply image (allowed.DropStale k im may apart same) = apart (h k may.t may.out.there)
 allowed_now f size w h who step reply image (allowed.AskingRestore name place rep im a same) = restores_now f w name rep im a
+allowed_now f size w h who step reply image (allowed.AskingDelete names rep im a same) = deletes_now w names rep a
 allowed_now f size w h who step reply image (allowed.Reading k read rep im a same) = reads_now f w k read rep im a
 allowed_now f size w h who step reply image (allowed.Verifying read rep im a) = verifies_now f w read rep im a
 allowed_now f size w h who step reply image (allowed.Pruning k prune rep im a) = prunes_now f w h k prune rep im a

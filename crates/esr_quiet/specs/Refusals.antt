@@ -1,7 +1,7 @@
 -- The refusals that may come where nothing fails.
 use Rattle.std.specs.Prelude.{◌≡◌, List}
 use Rattle.esr_model.specs.Values.{Has}
-use Rattle.esr_core.specs.Entry.{Asked, Snapshot, Restore, AskStep, Refusal, NameInUse, TooMany, NoSnapshot, BeingDeleted, Refused, Moment}
+use Rattle.esr_core.specs.Entry.{Asked, Snapshot, DeleteSnapshots, Restore, AskStep, Refusal, NameInUse, TooMany, NoSnapshot, BeingDeleted, CloneRunning, RestoreRunning, Refused, Moment}
 
 -- a rule of accepting refused a snapshot
 abbrev pub RefusesSnapshot : Refusal → Type 0
@@ -16,11 +16,20 @@ RefusesRestore (BeingDeleted op) = Unit {0}
 RefusesRestore (TooMany limit) = Unit {0}
 RefusesRestore refusal = ⊥
 
--- A rule of accepting refused the command. Clones, deletes and cleanups are so far refused while a cleanup is open, and none
--- is open here.
+-- or a delete
+abbrev pub RefusesDelete : Refusal → Type 0
+RefusesDelete (NoSnapshot place) = Unit {0}
+RefusesDelete (CloneRunning op) = Unit {0}
+RefusesDelete (RestoreRunning op) = Unit {0}
+RefusesDelete (TooMany limit) = Unit {0}
+RefusesDelete refusal = ⊥
+
+-- A rule of accepting refused the command. Clones and cleanups are so far refused while a cleanup is open, and none is open
+-- here.
 abbrev pub IsByRule : Asked → Refusal → Type 0
 IsByRule (Snapshot name indices moment) refusal = RefusesSnapshot refusal
 IsByRule (Restore name place) refusal = RefusesRestore refusal
+IsByRule (DeleteSnapshots names) refusal = RefusesDelete refusal
 IsByRule command refusal = ⊥
 
 -- a command was asked for

@@ -6,7 +6,7 @@ use Rattle.esr_model.specs.Shelf.{Shelved}
 use Rattle.esr_model.specs.Image.{Image}
 use Rattle.esr_model.specs.Kept.{Kept}
 use Rattle.esr_core.specs.World.{Opened}
-use Rattle.esr_core.specs.Entry.{Restore, AskStep, FailedStep, Why, ElectStep, ReadStep, CheckedAll, DrawTest, ReadFails, Reply, HasEnded, Refused, DepotFault, IdsSpent, GenerationsSpent, TermsSpent, Moment}
+use Rattle.esr_core.specs.Entry.{AsksNoDelete, Restore, AskStep, FailedStep, Why, ElectStep, ReadStep, CheckedAll, DrawTest, ReadFails, Reply, HasEnded, Refused, DepotFault, IdsSpent, GenerationsSpent, TermsSpent, Moment}
 use Rattle.esr_core.specs.History.{AllKnown, AreTold, AreHonest}
 use Rattle.esr_desk.specs.Start.{Start, formats_of, Legal}
 use Rattle.esr_desk.specs.Once.{AreOnce}
@@ -31,8 +31,12 @@ AreUnspent log = (m : Moment) → Has log m → IsSpent m.entry.reply → ⊥
 abbrev pub AreUnelected : List Moment → Type 0
 AreUnelected log = (m : Moment) → Has log m → m.entry.step ≢ ElectStep
 
+-- no delete was asked for
+abbrev pub NoDeleteAsked : List Moment → Type 0
+NoDeleteAsked log = (m : Moment) → Has log m → AsksNoDelete m.entry.step
+
 -- The container told its image, which was kept, at the start and at each moment, and no call of it failed; the sources tell
--- all files, and no shard that was asked for fails.
+-- all files, and no shard that was asked for fails. No delete was open at the start, and none was asked for.
 pub record IsSmooth (s : Start) (log : List Moment) : Type 0 where
   pub tells : s.tells ≡ true
   pub quiet : s.quiet ≡ true
@@ -42,6 +46,7 @@ pub record IsSmooth (s : Start) (log : List Moment) : Type 0 where
   pub kept : Kept (formats_of s) image shelf
   pub opened : Opened (formats_of s) image s.world
   pub no_deletes : s.world.deletes ≡ fin.empty
+  pub no_delete_asked : NoDeleteAsked log
   pub legal : Legal s log
   pub told : AreTold log
   pub honest : AreHonest (formats_of s) s.world log

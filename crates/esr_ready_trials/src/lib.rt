@@ -2,6 +2,8 @@
 //! Each is proved; the bodies are empty.
 #![tactic(auto)]
 
+mod merging;
+
 ghost use Rattle.std.specs.Prelude.{◌≡◌, ℕ, [], ◌∷◌, List, Some};
 ghost use Rattle.std.specs.FinMap as fin;
 ghost use Rattle.esr_model.specs.Values.{ShardResult};
@@ -9,6 +11,11 @@ ghost use Rattle.esr_core.specs.World.{World, Op};
 ghost use Rattle.esr_core.specs.Ready.{SwapIsOut, ReadyFinalize, ReadyDelete, ReadyCleanup};
 ghost use Rattle.esr_core.specs.Turns.{AskDelete, MergeDelete};
 ghost use Rattle.esr_ready_trials.specs.Rows.{bare, delete, cleanup, one, two, with_open};
+
+pub use merging::{
+    a_delete_aborts_what_is_being_made, a_delete_goes_into_one_that_waits,
+    a_delete_joins_one_that_runs, a_delete_of_less_is_a_new_op, the_first_delete_is_a_new_op,
+};
 
 /// A snapshot without shards isn't finalized behind an open delete, but before one, and where none is open.
 pub fn a_snapshot_without_shards_waits_for_a_delete()

@@ -7,6 +7,7 @@ use Rattle.esr_model.specs.Values.{Has, Formats}
 use Rattle.esr_model.specs.Delete.{PrunedShard, left_uuids, uuids_of, deleted_root}
 use Rattle.esr_core.specs.World.{Op, Deletion, Work, Shard, Finalize, Deleting, Drop, Swap, Ticket}
 use Rattle.esr_core.specs.Pruning.{delete_swap, planned_work, planned}
+use Rattle.esr_core.specs.Turns.{Aborts}
 use Rattle.esr_core.proofs.Reading.{some_same}
 use Rattle.esr_core.proofs.Maps.{get_was, get_left}
 use Rattle.esr_core.proofs.Plans.{own_is}
@@ -107,6 +108,12 @@ ops_new ops o v next new p q is = elim (get_was nat_cmp_total nat_cmp-IsAntisymm
 pub ops_less : (ops : FinMap nat_cmp Op) (o next : ℕ) → OpsCome ops (fin.remove ops o) next
 ops_less ops o next p q is = inl (p, q, (get_left nat_cmp_total nat_cmp-IsAntisymmetric ops o p q is).1, refl)
 
+-- those that a delete aborts keep their uuids
+pub ops_aborted : (was now : FinMap nat_cmp Op) (by next : ℕ) → Aborts was now by → OpsCome was now next
+ops_aborted was now by next a o op there =
+    let (old, is, same) = a.was o op there in
+    inl (o, old, is, elim same [ inl e ↦ ap (λ (x : Op). x.uuid) (sym e) | inr e ↦ ap (λ (x : Op). x.uuid) (sym e) ])
+
 -- ---- open deletes
 
 abbrev AreNoCleanups : FinMap nat_cmp Deletion → Type 0
@@ -118,5 +125,11 @@ clean_less deletes k none d x there = none d x (get_left nat_cmp_total nat_cmp-I
 pub clean_put : (deletes : FinMap nat_cmp Deletion) (k : ℕ) (x v : Deletion) → fin.get deletes k ≡ Some x → v.clean ≡ x.clean → AreNoCleanups deletes → AreNoCleanups (fin.insert deletes k v)
 clean_put deletes k x v there same none d y is = elim (get_was nat_cmp_total nat_cmp-IsAntisymmetric deletes k v d y is) [
   | inl s ↦ ap (λ (z : Deletion). z.clean) (sym s.1) ∙ same ∙ none k x there
+  | inr s ↦ none d y s.1
+]
+
+pub clean_new : (deletes : FinMap nat_cmp Deletion) (k : ℕ) (v : Deletion) → v.clean ≡ false → AreNoCleanups deletes → AreNoCleanups (fin.insert deletes k v)
+clean_new deletes k v plain none d y is = elim (get_was nat_cmp_total nat_cmp-IsAntisymmetric deletes k v d y is) [
+  | inl s ↦ ap (λ (z : Deletion). z.clean) (sym s.1) ∙ plain
   | inr s ↦ none d y s.1
 ]

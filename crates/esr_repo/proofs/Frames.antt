@@ -11,14 +11,16 @@ use Rattle.esr_model.specs.Delete.{PrunedShard, kept_count}
 use Rattle.esr_core.specs.World.{World, Op, Deletion, ShardWork, Done, Finalize, Deleting, Shard, Drop, Swap, Ticket, ReadState, Restored, NotRestored, RestoreShard, Restoring, Reader, swap, marked, info_of, shelved_of, record_of}
 use Rattle.esr_core.specs.Restores.{restore_shard}
 use Rattle.esr_core.specs.Pruning.{planned}
+use Rattle.esr_core.specs.Deletes.{with_named, named_uuids, waiting_delete, running_delete, aborted_ops, delete_opened, delete_merged, delete_by, asked_delete}
 use Rattle.esr_core.specs.Ids.{InTerm}
 use Rattle.esr_core.specs.Steps.{with_ticket, noting, given, completing, shard_ticket, final_ticket}
 use Rattle.esr_core.specs.Turns.{plain_ticket, fails}
 use Rattle.esr_core.specs.Entry.{Asked, Snapshot, Clone, DeleteSnapshots, Restore, Cleanup, Given, GivenShard, GivenFinalize, GivenDrop, GivenRestore, GivenDelete, Read, ReadBlob, RestoredShard, CheckedAll, DrawTest, CommitTest, ReadFails, Prune, FetchShard, PlanShards, SettlePruned, RemoveDoomed, EndDelete, DeleteFails, Step, AskStep, TakeStep, DrawStep, BeginStep, CommitStep, LatestStep, FetchStep, RaiseStep, SettleStep, DoneStep, FailedStep, FinishStep, DroppedStep, ElectStep, ReadStep, PruneStep, DepotFault, Reply, AcceptedRestore, DrawnFrom, Gave, WasDone, WasThere, WasFetched, HasEnded, Refused, Moment}
 use Rattle.esr_core.specs.After.{asked_op, new_names, asked, taken_shard, taken_restore_shard, taken_restore, taken_by, shard_of, with_given, committing, told_blob, fetching, settled_by, settled_of, done_by, done_of, is_stale, failed_by, failed_of, dropped_of, delete_settled_by, delete_settled, delete_failed_by, delete_failed, prune_step, read_told, shard_over, read_over, read_step, read_by, done_step, swaps_record, has_text, fallen, is_latest, test_left, faulted, answered, stepped}
 use Rattle.esr_core.specs.Allowed.{NoCleanup}
+use Rattle.esr_core.proofs.AskedDeletes.{aborts}
 use Rattle.esr_repo.specs.Log.{asks_container, calls}
-use Rattle.esr_repo.proofs.Coming.{DeletesCome, come_same, come_again, come_settled, come_plain, come_given, come_planned, OpsCome, ops_same, ops_put, ops_new, ops_less, clean_less, clean_put}
+use Rattle.esr_repo.proofs.Coming.{DeletesCome, come_same, come_again, come_settled, come_plain, come_given, come_planned, OpsCome, ops_same, ops_put, ops_new, ops_less, ops_aborted, clean_less, clean_put, clean_new}
 
 swaps : true ≡ false → ⊥
 swaps e = cc
@@ -69,6 +71,43 @@ frame_change : (w : World) (k : ℕ) (g : Ticket → Ticket) (o : Option Ticket)
 frame_change w k g None there same = frame_same None w
 frame_change w k g (Some t) there same = frame_again w k t (g t) there (same t)
 
+-- ---- ask
+
+-- a delete that waits names more
+frame_merged : (w : World) (names : List Bytes) (d : ℕ) (x : Option Deletion) → fin.get w.deletes d ≡ x → Frame None w (delete_merged w names d x)
+frame_merged w names d None is = frame_same None w
+frame_merged w names d (Some x) is =
+    record {
+      deletes = clean_put w.deletes d x (record x { uuids = with_named w x.uuids names }) is refl;
+      come = come_same None w.tickets;
+      uuids = ops_aborted w.ops (aborted_ops w (named_uuids w names) d) d w.next_id (aborts w (named_uuids w names) d);
+      next = λ t. le_same w.next_id;
+      ops = le_next w.next_op;
+      tickets = le_next w.next_ticket;
+      caller = refl;
+    }
+
+-- a delete more
+frame_opened : (w : World) (uuids : List ℕ) → Frame None w (delete_opened w uuids)
+frame_opened w uuids =
+    record {
+      deletes = clean_new w.deletes w.next_op (record { uuids = uuids; clean = false; failed = false }) refl;
+      come = come_same None w.tickets;
+      uuids = ops_aborted w.ops (aborted_ops w uuids w.next_op) w.next_op w.next_id (aborts w uuids w.next_op);
+      next = λ t. le_same w.next_id;
+      ops = le_same (suc w.next_op);
+      tickets = le_next w.next_ticket;
+      caller = refl;
+    }
+
+frame_delete : (w : World) (names : List Bytes) → Frame None w (asked_delete w names)
+frame_delete w names = by (waiting_delete w) (running_delete w (named_uuids w names))
+  where
+    by : (waiting running : Option ℕ) → Frame None w (delete_by w names waiting running)
+    by (Some d) running = frame_merged w names d (fin.get w.deletes d) refl
+    by None (Some d) = frame_same None w
+    by None None = frame_opened w (named_uuids w names)
+
 frame_asked : (w : World) (command : Asked) → Frame None w (asked w command)
 frame_asked w (Snapshot name indices moment) =
     record {
@@ -80,6 +119,7 @@ frame_asked w (Snapshot name indices moment) =
       tickets = le_next w.next_ticket;
       caller = refl;
     }
+frame_asked w (DeleteSnapshots names) = frame_delete w names
 frame_asked w command = frame_same None w
 
 -- ---- take
@@ -315,6 +355,7 @@ later_term a b lt = omega (arith, lt)
 
 frame_step : (f : Formats) (w : World) (k : ℕ) (step : Step) (reply : Reply) (image : Option Image) → Frame (settler step k) w (done_step f w k step reply image)
 frame_step f w k (AskStep (Snapshot name indices moment)) reply image = frame_asked w (Snapshot name indices moment)
+frame_step f w k (AskStep (DeleteSnapshots names)) reply image = frame_asked w (DeleteSnapshots names)
 frame_step f w k (AskStep (Restore name place)) (AcceptedRestore o uuid indices) image =
     record { deletes = λ h. h; come = come_same None w.tickets; uuids = ops_same w.ops w.next_id; next = λ t. le_same w.next_id; ops = le_same (suc w.next_op); tickets = le_next w.next_ticket; caller = refl }
 frame_step f w k TakeStep (Gave ticket op unit) image = frame_taken f w op unit (fin.get w.ops op) refl
@@ -361,7 +402,7 @@ frame_fault f w k LatestStep image = frame_tried w k
 frame_fault f w k (BeginStep name) image = frame_either None w _ w (is_latest name) (frame_tried w k) (frame_same None w)
 frame_fault f w k (AskStep (Snapshot name indices moment)) image = frame_fallen None f w _ image (frame_step f w k (AskStep (Snapshot name indices moment)) HasEnded image)
 frame_fault f w k (AskStep (Clone source name indices moment)) image = frame_fallen None f w w image (frame_same None w)
-frame_fault f w k (AskStep (DeleteSnapshots names)) image = frame_fallen None f w w image (frame_same None w)
+frame_fault f w k (AskStep (DeleteSnapshots names)) image = frame_fallen None f w (asked_delete w names) image (frame_delete w names)
 frame_fault f w k (AskStep Cleanup) image = frame_fallen None f w w image (frame_same None w)
 frame_fault f w k RaiseStep image = frame_fallen None f w _ image (frame_step f w k RaiseStep HasEnded image)
 frame_fault f w k SettleStep image = frame_fallen (Some k) f w _ image (frame_step f w k SettleStep HasEnded image)
@@ -497,6 +538,7 @@ rests_test w name (Some was) now = rests_same w
 
 rests_step : (f : Formats) (w : World) (k : ℕ) (step : Step) (reply : Reply) (image : Option Image) → swaps_record step ≡ false → Rests w (done_step f w k step reply image)
 rests_step f w k (AskStep (Snapshot name indices moment)) reply image e = absurd (swaps e)
+rests_step f w k (AskStep (DeleteSnapshots names)) reply image e = absurd (swaps e)
 rests_step f w k (AskStep (Restore name place)) (AcceptedRestore o uuid indices) image e = record { root = refl; deposed = refl }
 rests_step f w k (ReadStep read) reply image e = rests_read f w k read reply image
 rests_step f w k RaiseStep reply image e = absurd (swaps e)

@@ -41,11 +41,13 @@ use Rattle.esr_core.specs.Steps.{Removes, IsOut, noting, with_ticket, shard_tick
 use Rattle.esr_core.specs.Turns.{plain_ticket}
 use Rattle.esr_core.specs.Pruning.{delete_swap, planned_work, planned, dooms}
 use Rattle.esr_core.specs.Restores.{AreApart, restore_shard}
+use Rattle.esr_core.specs.Deletes.{asked_delete}
 use Rattle.esr_core.specs.Tracked.{Named, FinalTracked, Tracked}
 use Rattle.esr_core.specs.Entry.{Snapshot, Restore, Clone, DeleteSnapshots, Cleanup, Given, GivenShard, GivenFinalize, GivenDrop, GivenRestore, GivenDelete, Read, ReadBlob, RestoredShard, CheckedAll, DrawTest, CommitTest, ReadFails, Prune, FetchShard, PlanShards, SettlePruned, RemoveDoomed, EndDelete, DeleteFails, Step, AskStep, TakeStep, DrawStep, BeginStep, CommitStep, LatestStep, FetchStep, RaiseStep, SettleStep, DoneStep, FailedStep, FinishStep, DroppedStep, ElectStep, ReadStep, PruneStep, DepotFault, DeposedAt, Reply, Gave, DrawnFrom, WasDone, WasThere, WasFetched, WasSettled, HasEnded, Refused, AcceptedRestore, Moment}
 use Rattle.esr_core.specs.After.{taken_shard, taken_by, taken_restore, taken_restore_shard, shard_of, with_given, committing, told_blob, fetching, settled_by, settled_of, done_by, done_of, is_stale, failed_by, failed_of, dropped_of, delete_failed_by, delete_failed, read_told, read_over, shard_over, read_step, read_by, prune_step, done_step, swaps_record, has_text, fallen, is_latest, tried, test_left, faulted, answered, blobs_in, after}
 use Rattle.esr_core.specs.Allowed as allowed
 use Rattle.esr_core.specs.Allowed.{FetchingShard, ShardMissing, FetchShardFails, Planning, PlanSpent, SettlingDelete, SettleDeleteStale, SettleDeleteFails, RemovingDoomed, RemoveDoomedFails, EndingDelete, FailingDelete, PruneAllows, NoDeleting, HaveGenerations, RemovesDoomed, MayRemoveTests, Told, SameBlobs, Adds, WasMade, IsInInfo, AreIndicesIn, Settles, VerifyAllows, Allows, Allowed}
+use Rattle.esr_core.proofs.AskedDeletes.{delete_leaves}
 use Rattle.esr_core.proofs.PruneFrames.{SameTickets, prune_stays}
 use Rattle.esr_core.proofs.Maps.{get_same, get_other, get_kept, split, texts_same}
 use Rattle.esr_core.proofs.Adds.{text_one}
@@ -227,6 +229,11 @@ fetching_work : (name : BlobName) (bytes : Option Bytes) (t : Ticket) → (fetch
 fetching_work name None t = refl
 fetching_work name (Some bytes) t = refl
 
+-- ---- ask
+
+keeps_delete : (w : World) (names : List Bytes) → Keeps w (asked_delete w names)
+keeps_delete w names = subst (Keeps w) (sym (delete_leaves w names)) (record { root = refl; works = works_same w.tickets; none = λ h. h })
+
 -- ---- take
 
 keeps_shard : (w : World) → AreBelow w → (o : ℕ) (op : Op) (base : Option ℕ) (s : Option ShardWork) → Keeps w (taken_shard w o op base s)
@@ -354,6 +361,7 @@ keeps_prune f w k prune reply image e =
 
 keeps_done_step : (f : Formats) (w : World) → AreBelow w → (k : ℕ) (step : Step) (reply : Reply) (image : Option Image) → IsNoSettle step → Keeps w (done_step f w k step reply image)
 keeps_done_step f w below k (AskStep (Snapshot name indices moment)) reply image no_settle = record { root = refl; works = works_same w.tickets; none = λ h. h }
+keeps_done_step f w below k (AskStep (DeleteSnapshots names)) reply image no_settle = keeps_delete w names
 keeps_done_step f w below k (AskStep (Restore name place)) (AcceptedRestore o uuid indices) image no_settle = record { root = refl; works = works_same w.tickets; none = λ h. h }
 keeps_done_step f w below k TakeStep (Gave ticket op unit) image no_settle = keeps_taken f w below op unit (fin.get w.ops op)
 keeps_done_step f w below k (DrawStep n) reply image no_settle =
@@ -389,7 +397,7 @@ keeps_fault f w below k LatestStep image no_settle = keeps_change w k (λ t. rec
 keeps_fault f w below k (BeginStep name) image no_settle = keeps_either w (tried w k) w (is_latest name) (keeps_change w k (λ t. record t { tried_latest = true }) (λ t. refl) (fin.get w.tickets k) refl) (keeps_same w)
 keeps_fault f w below k (AskStep (Snapshot name indices moment)) image no_settle = keeps_fallen f w _ image (keeps_done_step f w below k (AskStep (Snapshot name indices moment)) HasEnded image tt)
 keeps_fault f w below k (AskStep (Clone source name indices moment)) image no_settle = keeps_fallen f w w image (keeps_same w)
-keeps_fault f w below k (AskStep (DeleteSnapshots names)) image no_settle = keeps_fallen f w w image (keeps_same w)
+keeps_fault f w below k (AskStep (DeleteSnapshots names)) image no_settle = keeps_fallen f w (asked_delete w names) image (keeps_delete w names)
 keeps_fault f w below k (AskStep Cleanup) image no_settle = keeps_fallen f w w image (keeps_same w)
 keeps_fault f w below k RaiseStep image no_settle = keeps_fallen f w _ image (keeps_done_step f w below k RaiseStep HasEnded image tt)
 keeps_fault f w below k SettleStep image no_settle = absurd no_settle
@@ -526,6 +534,7 @@ module _ (f : Formats) (size : ℕ) (w : World) where
   allowed_kept who step reply image tests (allowed.Electing im room same) plain = same_kept im same
   allowed_kept who step reply image tests (allowed.Looking im same) plain = same_kept im same
   allowed_kept who step reply image tests (allowed.AskingRestore name place r im h same) plain = same_kept im same
+  allowed_kept who step reply image tests (allowed.AskingDelete names r im h same) plain = same_kept im same
   allowed_kept who step reply image tests (allowed.Verifying read r im h) plain = verified_kept read r im tests h
   allowed_kept who step reply image tests (allowed.Reading k read r im h same) plain = same_kept im same
   allowed_kept who step reply image tests (allowed.Cleaning command d x im recorded there clean same) plain = same_kept im same

@@ -15,6 +15,7 @@ pub mod Ended
 pub mod Written
 pub mod Swapping
 pub mod Accepts
+pub mod AskedDeletes
 pub mod Doing
 pub mod Taken
 pub mod Reading

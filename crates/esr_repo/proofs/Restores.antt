@@ -107,8 +107,10 @@ may_restore s log name place uuid indices p o next may has o_is plan_is next_is 
 
 -- ---- it is refused
 
-pub unlisted_refused : (s : Start) (log : List Moment) (name place : Bytes) → ((uuid : ℕ) → IsListed (world_of s log) name uuid → ⊥) → MayRefuse s log 0 (AskStep (Restore name place)) (NoSnapshot 0)
-unlisted_refused s log name place none = record { plain = refl; allows = λ image tells same. AskingRestore name place _ image (NotListed image none) same }
+pub unlisted_refused : (s : Start) (log : List Moment) (name place : Bytes) (at : ℕ) → (at ≡ 0) × ((uuid : ℕ) → IsListed (world_of s log) name uuid → ⊥) → MayRefuse s log 0 (AskStep (Restore name place)) (NoSnapshot at)
+unlisted_refused s log name place at h =
+    subst (λ (n : ℕ). MayRefuse s log 0 (AskStep (Restore name place)) (NoSnapshot n)) (sym h.0)
+    (record { plain = refl; allows = λ image tells same. AskingRestore name place _ image (NotListed image h.1) same })
 
 pub deleted_refused : (s : Start) (log : List Moment) (name place : Bytes) (d : ℕ) → (uuid : ℕ) × IsListed (world_of s log) name uuid × IsBeingDeleted (world_of s log) uuid d → MayRefuse s log 0 (AskStep (Restore name place)) (BeingDeleted d)
 deleted_refused s log name place d h = record { plain = refl; allows = λ image tells same. AskingRestore name place _ image (NamedByDelete h.0 d image h.1 h.2) same }

@@ -12,9 +12,10 @@ use Rattle.esr_model.specs.Image.{Image}
 use Rattle.esr_core.specs.World.{World, Ticket, Swap, swap, record_of}
 use Rattle.esr_core.specs.Entry.{Snapshot, Clone, DeleteSnapshots, Cleanup, Step, AskStep, RaiseStep, SettleStep, DroppedStep, ElectStep, Prune, SettlePruned, PruneStep, Reply, HasEnded, Refused, DepotFault, Entry, Moment}
 use Rattle.esr_core.specs.After.{with_given, done_step, swaps_record, text_is, has_text, settled_by, settled_of, dropped_of, delete_settled_by, delete_settled, fallen, faulted, answered, blobs_in, after}
-use Rattle.esr_core.specs.Allowed.{Accepts, Raises, PruneAllows, SettlingDelete, SettleDeleteFails, Allows, SameBlobs, Told, Allowed}
+use Rattle.esr_core.specs.Allowed.{Accepts, Raises, DeleteAllows, GoingInto, DeleteFault, PruneAllows, SettlingDelete, SettleDeleteFails, Allows, SameBlobs, Told, Allowed}
 use Rattle.esr_core.specs.Allowed as allowed
 use Rattle.esr_core.specs.Left.{Leaves}
+use Rattle.esr_core.proofs.AskedDeletes.{delete_leaves}
 use Rattle.esr_root.specs.Root.{Root}
 use Rattle.esr_record.specs.Record.{Record}
 use Rattle.esr_meta.specs.Info.{Info}
@@ -117,7 +118,7 @@ module _ (f : Formats) (w : World) (who : ℕ) where
   swapped_live : (step : Step) → swaps_record step ≡ true → (done_step f w who step HasEnded None).deposed ≡ w.deposed
   swapped_live (AskStep (Snapshot name indices moment)) h = refl
   swapped_live (AskStep (Clone source name indices moment)) h = refl
-  swapped_live (AskStep (DeleteSnapshots names)) h = refl
+  swapped_live (AskStep (DeleteSnapshots names)) h = ap (λ (v : World). v.deposed) (delete_leaves w names)
   swapped_live (AskStep Cleanup) h = refl
   swapped_live RaiseStep h = given_live (λ t. record t { raised = Some w.pending }) (fin.get w.tickets who)
   swapped_live SettleStep h = settled_live (fin.get w.tickets who)
@@ -127,6 +128,10 @@ module _ (f : Formats) (w : World) (who : ℕ) where
   swapped_live step h = absurd (true≢false (sym h))
 
 -- where it may be answered it may fail
+delete_may_fail : {w : World} {names : List Bytes} {reply : Reply} → DeleteAllows w names reply → is_refused reply ≡ false → DeleteAllows w names (Refused DepotFault)
+delete_may_fail (GoingInto acc) a = DeleteFault acc
+delete_may_fail other a = absurd cc
+
 prune_may_fail : {f : Formats} {w : World} {who : ℕ} {prune : Prune} {reply : Reply} {image : Option Image} → PruneAllows f w who prune reply image → swaps_record (PruneStep prune) ≡ true → is_refused reply ≡ false
     → (left : Option Image) → SameBlobs w left → PruneAllows f w who prune (Refused DepotFault) left
 prune_may_fail (SettlingDelete k im s present same) h a left is = SettleDeleteFails k left s present is
@@ -135,6 +140,7 @@ prune_may_fail other h a left is = absurd cc
 may_fail : {f : Formats} {part_size : ℕ} {w : World} {who : ℕ} {step : Step} {reply : Reply} {image : Option Image} → Allows f part_size w who step reply image → swaps_record step ≡ true → is_refused reply ≡ false
     → (left : Option Image) → SameBlobs w left → Allows f part_size w who step (Refused DepotFault) left
 may_fail {f} {part_size} {w} (allowed.Accepting name indices moment o im acc same) h a left is = allowed.AskFails name indices moment left (subst (λ n. Accepts f w name indices moment n) acc.number acc) is
+may_fail (allowed.AskingDelete names reply im d same) h a left is = allowed.AskingDelete names (Refused DepotFault) left (delete_may_fail d a) is
 may_fail {f} {part_size} {w} (allowed.Raising k n im r same) h a left is = allowed.RaiseFails k left (subst (λ n. Raises f w k n) r.n_is r) is
 may_fail (allowed.Settling k im r same) h a left is = allowed.SettleFails k left r is
 may_fail (allowed.Dropping k im r same) h a left is = allowed.DropFails k left r is

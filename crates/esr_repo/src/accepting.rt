@@ -1,8 +1,9 @@
 //! What a repository keeps after a command was accepted, or why it is not.
 ghost use Rattle.std.specs.Prelude.{◌≡◌, ◌<◌, ◌^◌, List, length, IfOk, IfErr, IfSome};
-ghost use Rattle.esr_core.specs.Entry.{Asked, AskStep, Accepted, Moment};
+ghost use Rattle.esr_model.specs.Values.{Bytes};
+ghost use Rattle.esr_core.specs.Entry.{Asked, DeleteSnapshots, AskStep, Accepted, Moment};
 ghost use Rattle.esr_progress.specs.Asked.{asked_of, IsAskable};
-ghost use Rattle.esr_progress.specs.Accepting.{IsRefused, name_asked};
+ghost use Rattle.esr_progress.specs.Accepting.{IsRefused, IsDeleteRefused, name_asked};
 ghost use Rattle.esr_desk.specs.Entries.{step_of};
 ghost use Rattle.esr_desk.specs.Refusals.{refusal_of};
 ghost use Rattle.esr_desk.specs.Start.{Start, world_of};
@@ -44,7 +45,7 @@ fn index_names_copy(alloc: Global, names: &IndexNames) -> Result<IndexNames, All
 }
 
 /// A copy of the names of snapshots.
-fn snap_names_copy(alloc: Global, names: &SnapNames) -> Result<SnapNames, AllocError>
+pub(crate) fn snap_names_copy(alloc: Global, names: &SnapNames) -> Result<SnapNames, AllocError>
     ensures { IfOk result (λ copy. copy ≡ names.now) }
 {
     let mut copy = SnapNames::with_capacity(alloc, names.len())?;
@@ -103,8 +104,31 @@ fn command_refusal(refusal: Refusal) -> Option<EntryRefusal>
         Refusal::NameInUse { uuid } => Some(EntryRefusal::NameInUse { uuid }),
         Refusal::TooMany { limit } => Some(EntryRefusal::TooMany { limit }),
         Refusal::IdsSpent { next } => Some(EntryRefusal::IdsSpent { next }),
-        // Of a restore alone.
-        Refusal::NoSnapshot | Refusal::BeingDeleted { .. } => unreachable!(),
+        // Of restores and deletes.
+        Refusal::NoSnapshot { .. } => unreachable!(),
+        Refusal::BeingDeleted { .. } => unreachable!(),
+        Refusal::CloneRunning { .. } => unreachable!(),
+        Refusal::RestoreRunning { .. } => unreachable!(),
+    }
+}
+
+/// Why a delete is not accepted, as an entry tells it; of want of memory none does.
+fn delete_refusal(refusal: Refusal) -> Option<EntryRefusal>
+    requires { (s : Start) × (log : List Moment) × (names : List Bytes) × IsDeleteRefused (world_of s log) names refusal }
+    ensures { (s : Start) (log : List Moment) (names : List Bytes) → IsDeleteRefused (world_of s log) names refusal
+        → IfSome result (λ e. MayRefuse s log 0 (AskStep (DeleteSnapshots names)) (refusal_of e)) }
+{
+    match refusal {
+        Refusal::Memory => None,
+        Refusal::CleanupRunning { op } => Some(EntryRefusal::CleanupRunning { op }),
+        Refusal::NoSnapshot { place } => Some(EntryRefusal::NoSnapshot { place }),
+        Refusal::CloneRunning { op } => Some(EntryRefusal::CloneRunning { op }),
+        Refusal::RestoreRunning { op } => Some(EntryRefusal::RestoreRunning { op }),
+        Refusal::TooMany { limit } => Some(EntryRefusal::TooMany { limit }),
+        // Of other commands.
+        Refusal::NameInUse { .. } => unreachable!(),
+        Refusal::BeingDeleted { .. } => unreachable!(),
+        Refusal::IdsSpent { .. } => unreachable!(),
     }
 }
 
@@ -152,5 +176,46 @@ impl<D: Depot, K: Told> Repo<D, K> {
             next,
         };
         Ok((accepted.op, renewed))
+    }
+
+    /// A delete is not accepted, which changes nothing.
+    pub(crate) fn refuse_delete(&mut self, step: Step, refusal: Refusal) -> StepRefusal
+        requires live { IsLive K.start self.old }
+        requires why { (names : List Bytes) × (step_of step ≡ AskStep (DeleteSnapshots names)) × IsDeleteRefused (world_of K.start self.old) names refusal }
+        ensures { AddedOr K.start self.old self.new 0 (step_of step) result }
+    {
+        match delete_refusal(refusal) {
+            Some(refusal) => self.refuse(0, step, refusal),
+            None => StepRefusal::Memory,
+        }
+    }
+
+    /// The op that a delete of these snapshots is, or goes into, and what is kept then.
+    pub(crate) fn accepted_delete(
+        &self,
+        alloc: Global,
+        names: &SnapNames,
+    ) -> Result<(u64, Renewed), Refusal>
+        requires live { IsLive K.start self.now }
+        requires room { length self.now < 2 ^ 41 }
+        ensures ok { IfOk result (λ r. MaySwap K.start self.now 0 (AskStep (DeleteSnapshots names.now)) (Accepted r.0) r.1.cluster r.1.root r.1.left r.1.info r.1.progress r.1.next.number) }
+        ensures err { IfErr result (λ e. IsDeleteRefused (world_of K.start self.now) names.now e) }
+    {
+        self.rules();
+        let (list, op) = self
+            .plan()
+            .accept_delete(alloc, self.safe_root(), self.term(), names)?;
+        let mut cluster = self.record().try_clone(alloc)?;
+        cluster.ops = list.record_ops(alloc)?;
+        let next = self.next_id();
+        let renewed = Renewed {
+            cluster,
+            root: None,
+            left: None,
+            info: None,
+            progress: Some(list),
+            next,
+        };
+        Ok((op, renewed))
     }
 }

@@ -2,7 +2,7 @@
 ghost use Rattle.std.specs.Prelude.{length, ◌≡◌, ◌+◌, ◌<◌, ◌^◌, ◌≤ℤ◌, negsuc, ℕ, List, [], map, Option, Some, None, true, false, IfOk, IfSome, OnOk, OnErr};
 ghost use Rattle.esr_model.specs.Names.{Latest};
 ghost use Rattle.esr_model.specs.Values.{Bytes};
-ghost use Rattle.esr_core.specs.Entry.{Moment, AskStep, TakeStep, DrawStep, BeginStep, CommitStep, LatestStep, FetchStep, RaiseStep, SettleStep, DoneStep, FailedStep, FinishStep, DroppedStep, LookStep, Accepted, DrawnFrom, WasBegun, WasReplaced, RaisedTo, WasSettled, HasEnded, Looked};
+ghost use Rattle.esr_core.specs.Entry.{Moment, DeleteSnapshots, AskStep, TakeStep, DrawStep, BeginStep, CommitStep, LatestStep, FetchStep, RaiseStep, SettleStep, DoneStep, FailedStep, FinishStep, DroppedStep, LookStep, Accepted, DrawnFrom, WasBegun, WasReplaced, RaisedTo, WasSettled, HasEnded, Looked};
 ghost use Rattle.esr_core.specs.Allowed.{IsMetadata, latest_text};
 ghost use Rattle.esr_core.specs.After.{fetching};
 ghost use Rattle.esr_names.specs.Layout.{IsName};
@@ -11,7 +11,7 @@ ghost use Rattle.esr_formats.specs.Roots.{root_of, root_snap_of};
 ghost use Rattle.esr_formats.specs.Clusters.{count_of};
 ghost use Rattle.esr_results.specs.Results.{result_of};
 ghost use Rattle.esr_progress.specs.Asked.{asked_of, IsAskable};
-ghost use Rattle.esr_desk.specs.Entries.{why_of};
+ghost use Rattle.esr_desk.specs.Entries.{why_of, step_of};
 ghost use Rattle.esr_desk.specs.Start.{Start, ticket_of, told_bytes};
 ghost use Rattle.esr_desk.specs.Outcome.{commit_reply, fetch_reply, take_reply};
 ghost use Rattle.esr_desk.specs.Conditions.{CanDraw, CanCommit, CanPut, CanBegin, Holds, CanFetch, CanRaise, CanSettle, CanEnd, CanFail, CanFinish, CanDrop};
@@ -19,12 +19,22 @@ ghost use Rattle.esr_desk.specs.Readers.{TookUnit, IsBare};
 ghost use Rattle.esr_desk.specs.declared.refusal.StepRefusal.{StepRefusal};
 ghost use Rattle.esr_repo.specs.Next.{Did};
 
-use crate::accepting::command_copy;
+use crate::accepting::{command_copy, snap_names_copy};
 use crate::{Repo, Told};
 use esr_depot::Depot;
 use esr_desk::{Answer, Look, Step, StepRefusal, Unit};
+use esr_names::SnapNames;
 use esr_progress::Command;
-use std::alloc::Global;
+use std::alloc::{AllocError, Global};
+
+/// The step that asks for a delete.
+fn deletes(alloc: Global, names: &SnapNames) -> Result<Step, AllocError>
+    ensures { IfOk result (λ step. step_of step ≡ AskStep (DeleteSnapshots names.now)) }
+{
+    let names = snap_names_copy(alloc, names)?;
+    let command = Command::Delete { names };
+    Ok(Step::Ask { command })
+}
 
 impl<D: Depot, K: Told> Repo<D, K> {
     /// Asks for a command, which is accepted as the op that is answered.
@@ -46,6 +56,22 @@ impl<D: Depot, K: Told> Repo<D, K> {
                 Ok(op)
             }
             Err(refusal) => Err(self.refuse_command(step, refusal)),
+        }
+    }
+
+    /// Asks for a delete of the snapshots of these names, each once. It is the op that is answered, or goes into that one.
+    pub fn delete(&mut self, alloc: Global, names: &SnapNames) -> Result<u64, StepRefusal>
+        requires room { length self.old < 2 ^ 41 }
+        ensures { Did K.start self.old self.new 0 (AskStep (DeleteSnapshots names.now)) (λ op. Accepted op) result }
+    {
+        self.check(0, deletes(alloc, names)?)?;
+        let step = deletes(alloc, names)?;
+        match self.accepted_delete(alloc, names) {
+            Ok((op, renewed)) => {
+                self.swap(alloc, 0, step, Answer::Accepted { op }, renewed)?;
+                Ok(op)
+            }
+            Err(refusal) => Err(self.refuse_delete(step, refusal)),
         }
     }
 

@@ -44,7 +44,7 @@ fn restore_refusal(refusal: Refusal) -> EntryRefusal
         → MayRefuse s log 0 (AskStep (Restore name place)) (refusal_of result) }
 {
     match refusal {
-        Refusal::NoSnapshot => EntryRefusal::NoSnapshot { place: 0 },
+        Refusal::NoSnapshot { place } => EntryRefusal::NoSnapshot { place },
         Refusal::BeingDeleted { op } => EntryRefusal::BeingDeleted { op },
         Refusal::TooMany { limit } => EntryRefusal::TooMany { limit },
         // Of other commands.
@@ -52,6 +52,8 @@ fn restore_refusal(refusal: Refusal) -> EntryRefusal
         Refusal::CleanupRunning { .. } => unreachable!(),
         Refusal::NameInUse { .. } => unreachable!(),
         Refusal::IdsSpent { .. } => unreachable!(),
+        Refusal::CloneRunning { .. } => unreachable!(),
+        Refusal::RestoreRunning { .. } => unreachable!(),
     }
 }
 

@@ -4,3 +4,4 @@ pub mod Sorting
 pub mod FirstEnds
 pub mod Firsts
 pub mod Restoring
+pub mod Aborting

@@ -12,13 +12,14 @@ use Rattle.esr_report.specs.declared.restores.ShardEnd.{ShardEnd as CodeEnd}
 use Rattle.esr_report.specs.declared.restores.ShardEnd.TheVariants as code
 use Rattle.esr_report.specs.declared.restores.TicketEnd.{TicketEnd}
 use Rattle.esr_report.specs.declared.told.ToldEnds.{ToldEnds}
-use Rattle.esr_report.specs.Replies.{Reply, Made, Deleted, Failed, end_of_op, ReadShard, ShardEnd, ShardRestored, ShardFailed, first_by, same_shard, shard_ticket, ticket_end}
+use Rattle.esr_report.specs.Replies.{Reply, Made, Deleted, Failed, Aborted, end_of_op, ReadShard, ShardEnd, ShardRestored, ShardFailed, first_by, same_shard, shard_ticket, ticket_end}
 
 -- what the end of an op answers its command
 abbrev pub reply_of_end : End → Reply
 reply_of_end (ends.Made uuid) = Made uuid.number
 reply_of_end (ends.Deleted op) = Deleted op
 reply_of_end (ends.Failed why op) = Failed (why_of why) op
+reply_of_end (ends.Aborted by) = Aborted by
 
 -- the same where it is the end of this op
 abbrev pub end_for : OpEnd → ℕ → Option Reply
@@ -35,7 +36,7 @@ first_end (e ∷ es) op = or_else (end_for e op) (first_end es op)
 
 -- they tell how each op ended
 abbrev pub AreEnds : List Entry → List OpEnd → Type 0
-AreEnds all es = (op : ℕ) → first_end es op ≡ end_of_op all op all
+AreEnds all es = (op : ℕ) → first_end es op ≡ end_of_op all op [] all
 
 -- ---- the shards of restores
 

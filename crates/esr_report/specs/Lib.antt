@@ -3,3 +3,4 @@ pub mod Lines
 pub mod Status
 pub mod Code
 pub mod Ends
+pub mod Aborts

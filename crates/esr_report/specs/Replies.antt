@@ -1,10 +1,11 @@
 -- What each line of a script was answered, by the history alone.
-use Rattle.std.specs.Prelude.{ℕ, ◌-◌, ◌^◌, min, Bool, true, false, ◌==◌, ◌&&◌, ◌||◌, if◌then◌else◌, List, [], ◌∷◌, map, sum_by, Option, Some, None, option_map, option_and_then}
-use Rattle.esr_model.specs.Values.{IndexRef, RootSnap}
+use Rattle.std.specs.Prelude.{ℕ, ◌-◌, ◌^◌, min, Bool, true, false, ◌==◌, ◌&&◌, ◌||◌, if◌then◌else◌, List, [], ◌∷◌, ◌++◌, map, sum_by, Option, Some, None, option_map, option_and_then}
+use Rattle.esr_model.specs.Values.{Bytes, IndexRef, RootSnap}
 use Rattle.esr_model.specs.Places.{places}
+use Rattle.esr_model.specs.Uploads.{same_bytes}
 use Rattle.esr_core.specs.After.{or_else, swaps_record}
 use Rattle.esr_core.specs.Entry as entry
-use Rattle.esr_core.specs.Entry.{Given, GivenShard, GivenFinalize, GivenDrop, GivenRestore, GivenClone, GivenDelete, GivenCleanup, Why, OfDepot, Read, RestoredShard, CheckedAll, VerifiedAll, ReadFails, SettlePruned, DeleteFails, Step, AskStep, SettleStep, FailedStep, LookStep, ReadStep, PruneStep, Refusal, DeposedAt, DepotFault, Accepted, AcceptedRestore, Gave, WasSettled, HasEnded, Looked, Entry}
+use Rattle.esr_core.specs.Entry.{Given, GivenShard, GivenFinalize, GivenDrop, GivenRestore, GivenClone, GivenDelete, GivenCleanup, Why, OfDepot, Read, RestoredShard, CheckedAll, VerifiedAll, ReadFails, SettlePruned, DeleteFails, Snapshot, DeleteSnapshots, Step, AskStep, SettleStep, FailedStep, FinishStep, LookStep, ReadStep, PruneStep, Refusal, DeposedAt, DepotFault, Accepted, AcceptedRestore, Gave, WasSettled, HasEnded, ElectedTerm, Looked, Entry}
 use Rattle.esr_script.specs.declared.item.Item.{Item}
 use Rattle.esr_script.specs.declared.item.Item.TheVariants as items
 use Rattle.esr_script.specs.declared.item.ScriptLine.{ScriptLine}
@@ -81,10 +82,69 @@ ends_by all who step reply = None
 abbrev pub ends_at : List Entry → ℕ → Entry → Option Reply
 ends_at all op e = if is_op op (op_of_ticket all e.who) then ends_by all e.who e.step e.reply else None
 
--- the first of these
-abbrev pub end_of_op : List Entry → ℕ → List Entry → Option Reply
-end_of_op all op [] = None
-end_of_op all op (e ∷ es) = or_else (ends_at all op e) (end_of_op all op es)
+-- ---- a delete that aborts a snapshot
+
+-- the name under which a snapshot was accepted as this op
+abbrev pub name_by : ℕ → Step → entry.Reply → Option Bytes
+name_by op (AskStep (Snapshot name indices moment)) (Accepted o) = if o == op then Some name else None
+name_by op step reply = None
+
+abbrev pub name_of_op : List Entry → ℕ → Option Bytes
+name_of_op [] op = None
+name_of_op (e ∷ es) op = or_else (name_by op e.step e.reply) (name_of_op es op)
+
+-- the ticket has ended, or its swap has settled
+abbrev pub is_over : Step → entry.Reply → Bool
+is_over SettleStep WasSettled = true
+is_over (FailedStep why) HasEnded = true
+is_over FinishStep HasEnded = true
+is_over step reply = false
+
+-- the ticket of the op's finalization that is out, after one entry more: a term that begins leaves none
+abbrev pub final_given : ℕ → Option ℕ → ℕ → Given → ℕ → Option ℕ
+final_given op k o (GivenFinalize info results) ticket = if o == op then Some ticket else k
+final_given op k o unit ticket = k
+
+abbrev pub final_kept : Option ℕ → ℕ → Bool → Option ℕ
+final_kept None who over = None
+final_kept (Some k) who over = if over && (k == who) then None else Some k
+
+abbrev pub final_step : ℕ → Option ℕ → Entry → entry.Reply → Option ℕ
+final_step op k e (Gave ticket o unit) = final_given op k o unit ticket
+final_step op k e (ElectedTerm term) = None
+final_step op k e reply = final_kept k e.who (is_over e.step reply)
+
+-- the ticket of the op's finalization that is out after these entries
+abbrev pub final_from : ℕ → Option ℕ → List Entry → Option ℕ
+final_from op k [] = k
+final_from op k (e ∷ es) = final_from op (final_step op k e e.reply) es
+
+abbrev pub final_out : List Entry → ℕ → Option ℕ
+final_out before op = final_from op None before
+
+abbrev pub has_name : List Bytes → Bytes → Bool
+has_name [] name = false
+has_name (x ∷ xs) name = same_bytes x name || has_name xs name
+
+-- a delete that names this was accepted
+abbrev pub abort_by : Bytes → Step → entry.Reply → Option Reply
+abort_by name (AskStep (DeleteSnapshots names)) (Accepted d) = if has_name names name then Some (Aborted d) else None
+abort_by name step reply = None
+
+-- it aborts an accepted snapshot of which no finalization is out
+abbrev pub abort_of : Option Bytes → Option ℕ → Step → entry.Reply → Option Reply
+abort_of (Some name) None step reply = abort_by name step reply
+abort_of (Some name) (Some k) step reply = None
+abort_of None k step reply = None
+
+-- what the entry after these answers the op by an abort
+abbrev pub aborts_at : List Entry → ℕ → Entry → Option Reply
+aborts_at before op e = abort_of (name_of_op before op) (final_out before op) e.step e.reply
+
+-- the first of these, after those before
+abbrev pub end_of_op : List Entry → ℕ → List Entry → List Entry → Option Reply
+end_of_op all op before [] = None
+end_of_op all op before (e ∷ es) = or_else (ends_at all op e) (or_else (aborts_at before op e) (end_of_op all op (before ++ e ∷ []) es))
 
 -- ---- the end of a restore
 
@@ -197,7 +257,7 @@ deposed_by false = None
 
 -- an accepted command is answered by the end of its op, a restore by the ends of its shards; else by a record swap that failed
 abbrev pub ask_reply : List Entry → entry.Reply → Option Reply
-ask_reply all (Accepted op) = or_else (end_of_op all op all) (deposed_by (has_fallen all))
+ask_reply all (Accepted op) = or_else (end_of_op all op [] all) (deposed_by (has_fallen all))
 ask_reply all (AcceptedRestore op uuid indices) = or_else (restore_reply all op uuid indices) (deposed_by (has_fallen all))
 ask_reply all (entry.Refused DepotFault) = Some (Failed OfDepot None)
 ask_reply all (entry.Refused (DeposedAt place)) = Some Deposed

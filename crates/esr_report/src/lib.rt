@@ -1,6 +1,7 @@
 //! The report of a run: what each line of its script was answered, by the history alone.
 #![tactic(auto)]
 
+mod aborts;
 mod ended;
 mod history;
 mod lines;

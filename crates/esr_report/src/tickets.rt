@@ -7,17 +7,19 @@ ghost use Rattle.esr_report.specs.Ends.{reply_of_end, end_in, first_end, AreEnds
 ghost use Rattle.esr_report.specs.Code.{reply_of};
 
 use crate::Reply;
+use crate::aborts::push_aborts;
 use esr_desk::{Answer, Entry, Given, Prune, Step, Why};
 use esr_names::Id;
 use std::alloc::{AllocError, Global};
 
-/// How an op ended: its snapshot is in the root, this delete took snapshots out of it, or one of its units failed, with the op of
-/// a delete.
+/// How an op ended: its snapshot is in the root, this delete took snapshots out of it, one of its units failed, with the op of
+/// a delete, or this delete aborted it.
 #[derive(Clone, Copy, Debug)]
 pub enum End {
     Made { uuid: Id },
     Deleted { op: u64 },
     Failed { why: Why, op: Option<u64> },
+    Aborted { by: u64 },
 }
 
 impl End {
@@ -31,6 +33,7 @@ impl End {
             End::Made { uuid } => Reply::Made { uuid },
             End::Deleted { op } => Reply::Deleted { op },
             End::Failed { why, op } => Reply::Failed { why, op },
+            End::Aborted { by } => Reply::Aborted { by },
         }
     }
 }
@@ -138,7 +141,7 @@ fn op_end(entries: &[Entry], entry: &Entry) -> Option<OpEnd>
 
 /// Appends an end where there is one.
 #[tactic(auto, using(crate::proofs::FirstEnds::first_end_more))]
-fn keep(ends: &mut Vec<OpEnd>, end: Option<OpEnd>) -> Result<(), AllocError>
+pub fn keep(ends: &mut Vec<OpEnd>, end: Option<OpEnd>) -> Result<(), AllocError>
     ensures { OnOk result ((op : ℕ) → first_end ends.new.items op ≡ or_else (first_end ends.old.items op) (end_in end op)) }
 {
     if let Some(end) = end {
@@ -147,13 +150,14 @@ fn keep(ends: &mut Vec<OpEnd>, end: Option<OpEnd>) -> Result<(), AllocError>
     Ok(())
 }
 
-/// The ends of ops, in the order of the entries that tell them.
+/// The ends of ops, in the order of the entries that tell them: the own end of an entry, then those of the ops that it aborts.
 pub fn ends_of(alloc: Global, entries: &[Entry]) -> Result<Vec<OpEnd>, AllocError>
     ensures { IfOk result (λ ends. AreEnds entries.now ends.items) }
 {
     let mut ends = Vec::new(alloc);
-    for entry in entries {
+    for (at, entry) in entries.iter().enumerate() {
         keep(&mut ends, op_end(entries, entry))?;
+        push_aborts(&mut ends, &entries[..at], entry)?;
     }
     Ok(ends)
 }

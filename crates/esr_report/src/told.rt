@@ -1,5 +1,5 @@
 //! The ends that a history tells, read off it once.
-ghost use Rattle.std.specs.Prelude.{◌≡◌, List, map, option_map, IfOk};
+ghost use Rattle.std.specs.Prelude.{◌≡◌, List, [], map, option_map, IfOk};
 ghost use Rattle.esr_core.specs.Entry.{Entry as Told};
 ghost use Rattle.esr_formats.specs.Refs.{ref_of_code};
 ghost use Rattle.esr_report.specs.Replies.{end_of_op, shard_end, ends_of, restore_reply};
@@ -80,7 +80,7 @@ pub fn restore_reply(
 
 /// What an accepted command is answered by the end of its op.
 pub fn op_reply(told: &ToldEnds, op: u64) -> Option<Reply>
-    ensures { (all : List Told) → AreAllEnds all told.now → option_map reply_of result ≡ end_of_op all op all }
+    ensures { (all : List Told) → AreAllEnds all told.now → option_map reply_of result ≡ end_of_op all op [] all }
 {
     end_of_op(&told.ops, op)
 }

@@ -4,6 +4,7 @@ use Rattle.esr_names.specs.declared.blob.ShardId.{ShardId}
 use Rattle.esr_model.specs.Values.{Bytes, FileEntry}
 use Rattle.esr_model.specs.Image.{AllPairs}
 use Rattle.esr_core.specs.World.{Reader}
+use Rattle.esr_core.specs.Entry.{OfTarget, ReadFails, Refusal, Moment}
 use Rattle.esr_source.specs.declared.address.Address.{Address}
 use Rattle.esr_shardidx.specs.declared.entry.FileEntry.{FileEntry as CodeEntry}
 use Rattle.esr_shardidx.specs.Snapshots.{SnapValue}
@@ -14,7 +15,11 @@ use Rattle.esr_desk.specs.declared.fault.FailedObject.TheVariants as objects
 use Rattle.esr_desk.specs.declared.fault.By.TheVariants as shows
 use Rattle.esr_desk.specs.declared.unit.UnitRefusal.{UnitRefusal}
 use Rattle.esr_desk.specs.declared.unit.UnitRefusal.TheVariants as units
+use Rattle.esr_desk.specs.Entries.{why_of}
+use Rattle.esr_desk.specs.Refusals.{told_refusal}
 use Rattle.esr_desk.specs.Start.{Start}
+use Rattle.esr_desk.specs.Readers.{reader_of}
+use Rattle.esr_reading.specs.Outcome.{Refusing}
 use Rattle.esr_reading.specs.First.{IsRestoredAs, AreFirst, HasFirst}
 use Rattle.esr_reading.specs.Shown.{IsOf}
 use Rattle.esr_restore.specs.declared.cause.Cause.{Cause}
@@ -22,7 +27,7 @@ use Rattle.esr_restore.specs.declared.trouble.Trouble.{Trouble}
 use Rattle.esr_restore.specs.declared.trouble.Trouble.TheVariants as troubles
 use Rattle.esr_restore.specs.Cause.{cause_by, left_by}
 use Rattle.esr_restore.specs.Files.{IsFile, RestoredAll}
-use Rattle.esr_restore.specs.Left.{IsLeft}
+use Rattle.esr_restore.specs.Left.{WasReportRefused, IsLeft}
 use Rattle.esr_restore.specs.Snapped.{IsAt, HasSnap}
 use Rattle.esr_restore.specs.Worked.{Worked}
 use Rattle.esr_restore.proofs.Pairs.{pairs_map, pairs_of_map}
@@ -97,19 +102,27 @@ first_ended s q files h = record {
 
 -- ---- which target is given back
 
-module _ {T : Type 0} (made_for : T → Address) (files : T → Option (List (Bytes × Bytes))) (s : Start) (old new : Reader) (target : T) (of : IsOf old (made_for target)) (first : HasFirst s old (files target)) where
+-- the report that the target failed was refused
+report_refused : (s : Start) (old new : List Moment) (who : ℕ) (refusal : Option Refusal) → Refusing s old new who (ReadFails OfTarget) refusal → WasReportRefused new who refusal
+report_refused s old new who None h = tt
+report_refused s old new who (Some refusal) h = record { front = h.front; image = h.image; is = h.is }
+
+module _ {T : Type 0} (made_for : T → Address) (files : T → Option (List (Bytes × Bytes))) (s : Start) (log : List Moment) (who : ℕ) (old : Reader) (target : T) (of : IsOf old (made_for target)) (first : HasFirst s old (files target)) where
+  abbrev IsGiven : Reader → Type 0
+  IsGiven q = IsOf q (made_for target) × HasFirst s q (files target)
+
   -- the ticket has ended, or is out still
-  given_ended : (refusal : UnitRefusal) → new ≡ record old { out = false } → IsLeft made_for files s new refusal (Some target)
-  given_ended refusal is =
-      subst (λ (q : Reader). IsLeft made_for files s q refusal (Some target)) (sym is) (of_ended old (made_for target) of, first_ended s old (files target) first)
+  given_ended : (refusal : UnitRefusal) → reader_of s log who ≡ record old { out = false } → IsLeft made_for files s log who refusal (Some target)
+  given_ended refusal is = subst IsGiven (sym is) (of_ended old (made_for target) of, first_ended s old (files target) first)
 
-  pub given_out : (refusal : UnitRefusal) → new ≡ old → IsLeft made_for files s new refusal (Some target)
-  given_out refusal is = subst (λ (q : Reader). IsLeft made_for files s q refusal (Some target)) (sym is) (of, first)
+  pub given_out : (refusal : UnitRefusal) → reader_of s log who ≡ old → IsLeft made_for files s log who refusal (Some target)
+  given_out refusal is = subst IsGiven (sym is) (of, first)
 
-  with_left : (refusal : UnitRefusal) (left same : Option T) → left ≡ same → IsLeft made_for files s new refusal same → IsLeft made_for files s new refusal left
-  with_left refusal left same is h = subst (λ (o : Option T). IsLeft made_for files s new refusal o) (sym is) h
+  with_left : (refusal : UnitRefusal) (left same : Option T) → left ≡ same → IsLeft made_for files s log who refusal same → IsLeft made_for files s log who refusal left
+  with_left refusal left same is h = subst (λ (o : Option T). IsLeft made_for files s log who refusal o) (sym is) h
 
-  pub left_ended : {S F H : Type 0} (trouble : Trouble F) (cause : Cause S F H T) (left : Option T) → new ≡ record old { out = false } → cause_by target trouble ≡ Ok cause → left ≡ left_by target trouble → IsLeft made_for files s new (units.Failed cause.why) left
+  pub left_ended : {S F H : Type 0} (trouble : Trouble F) (cause : Cause S F H T) (left : Option T) → reader_of s log who ≡ record old { out = false } → cause_by target trouble ≡ Ok cause → left ≡ left_by target trouble
+      → IsLeft made_for files s log who (units.Failed cause.why) left
   left_ended (troubles.Step e) cause left ended is same = with_left (units.Failed cause.why) left (Some target) same (given_ended (units.Failed cause.why) ended)
   left_ended (troubles.Fetch fetch) cause left ended is same = with_left (units.Failed cause.why) left (Some target) same (given_ended (units.Failed cause.why) ended)
   left_ended {S = S} {F = F} {H = H} troubles.Target cause left ended is same =
@@ -117,8 +130,21 @@ module _ {T : Type 0} (made_for : T → Address) (files : T → Option (List (By
       with_left (units.Failed cause.why) left None same (ap (λ (x : Cause S F H T). x.why) (sym it))
   left_ended (troubles.Found why) cause left ended is same = with_left (units.Failed cause.why) left (Some target) same (given_ended (units.Failed cause.why) ended)
 
-  pub left_stopped : {F : Type 0} (trouble : Trouble F) (refusal : StepRefusal) (left : Option T) → new ≡ old → left ≡ left_by target trouble → IsLeft made_for files s new (units.Stopped refusal) left
-  left_stopped (troubles.Step e) refusal left kept same = with_left (units.Stopped refusal) left (Some target) same (given_out (units.Stopped refusal) kept)
-  left_stopped (troubles.Fetch fetch) refusal left kept same = with_left (units.Stopped refusal) left (Some target) same (given_out (units.Stopped refusal) kept)
-  left_stopped troubles.Target refusal left kept same = with_left (units.Stopped refusal) left None same tt
-  left_stopped (troubles.Found why) refusal left kept same = with_left (units.Stopped refusal) left (Some target) same (given_out (units.Stopped refusal) kept)
+  -- the report of the cause was refused
+  pub left_unreported : {S F H : Type 0} (before : List Moment) (trouble : Trouble F) (cause : Cause S F H T) (refusal : StepRefusal) (left : Option T) → reader_of s log who ≡ old → cause_by target trouble ≡ Ok cause
+      → Refusing s before log who (ReadFails (why_of cause.why)) (told_refusal refusal) → left ≡ left_by target trouble → IsLeft made_for files s log who (units.Stopped refusal) left
+  left_unreported before (troubles.Step e) cause refusal left kept is refused same = with_left (units.Stopped refusal) left (Some target) same (given_out (units.Stopped refusal) kept)
+  left_unreported before (troubles.Fetch fetch) cause refusal left kept is refused same = with_left (units.Stopped refusal) left (Some target) same (given_out (units.Stopped refusal) kept)
+  left_unreported {S = S} {F = F} {H = H} before troubles.Target cause refusal left kept is refused same =
+      let it : ◌≡◌ {A = Cause S F H T} (record { why = whys.Target; by = shows.Object (objects.Target target) }) cause = cc in
+      with_left (units.Stopped refusal) left None same
+      (report_refused s before log who (told_refusal refusal) (subst (λ (x : Cause S F H T). Refusing s before log who (ReadFails (why_of x.why)) (told_refusal refusal)) (sym it) refused))
+  left_unreported before (troubles.Found why) cause refusal left kept is refused same = with_left (units.Stopped refusal) left (Some target) same (given_out (units.Stopped refusal) kept)
+
+  -- no report was made
+  pub left_stopped : {S F H : Type 0} (trouble : Trouble F) (refusal : StepRefusal) (left : Option T) → reader_of s log who ≡ old → cause_by {S = S} {F = F} {H = H} {T = T} target trouble ≡ Err refusal → left ≡ left_by target trouble
+      → IsLeft made_for files s log who (units.Stopped refusal) left
+  left_stopped (troubles.Step e) refusal left kept is same = with_left (units.Stopped refusal) left (Some target) same (given_out (units.Stopped refusal) kept)
+  left_stopped (troubles.Fetch fetch) refusal left kept is same = with_left (units.Stopped refusal) left (Some target) same (given_out (units.Stopped refusal) kept)
+  left_stopped troubles.Target refusal left kept is same = absurd cc
+  left_stopped (troubles.Found why) refusal left kept is same = with_left (units.Stopped refusal) left (Some target) same (given_out (units.Stopped refusal) kept)

@@ -82,7 +82,7 @@ fn finish<Q: RestoreDesk>(
 }
 
 /// Ends the ticket for a trouble, unless that leaves it out. The target, which has the files that were ended before, is given
-/// back, unless it failed: then the report of that takes it.
+/// back, unless it failed: then the report of that takes it, also where that is refused.
 fn fail<Q: RestoreDesk>(
     alloc: Global,
     desk: &mut Q,
@@ -98,7 +98,7 @@ fn fail<Q: RestoreDesk>(
     requires trouble { Shown Q.Fetch.faults (Q.Target.faults target) (Q.Target.is_sure target) Q.start (Q.seen desk.old) ticket trouble }
     ensures refused { IsUnitRefused (record { fetch = Q.Fetch.faults; target = Q.Target.faults; made_for = Q.Target.made_for; files = Q.Target.files })
         Q.start (Q.seen desk.old) (Q.seen desk.new) ticket result.refusal }
-    ensures left { IsLeft Q.Target.made_for Q.Target.files Q.start (reader_of Q.start (Q.seen desk.new) ticket) result.refusal result.target }
+    ensures left { IsLeft Q.Target.made_for Q.Target.files Q.start (Q.seen desk.new) ticket result.refusal result.target }
     ensures grew { GrewBy Q.start ticket (Q.seen desk.old) (Q.seen desk.new) }
     ensures holds { Q.holds desk.new ticket }
 {
@@ -129,7 +129,7 @@ fn fail<Q: RestoreDesk>(
 /// Reads the snapshot of the unit's shard and the parts of its files, writes the files to a target of their own, and ends the
 /// ticket. Where an object failed, a blob is absent or doesn't read, or a file isn't as the snapshot states, the ticket ends as
 /// failed. Where the shard isn't restored the target has the files that were ended before, the first ones of the snapshot, and
-/// is given back; one that failed went to the report of that.
+/// is given back; one that failed went to the report of that, also where that was refused.
 pub fn run_unit<Q: RestoreDesk, T: Targets<Target = Q::Target>>(
     alloc: Global,
     desk: &mut Q,
@@ -147,7 +147,7 @@ pub fn run_unit<Q: RestoreDesk, T: Targets<Target = Q::Target>>(
     ensures steady { IfOk result (λ t. Q.Target.faults t ≡ 0) }
     ensures refused { IfErr result (λ e. IsUnitRefused (record { fetch = Q.Fetch.faults; target = Q.Target.faults; made_for = Q.Target.made_for; files = Q.Target.files })
         Q.start (Q.seen desk.old) (Q.seen desk.new) unit.now.ready.ticket e.refusal) }
-    ensures left { IfErr result (λ e. IsLeft Q.Target.made_for Q.Target.files Q.start (reader_of Q.start (Q.seen desk.new) unit.now.ready.ticket) e.refusal e.target) }
+    ensures left { IfErr result (λ e. IsLeft Q.Target.made_for Q.Target.files Q.start (Q.seen desk.new) unit.now.ready.ticket e.refusal e.target) }
     ensures grew { GrewBy Q.start unit.now.ready.ticket (Q.seen desk.old) (Q.seen desk.new) }
     ensures holds { Q.holds desk.new unit.now.ready.ticket }
 {

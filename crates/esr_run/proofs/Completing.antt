@@ -7,7 +7,7 @@ use Rattle.std.proofs.lemmas.List.Sums.{sum_by-cons}
 use Rattle.esr_model.specs.Values.{Bytes, Has, Formats}
 use Rattle.esr_model.specs.Image.{Image}
 use Rattle.esr_core.specs.World.{World, Caller, Opened}
-use Rattle.esr_core.specs.Entry.{AskedIndex, Snapshot, Restore, Step, AskStep, ElectStep, Reply, Refused, DepotFault, DeposedAt, IdsSpent, GenerationsSpent, TermsSpent, Entry, Moment}
+use Rattle.esr_core.specs.Entry.{AskedIndex, Snapshot, DeleteSnapshots, Restore, Step, AskStep, ElectStep, Reply, Refused, DepotFault, DeposedAt, IdsSpent, GenerationsSpent, TermsSpent, Entry, Moment}
 use Rattle.esr_core.specs.Allowed as allowed
 use Rattle.esr_core.specs.Allowed.{Allows, Allowed}
 use Rattle.esr_core.specs.History.{world_from, IsLegal, AreTold}
@@ -29,9 +29,9 @@ use Rattle.esr_repo.specs.Counted.{is_fault, fault_entries}
 use Rattle.esr_repo.specs.Calm.{IsCalm}
 use Rattle.esr_repo.specs.Deposed.{FailedSwap, AreDeposedSo}
 use Rattle.esr_quiet.specs.Asked.{is_line_ask, is_asked, asked_steps, AreSteady}
-use Rattle.esr_quiet.specs.Smooth.{IsSmooth, IsSpent, AreCalm, AreUnelected, NoneFailed, NoneUnrestored, NoneUnverified, NoneAsked}
+use Rattle.esr_quiet.specs.Smooth.{IsSmooth, IsSpent, AreCalm, AreUnelected, NoDeleteAsked, NoneFailed, NoneUnrestored, NoneUnverified, NoneAsked}
 use Rattle.esr_quiet.specs.Refusals.{AreByRule}
-use Rattle.esr_complete.specs.Lines.{index_of_line, steps_of_item, steps_of, AreKnown, entries_of}
+use Rattle.esr_complete.specs.Lines.{index_of_line, steps_of_item, steps_of, IsKnown, AreKnown, entries_of}
 use Rattle.esr_complete.specs.InTurn.{IsInTurn, AreChecksInTurn}
 use Rattle.esr_complete.specs.Answers.{AreAnswered, EndsWell}
 use Rattle.esr_run.specs.Start.{Telling, formats_by, steady_by, start_of}
@@ -155,6 +155,7 @@ nobodys f size w who step reply image (allowed.ElectSpent im last same) = refl
 nobodys f size w who step reply image (allowed.AskFails name indices moment im accepts same) = refl
 nobodys f size w who step reply image (allowed.ElectFails im room same) = refl
 nobodys f size w who step reply image (allowed.AskingRestore name place answer im allows same) = refl
+nobodys f size w who step reply image (allowed.AskingDelete names answer im allows same) = refl
 nobodys f size w who step reply image a = tt
 
 module _ (s : Start) (log : List Moment) (es : List Entry) (entries : entries_of log ≡ es) (legal : Legal s log) (none : fault_entries es ≡ 0) (named : AreDeposedSo es) where
@@ -227,6 +228,8 @@ of_line moment (line ∷ lines) step h = ⊎_elim
 pub no_election : (moment : ℕ) (item : Item) → Has (steps_of_item moment item) ElectStep → ⊥
 no_election moment (items.Snapshot name indices) (inl e) = cc
 no_election moment (items.Snapshot name indices) (inr h) = h
+no_election moment (items.Delete names) (inl e) = cc
+no_election moment (items.Delete names) (inr h) = h
 no_election moment (items.Restore name place) (inl e) = cc
 no_election moment (items.Restore name place) (inr h) = h
 no_election moment items.List (inl e) = cc
@@ -236,6 +239,27 @@ no_election moment items.Check (inr h) = h
 no_election moment items.Verify (inl e) = cc
 no_election moment items.Verify (inr h) = h
 no_election moment item h = h
+
+-- each line asks for a command that is known
+known_line : (lines : List ScriptLine) (line : ScriptLine) → AreKnown lines → Has lines line → IsKnown line.item
+known_line [] line known h = absurd h
+known_line (x ∷ lines) line known (inl e) = subst (λ (l : ScriptLine). IsKnown l.item) e known.0
+known_line (x ∷ lines) line known (inr h) = known_line lines line known.1 h
+
+-- none of these is a delete
+asks_no_delete : (moment : ℕ) (item : Item) (names : List Bytes) → IsKnown item → Has (steps_of_item moment item) (AskStep (DeleteSnapshots names)) → ⊥
+asks_no_delete moment (items.Snapshot name indices) names known (inl e) = cc
+asks_no_delete moment (items.Snapshot name indices) names known (inr h) = h
+asks_no_delete moment (items.Delete called) names known h = known
+asks_no_delete moment (items.Restore name place) names known (inl e) = cc
+asks_no_delete moment (items.Restore name place) names known (inr h) = h
+asks_no_delete moment items.List names known (inl e) = cc
+asks_no_delete moment items.List names known (inr h) = h
+asks_no_delete moment items.Check names known (inl e) = cc
+asks_no_delete moment items.Check names known (inr h) = h
+asks_no_delete moment items.Verify names known (inl e) = cc
+asks_no_delete moment items.Verify names known (inr h) = h
+asks_no_delete moment item names known h = h
 
 -- the indices of a snapshot that was asked are those of the line's
 record OfSnapshot (item : Item) (indices : List AskedIndex) : Type 0 where
@@ -247,6 +271,8 @@ record OfSnapshot (item : Item) (indices : List AskedIndex) : Type 0 where
 of_snapshot : (moment : ℕ) (item : Item) (name : Bytes) (indices : List AskedIndex) (when : ℕ) → Has (steps_of_item moment item) (AskStep (Snapshot name indices when)) → OfSnapshot item indices
 of_snapshot moment (items.Snapshot called of) name indices when (inl e) = let same : map index_of_line of ≡ indices = cc in record { name = called; line_indices = of; item_is = refl; indices_are = sym same }
 of_snapshot moment (items.Snapshot called of) name indices when (inr h) = absurd h
+of_snapshot moment (items.Delete names) name indices when (inl e) = absurd cc
+of_snapshot moment (items.Delete names) name indices when (inr h) = absurd h
 of_snapshot moment (items.Restore called place) name indices when (inl e) = absurd cc
 of_snapshot moment (items.Restore called place) name indices when (inr h) = absurd h
 of_snapshot moment items.List name indices when (inl e) = absurd cc
@@ -262,6 +288,8 @@ of_restore : (moment : ℕ) (item : Item) (name place : Bytes) → Has (steps_of
 of_restore moment (items.Restore called below) name place h = (called, below, refl)
 of_restore moment (items.Snapshot called of) name place (inl e) = absurd cc
 of_restore moment (items.Snapshot called of) name place (inr h) = absurd h
+of_restore moment (items.Delete names) name place (inl e) = absurd cc
+of_restore moment (items.Delete names) name place (inr h) = absurd h
 of_restore moment items.List name place (inl e) = absurd cc
 of_restore moment items.List name place (inr h) = absurd h
 of_restore moment items.Check name place (inl e) = absurd cc
@@ -347,6 +375,12 @@ module _ {S F H T : Type 0} (laws : QuietLaws S F H T) (count : Counts S F H T) 
         let from = wanted m h who (ap is_line_ask is) in
         no_election moment from.line.item (subst (λ (step : Step). Has (steps_of_item moment from.line.item) step) is from.step_is)
 
+    undeleted : NoDeleteAsked log
+    undeleted m h names is =
+        let who : m.entry.who ≡ 0 = subst (IsNobodys m.entry.who) is (nobody m h) in
+        let from = wanted m h who (ap is_line_ask is) in
+        asks_no_delete moment from.line.item names (known_line lines from.line quiet_for.known from.there) (subst (λ (step : Step). Has (steps_of_item moment from.line.item) step) is from.step_is)
+
     tells : s.tells ≡ true
     tells = ap is_some quiet_for.holds.told
 
@@ -360,6 +394,7 @@ module _ {S F H T : Type 0} (laws : QuietLaws S F H T) (count : Counts S F H T) 
       kept = quiet_for.holds.kept;
       opened = opened quiet_for.holds.image quiet_for.holds.told;
       no_deletes = no_deletes;
+      no_delete_asked = undeleted;
       legal = legal;
       told = told tells;
       honest = tells_all.honest;

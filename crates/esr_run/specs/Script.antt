@@ -44,11 +44,11 @@ have_own_names (a ∷ asked) = if has_name a.name asked then false else have_own
 unfoldable pub is_askable : List AskedIndex → Bool
 is_askable asked = have_shards asked && have_own_names asked
 
--- a snapshot, a restore, a wait, a list, a check or a verification: the other commands are not there yet
+-- a snapshot, a delete, a restore, a wait, a list, a check or a verification: the other commands are not there yet
 abbrev pub is_carried : Item → Bool
 is_carried (items.Snapshot name indices) = is_askable indices
 is_carried (items.Clone source name indices) = false
-is_carried (items.Delete names) = false
+is_carried (items.Delete names) = true
 is_carried (items.Restore name place) = true
 is_carried items.Cleanup = false
 is_carried items.Failover = false

@@ -1,7 +1,7 @@
 //! The lines of a script are carried out, in order.
 ghost use Rattle.std.specs.Prelude.{◌≡◌, ◌⊎◌, ◌+◌, ◌<◌, ◌≤◌, ℕ, Bool, ◌^◌, ◌∷◌, ◌++◌, [], true, false, None, OnOk};
 ghost use Rattle.esr_script.specs.declared.item.Item.TheVariants.{Wait, Check};
-ghost use Rattle.esr_core.specs.Entry.{Restore, DrawTest, AskStep, LookStep, ReadStep};
+ghost use Rattle.esr_core.specs.Entry.{DeleteSnapshots, Restore, DrawTest, AskStep, LookStep, ReadStep};
 ghost use Rattle.esr_core.specs.Tracked.{Tracked};
 ghost use Rattle.esr_core.specs.ReadTracked.{ReadTracked};
 ghost use Rattle.esr_desk.specs.Sources.{AreSources};
@@ -26,7 +26,7 @@ use esr_checking::{CheckDesk, VerifyDesk};
 use esr_deleting::DeleteDesk;
 use esr_desk::{Desk, StepRefusal, UnitRefusal};
 use esr_drive::{RestoredTarget, RestoredTargets, work};
-use esr_names::SnapName;
+use esr_names::{SnapName, SnapNames};
 use esr_reading::RestoreDesk;
 use esr_script::{AskedIndex, Item, ScriptLine};
 use esr_seq::Text;
@@ -60,6 +60,25 @@ fn ask<Q: Desk>(
         Ok(_) => Ok(()),
         Err(refusal) => Err(refusal),
     }
+}
+
+/// Asks for a delete of all these snapshots.
+fn delete<Q: DeleteDesk>(alloc: Global, desk: &mut Q, names: &SnapNames) -> Result<(), StepRefusal>
+    requires numbered { HasNoTickets Q.start }
+    requires ops { Tracked Q.start.world }
+    ensures made { LineMade Q.start (AskStep (DeleteSnapshots names.now) ∷ []) (Q.seen desk.old) (Q.seen desk.new) result }
+    ensures rests { Q.start.alone ≡ true → AreIn Q.start (Q.seen desk.old) → LineRests Q.start (Q.seen desk.new) result }
+    ensures spent { Q.start.alone ≡ true → LineSpends (Q.seen desk.new) result }
+    ensures none { Q.start.alone ≡ true → RestoresNone (Q.seen desk.old) (Q.seen desk.new) }
+    ensures takes { Q.start.alone ≡ true → idle_takes (Q.seen desk.new) ≡ idle_takes (Q.seen desk.old) }
+    ensures unchecked { Q.start.alone ≡ true → EndsNone (Q.seen desk.old) (Q.seen desk.new) }
+    ensures verified { (workers : ℕ) (checks : Bool) → Q.start.alone ≡ true → MayVerify Q.start workers checks (Q.seen desk.old) → VerifiesOn Q.start workers checks (Q.seen desk.new) result }
+{
+    steps_stay();
+    if let Err(refusal) = desk.delete(alloc, names) {
+        return Err(refusal);
+    }
+    Ok(())
 }
 
 /// Asks for a restore.
@@ -257,6 +276,7 @@ fn carry_line<
 {
     match item {
         Item::Snapshot { name, indices } => ask(alloc, desk, name, indices.as_slice(), moment),
+        Item::Delete { names } => delete(alloc, desk, names),
         Item::Restore { name, place } => restore(alloc, desk, name, place),
         Item::Wait => wait(alloc, desk, sources, targets, gate, part_size, filled),
         Item::List => list(alloc, desk),

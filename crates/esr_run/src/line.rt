@@ -71,6 +71,7 @@ pub(crate) fn is_carried(item: &Item) -> bool
 {
     match item {
         Item::Snapshot { name: _, indices } => is_askable(indices.as_slice()),
+        Item::Delete { names: _ } => true,
         Item::Restore { name: _, place: _ } => true,
         Item::Wait => true,
         Item::List => true,

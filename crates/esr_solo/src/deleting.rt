@@ -1,4 +1,4 @@
-//! The steps of a delete's ticket: each is that of the repository, while turns are left.
+//! The steps of a delete: each is that of the repository, while turns are left.
 ghost use Rattle.std.specs.Prelude.{◌≡◌, false, OnOk, OnErr};
 ghost use Rattle.esr_core.specs.Entry.{PruneStep, DeleteFails, HasEnded};
 ghost use Rattle.esr_desk.specs.Entries.{why_of};
@@ -13,7 +13,7 @@ use crate::solo::{TURNS, turns};
 use esr_deleting::{DeleteDesk, Planned};
 use esr_depot::Depot;
 use esr_desk::{By, StepRefusal, Why};
-use esr_names::{BlobName, Ids};
+use esr_names::{BlobName, Ids, SnapNames};
 use esr_repo::Told;
 use esr_results::PrunedShards;
 use esr_root::RootData;
@@ -22,6 +22,16 @@ use esr_source::{Shard, Target};
 use std::alloc::Global;
 
 impl<D: Depot, K: Told, H: Shard, T: Target> DeleteDesk for Solo<D, K, H, T> {
+    fn delete(&mut self, alloc: Global, names: &SnapNames) -> Result<u64, StepRefusal> {
+        self.repo.is_legal();
+        if self.left == 0 {
+            return Err(StepRefusal::TurnsSpent);
+        }
+        let answer = self.repo.delete(alloc, names);
+        self.left -= turns(&answer);
+        answer
+    }
+
     fn fetch_shard(
         &mut self,
         alloc: Global,

@@ -2,7 +2,7 @@
 use Rattle.std.proofs.Common.{◌≡◌, ◌⊎◌, ℕ, ◌<◌, Bool, if◌then◌else◌, List, [], ◌∷◌, ◌++◌, Some, map, append_assoc, refl, sym, ap, ◌∙◌, inl, inr, arith}
 use Rattle.std.proofs.lemmas.Bool.Decides.{eqb_tells}
 use Rattle.esr_model.specs.Values.{Bytes, Has, IndexRef}
-use Rattle.esr_core.specs.Entry.{Restore, Step, DrawTest, AskStep, LookStep, ReadStep, Reply, AcceptedRestore, Entry}
+use Rattle.esr_core.specs.Entry.{DeleteSnapshots, Restore, Step, DrawTest, AskStep, LookStep, ReadStep, Reply, AcceptedRestore, Entry}
 use Rattle.esr_core.proofs.Reading.{none_some, some_same, Has-either}
 use Rattle.esr_script.specs.declared.item.Item.{Item}
 use Rattle.esr_script.specs.declared.item.Item.TheVariants as items
@@ -144,6 +144,7 @@ module _ (moment : ℕ) (line : ScriptLine) (lines : List ScriptLine) (op number
   by_item : (es : List Entry) (rest : List Step) (item : Item) → line.item ≡ item → steps_by es ++ rest ≡ steps_of_item moment item ++ steps_of moment lines → line_of (ops_at line es (ops_from lines) item) op ≡ Some number
       → ((fs : List Entry) → steps_by fs ++ rest ≡ steps_of moment lines → line_of (ops_from lines fs) op ≡ Some number → LineAt moment lines fs op number) → LineAt moment (line ∷ lines) es op number
   by_item es rest (items.Snapshot name indices) is same found on = ask (AskStep (command_of_line name indices moment)) es rest (ap (steps_of_item moment) is) same found on
+  by_item es rest (items.Delete names) is same found on = ask (AskStep (DeleteSnapshots names)) es rest (ap (steps_of_item moment) is) same found on
   by_item es rest (items.Restore name place) is same found on = ask (AskStep (Restore name place)) es rest (ap (steps_of_item moment) is) same found on
   by_item es rest items.List is same found on = ask LookStep es rest (ap (steps_of_item moment) is) same found on
   by_item es rest items.Check is same found on = ask LookStep es rest (ap (steps_of_item moment) is) same found on
@@ -165,6 +166,7 @@ module _ (moment : ℕ) (line : ScriptLine) (earlier lines : List ScriptLine) (f
 
   both_by : (es : List Entry) (item : Item) → steps_by es ≡ steps_of_item moment item ++ steps_of moment earlier → ops_at line (es ++ fs) (ops_from (earlier ++ lines)) item ≡ ops_at line es (ops_from earlier) item ++ ops_from lines fs
   both_by es (items.Snapshot name indices) same = both_asked (AskStep (command_of_line name indices moment)) es same
+  both_by es (items.Delete names) same = both_asked (AskStep (DeleteSnapshots names)) es same
   both_by es (items.Restore name place) same = both_asked (AskStep (Restore name place)) es same
   both_by es items.List same = both_asked LookStep es same
   both_by es items.Check same = both_asked LookStep es same
@@ -221,6 +223,7 @@ module _ (line : ScriptLine) (lines : List ScriptLine) (p : ℕ × ℕ) where
 
   op_by_item : (es : List Entry) (item : Item) → Has (ops_at line es (ops_from lines) item) p → ((fs : List Entry) → Has (ops_from lines fs) p → OpAt lines fs p) → OpAt (line ∷ lines) es p
   op_by_item es (items.Snapshot name indices) h on = op_asked es h on
+  op_by_item es (items.Delete names) h on = op_asked es h on
   op_by_item es (items.Restore name place) h on = op_asked es h on
   op_by_item es items.List h on = op_asked es h on
   op_by_item es items.Check h on = op_asked es h on
@@ -264,6 +267,7 @@ module _ (line : ScriptLine) (lines : List ScriptLine) (first : (later : ScriptL
 
   one_by_item : (es : List Entry) (item : Item) → Has (ops_at line es (ops_from lines) item) (o, n) → Has (ops_at line es (ops_from lines) item) (p, n) → ((fs : List Entry) → Has (ops_from lines fs) (o, n) → Has (ops_from lines fs) (p, n) → o ≡ p) → o ≡ p
   one_by_item es (items.Snapshot name indices) a b on = one_asked es a b on
+  one_by_item es (items.Delete names) a b on = one_asked es a b on
   one_by_item es (items.Restore name place) a b on = one_asked es a b on
   one_by_item es items.List a b on = one_asked es a b on
   one_by_item es items.Check a b on = one_asked es a b on
@@ -281,6 +285,7 @@ other_command name place st not e = not name place (heads st (AskStep (Restore n
 
 pub restore_item : (moment : ℕ) (item : Item) (name place : Bytes) → steps_of_item moment item ≡ AskStep (Restore name place) ∷ [] → item ≡ items.Restore name place
 restore_item moment (items.Snapshot n indices) name place e = absurd (other_command name place (AskStep (command_of_line n indices moment)) (λ a b x. cc) e)
+restore_item moment (items.Delete names) name place e = absurd (other_command name place (AskStep (DeleteSnapshots names)) (λ a b x. cc) e)
 restore_item moment (items.Restore n l) name place e = same (heads (AskStep (Restore n l)) (AskStep (Restore name place)) [] [] e).0
   where
     same : AskStep (Restore n l) ≡ AskStep (Restore name place) → items.Restore n l ≡ items.Restore name place

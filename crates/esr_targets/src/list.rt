@@ -78,7 +78,7 @@ fn asks(line: &ScriptLine) -> bool
             name: _,
             indices: _,
         } => false,
-        Item::Delete { names: _ } => false,
+        Item::Delete { names: _ } => true,
         Item::Restore { name: _, place: _ } => true,
         Item::Cleanup => false,
         Item::Failover => false,

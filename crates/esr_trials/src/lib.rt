@@ -4,6 +4,8 @@
 #[cfg(test)]
 mod checked;
 #[cfg(test)]
+mod deleted;
+#[cfg(test)]
 mod failing;
 #[cfg(test)]
 mod first;

@@ -22,9 +22,11 @@ count snapshot
 count wait now
 count list s1
 count check s1
+count delete
 count restore A
 name snapshot _s
 name snapshot S1 logs/1/src
+name delete s1 S2
 name snapshot s1 _logs/1/src
 name snapshot s1 /1/src
 name snapshot s1 a/0/x B/1/y
@@ -40,7 +42,6 @@ place snapshot s1 a/1/x a/1/y b/1
 repeat snapshot s1 a/1/x b/1/x a/2/y
 later clone s1 c1
 later clone s1 c1 logs
-later delete s1
 later cleanup
 later failover";
 
@@ -74,12 +75,13 @@ snapshot S1
 snapshot s1 logs/0/src
 snapshot s1 a/1/x a/1/y
 snapshot -s a/1/x
+delete
+delete s1 S2
 failover";
 
 /// Words of commands that are not there yet.
 const LATER: &str = "clone s1 c1
 clone s1 c1 logs
-delete s1
 cleanup";
 
 /// Lets the first call of each kind of the container fail, so that its count of faults tells whether it was called.

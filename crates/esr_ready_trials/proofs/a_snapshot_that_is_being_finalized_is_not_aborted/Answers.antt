@@ -1,4 +1,4 @@
-use Rattle.std.proofs.Common.{◌≡◌, ap, ◌∙◌}
+use Rattle.std.proofs.Common.{ap, ◌∙◌}
 use Rattle.std.specs.FinMap as fin
 use Rattle.esr_core.specs.World.{World}
 use Rattle.esr_ready_trials.proofs.a_snapshot_that_is_being_finalized_is_not_aborted.Goals as goal

@@ -5,7 +5,7 @@ use Rattle.esr_repo.proofs.Restores.{unlisted_refused, deleted_refused, full_ref
 use Rattle.esr_repo.proofs.restoring.restore_refusal.Goals as goal
 
 pub returns-in-NoSnapshot : goal.returns-in-NoSnapshot
-returns-in-NoSnapshot c = λ s log name place h. unlisted_refused s log name place (subst (IsRestoreRefused (world_of s log) name) c.in-NoSnapshot.is h)
+returns-in-NoSnapshot c = λ s log name place h. unlisted_refused s log name place c.in-NoSnapshot.place (subst (IsRestoreRefused (world_of s log) name) c.in-NoSnapshot.is h)
 
 pub returns-in-BeingDeleted : goal.returns-in-BeingDeleted
 returns-in-BeingDeleted c = λ s log name place h. deleted_refused s log name place c.in-BeingDeleted.op (subst (IsRestoreRefused (world_of s log) name) c.in-BeingDeleted.is h)

@@ -5,7 +5,7 @@ use Rattle.esr_desk.specs.Grew.{grew_by_none}
 use Rattle.esr_desk.specs.Readers.{reader_of}
 use Rattle.esr_restore.proofs.Going.{worked_none, worked_same, outcome_grew, end_refusal}
 use Rattle.esr_restore.proofs.Ending.{cause_shown, stopped, has_failed}
-use Rattle.esr_restore.proofs.Left.{left_ended, left_stopped}
+use Rattle.esr_restore.proofs.Left.{left_ended, left_unreported, left_stopped}
 use Rattle.esr_restore.proofs.unit.fail.Goals as goal
 
 pub unrestored-requires-clause-shown : goal.unrestored-requires-clause-shown
@@ -31,7 +31,7 @@ pub returns-in-Ok-unrestored-clause-left : goal.returns-in-Ok-unrestored-clause-
 returns-in-Ok-unrestored-clause-left g c =
     let s = g.Q.Desk.start in
     let who = c.args.ticket in
-    left_ended g.Q.Target.Target.made_for g.Q.Target.Target.files s (reader_of s (g.Q.Desk.seen c.args.desk.now) who) (reader_of s (g.Q.Desk.seen c.unrestored.new.self) who) c.args.target c.requires.of c.requires.first
+    left_ended g.Q.Target.Target.made_for g.Q.Target.Target.files s (g.Q.Desk.seen c.unrestored.new.self) who (reader_of s (g.Q.Desk.seen c.args.desk.now) who) c.args.target c.requires.of c.requires.first
     c.args.trouble c.in-Ok.cause c.cause_of-found.result.1 c.in-Ok-unrestored.ensures.own (sym c.cause_of-found.ensures.cause ∙ c.in-Ok.is) c.cause_of-found.ensures.left
 
 pub returns-in-Ok-unrestored-clause-grew : goal.returns-in-Ok-unrestored-clause-grew
@@ -52,8 +52,10 @@ pub returns-in-Err-unrestored-clause-left : goal.returns-in-Err-unrestored-claus
 returns-in-Err-unrestored-clause-left g c =
     let s = g.Q.Desk.start in
     let who = c.args.ticket in
-    left_stopped g.Q.Target.Target.made_for g.Q.Target.Target.files s (reader_of s (g.Q.Desk.seen c.args.desk.now) who) (reader_of s (g.Q.Desk.seen c.unrestored.new.self) who) c.args.target c.requires.of c.requires.first
-    c.args.trouble c.in-Err-unrestored.refusal c.cause_of-found.result.1 c.in-Err-unrestored.ensures.kept c.cause_of-found.ensures.left
+    let old = g.Q.Desk.seen c.args.desk.now in
+    let failed = c.in-Err-unrestored in
+    left_unreported g.Q.Target.Target.made_for g.Q.Target.Target.files s (g.Q.Desk.seen c.unrestored.new.self) who (reader_of s old who) c.args.target c.requires.of c.requires.first
+    old c.args.trouble c.in-Ok.cause failed.refusal c.cause_of-found.result.1 failed.ensures.kept (sym c.cause_of-found.ensures.cause ∙ c.in-Ok.is) failed.ensures.step.0 c.cause_of-found.ensures.left
 
 pub returns-in-Err-unrestored-clause-grew : goal.returns-in-Err-unrestored-clause-grew
 returns-in-Err-unrestored-clause-grew g c =
@@ -71,8 +73,10 @@ returns-in-Err-clause-refused g c =
 pub returns-in-Err-clause-left : goal.returns-in-Err-clause-left
 returns-in-Err-clause-left g c =
     let s = g.Q.Desk.start in
-    let q = reader_of s (g.Q.Desk.seen c.args.desk.now) c.args.ticket in
-    left_stopped g.Q.Target.Target.made_for g.Q.Target.Target.files s q q c.args.target c.requires.of c.requires.first c.args.trouble c.in-Err.refusal c.cause_of-found.result.1 refl c.cause_of-found.ensures.left
+    let who = c.args.ticket in
+    let old = g.Q.Desk.seen c.args.desk.now in
+    left_stopped g.Q.Target.Target.made_for g.Q.Target.Target.files s old who (reader_of s old who) c.args.target c.requires.of c.requires.first
+    c.args.trouble c.in-Err.refusal c.cause_of-found.result.1 refl (sym c.cause_of-found.ensures.cause ∙ c.in-Err.is) c.cause_of-found.ensures.left
 
 pub returns-in-Err-clause-grew : goal.returns-in-Err-clause-grew
 returns-in-Err-clause-grew g c = grew_by_none g.Q.Desk.start c.args.ticket (g.Q.Desk.seen c.args.desk.now)

@@ -93,7 +93,7 @@ returns-in-Ok-restore-clause-left g c =
     let first = took_at ready.work ready.op (reader_of s old who) r.uuid r.at r.index r.place r.is c.requires.fresh in
     let made_is : made_for target ≡ address r.place r.index r.at.number =
     c.restore.ensures.made_for ∙ c.in-Ok.ensures.made_for ∙ ap (λ (p : Bytes). address p c.as_str-2.result.now r.at.number) c.as_str.ensures.text ∙ ap (λ (n : Bytes). address r.place n r.at.number) c.as_str-2.ensures.text in
-    given_out made_for files s (reader_of s mid who) (reader_of s new who) target
+    given_out made_for files s new who (reader_of s mid who) target
     (took_of ready.work ready.op (reader_of s old who) (reader_of s mid who) r.uuid r.at r.index r.place (made_for target) r.is c.requires.fresh made_is went.worked)
     (first_all s (reader_of s mid who) r.at r.uuid.number c.in-Ok-restore.snap (files c.in-Ok.target) (files target)
     (went_at s old mid who r.at.index.number r.at.number r.uuid.number went first) c.in-Ok-restore.ensures.snap c.in-Ok-restore.ensures.restored)

@@ -9,6 +9,9 @@ use Rattle.esr_run.proofs.carry.carry_line.Goals as goal
 pub returns-in-Snapshot-clause-filled : goal.returns-in-Snapshot-clause-filled
 returns-in-Snapshot-clause-filled g c alone = line_fills_none _ g.Q.Desk.start (g.Q.Desk.seen c.args.desk.now) (g.Q.Desk.seen c.ask.new.desk) c.args.filled.now.items c.ask.result (c.ask.ensures.none alone)
 
+pub returns-in-Delete-clause-filled : goal.returns-in-Delete-clause-filled
+returns-in-Delete-clause-filled g c alone = line_fills_none _ g.Q.Desk.start (g.Q.Desk.seen c.args.desk.now) (g.Q.Desk.seen c.delete.new.desk) c.args.filled.now.items c.delete.result (c.delete.ensures.none alone)
+
 pub returns-in-Restore-clause-filled : goal.returns-in-Restore-clause-filled
 returns-in-Restore-clause-filled g c alone = line_fills_none _ g.Q.Desk.start (g.Q.Desk.seen c.args.desk.now) (g.Q.Desk.seen c.restore.new.desk) c.args.filled.now.items c.restore.result (c.restore.ensures.none alone)
 
@@ -17,6 +20,9 @@ returns-in-List-clause-filled g c alone = line_fills_none _ g.Q.Desk.start (g.Q.
 
 pub returns-in-Snapshot-clause-verified : goal.returns-in-Snapshot-clause-verified
 returns-in-Snapshot-clause-verified g c checks asks may = c.ask.ensures.verified c.args.workers checks c.requires.alone may
+
+pub returns-in-Delete-clause-verified : goal.returns-in-Delete-clause-verified
+returns-in-Delete-clause-verified g c checks asks may = c.delete.ensures.verified c.args.workers checks c.requires.alone may
 
 pub returns-in-Restore-clause-verified : goal.returns-in-Restore-clause-verified
 returns-in-Restore-clause-verified g c checks asks may = c.restore.ensures.verified c.args.workers checks c.requires.alone may
@@ -47,6 +53,11 @@ returns-in-Snapshot-clause-takes g c =
     let same : idle_takes (g.Q.Desk.seen c.ask.new.desk) ≡ idle_takes (g.Q.Desk.seen c.args.desk.now) = c.ask.ensures.takes c.requires.alone in
     omega (arith, same)
 
+pub returns-in-Delete-clause-takes : goal.returns-in-Delete-clause-takes
+returns-in-Delete-clause-takes g c =
+    let same : idle_takes (g.Q.Desk.seen c.delete.new.desk) ≡ idle_takes (g.Q.Desk.seen c.args.desk.now) = c.delete.ensures.takes c.requires.alone in
+    omega (arith, same)
+
 pub returns-in-Restore-clause-takes : goal.returns-in-Restore-clause-takes
 returns-in-Restore-clause-takes g c =
     let same : idle_takes (g.Q.Desk.seen c.restore.new.desk) ≡ idle_takes (g.Q.Desk.seen c.args.desk.now) = c.restore.ensures.takes c.requires.alone in
@@ -75,6 +86,9 @@ returns-in-Check-clause-takes g c =
 
 pub returns-in-Snapshot-clause-unchecked : goal.returns-in-Snapshot-clause-unchecked
 returns-in-Snapshot-clause-unchecked g c other = c.ask.ensures.unchecked c.requires.alone
+
+pub returns-in-Delete-clause-unchecked : goal.returns-in-Delete-clause-unchecked
+returns-in-Delete-clause-unchecked g c other = c.delete.ensures.unchecked c.requires.alone
 
 pub returns-in-Restore-clause-unchecked : goal.returns-in-Restore-clause-unchecked
 returns-in-Restore-clause-unchecked g c other = c.restore.ensures.unchecked c.requires.alone

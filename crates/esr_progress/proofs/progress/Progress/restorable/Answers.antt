@@ -10,8 +10,7 @@ use Rattle.esr_progress.proofs.progress.Progress.restorable.Goals as goal
 
 pub returns-in_default : goal.returns-in_default
 returns-in_default c w is root_is =
-    not_listed w (root_of c.args.root.now) root_is c.args.name.now
-    (sym c.listed.ensures ∙ ap (option_map number_of) c.in_default.is)
+    (refl, not_listed w (root_of c.args.root.now) root_is c.args.name.now (sym c.listed.ensures ∙ ap (option_map number_of) c.in_default.is))
 
 pub returns-in-Some-deleting : goal.returns-in-Some-deleting
 returns-in-Some-deleting c w is root_is =

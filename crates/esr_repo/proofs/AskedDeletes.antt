@@ -1,0 +1,55 @@
+-- A delete that is asked for.
+use Rattle.std.proofs.Common.{◌≡◌, ℕ, ◌≤◌, true, List, map, Some, None, refl, sym, ap, ◌∙◌, subst}
+use Rattle.std.specs.FinMap as fin
+use Rattle.esr_model.specs.Values.{Bytes}
+use Rattle.esr_core.specs.World.{World, Deletion, record_ops, ledger_of}
+use Rattle.esr_core.specs.Deletes.{named_uuids, delete_number, asked_delete}
+use Rattle.esr_core.specs.Entry.{DeleteSnapshots, AskStep, Accepted, CleanupRunning, NoSnapshot, CloneRunning, RestoreRunning, TooMany, Refused, Moment}
+use Rattle.esr_core.specs.Tracked.{Tracked}
+use Rattle.esr_core.specs.Allowed.{NoCleanup, open_count, AreNamed, IsFirstUnused, Copies, ReadsOne, IsLowest, MayDelete, IsNewDelete, AcceptsDelete, DeleteAllows, GoingInto, NotNamed, CloneStands, RestoreStands, FullOfOps, AskingDelete, Cleaning}
+use Rattle.esr_core.proofs.AskedDeletes.{delete_leaves}
+use Rattle.esr_record.specs.Record.{Record}
+use Rattle.esr_formats.specs.Clusters.{op_of, cluster_of}
+use Rattle.esr_progress.specs.Plan.{Plan, IsPlanOf}
+use Rattle.esr_desk.specs.Start.{Start, world_of}
+use Rattle.esr_repo.specs.May.{MaySwap, MayRefuse}
+use Rattle.esr_repo.proofs.Swapping.{infos_swapped, cluster_from}
+
+-- ---- why it is refused
+
+pub cleanup_refused : (s : Start) (log : List Moment) (names : List Bytes) (d : ℕ) → (x : Deletion) × (fin.get (world_of s log).deletes d ≡ Some x) × (x.clean ≡ true) → MayRefuse s log 0 (AskStep (DeleteSnapshots names)) (CleanupRunning d)
+cleanup_refused s log names d h = record { plain = refl; allows = λ image tells same. Cleaning (DeleteSnapshots names) d h.0 image refl h.1 h.2 same }
+
+pub unnamed_refused : (s : Start) (log : List Moment) (names : List Bytes) (place : ℕ) → NoCleanup (world_of s log) × IsFirstUnused (world_of s log) names place → MayRefuse s log 0 (AskStep (DeleteSnapshots names)) (NoSnapshot place)
+unnamed_refused s log names place h = record { plain = refl; allows = λ image tells same. AskingDelete names (Refused (NoSnapshot place)) image (NotNamed place h.0 h.1) same }
+
+pub clone_refused : (s : Start) (log : List Moment) (names : List Bytes) (o : ℕ) → NoCleanup (world_of s log) × AreNamed (world_of s log) names × IsLowest (Copies (world_of s log) (named_uuids (world_of s log) names)) o → MayRefuse s log 0 (AskStep (DeleteSnapshots names)) (CloneRunning o)
+clone_refused s log names o h = record { plain = refl; allows = λ image tells same. AskingDelete names (Refused (CloneRunning o)) image (CloneStands o h.0 h.1 h.2) same }
+
+pub restore_refused : (s : Start) (log : List Moment) (names : List Bytes) (o : ℕ)
+    → NoCleanup (world_of s log) × AreNamed (world_of s log) names × ((p : ℕ) → Copies (world_of s log) (named_uuids (world_of s log) names) p → ⊥) × IsLowest (ReadsOne (world_of s log) (named_uuids (world_of s log) names)) o
+    → MayRefuse s log 0 (AskStep (DeleteSnapshots names)) (RestoreRunning o)
+restore_refused s log names o h = record { plain = refl; allows = λ image tells same. AskingDelete names (Refused (RestoreRunning o)) image (RestoreStands o h.0 h.1 h.2 h.3) same }
+
+pub full_refused : (s : Start) (log : List Moment) (names : List Bytes) (limit : ℕ) → (limit ≡ 1000) × MayDelete (world_of s log) names × IsNewDelete (world_of s log) names × (1000 ≤ open_count (world_of s log)) → MayRefuse s log 0 (AskStep (DeleteSnapshots names)) (TooMany limit)
+full_refused s log names limit h =
+    subst (λ (n : ℕ). MayRefuse s log 0 (AskStep (DeleteSnapshots names)) (TooMany n)) (sym h.0)
+    (record { plain = refl; allows = λ image tells same. AskingDelete names (Refused (TooMany 1000)) image (FullOfOps h.1 h.2 h.3) same })
+
+-- ---- what is kept
+
+pub may_ask_delete : (s : Start) (log : List Moment) (names : List Bytes) (cluster : Record) (p : Plan) (o next : ℕ) → Tracked (world_of s log) → AcceptsDelete (world_of s log) names → o ≡ delete_number (world_of s log) names → IsPlanOf (asked_delete (world_of s log) names) p
+    → (cluster_of cluster).ledger ≡ ledger_of (world_of s log) → map op_of cluster.ops ≡ record_ops p.ops p.deletes → next ≡ (world_of s log).next_id
+    → MaySwap s log 0 (AskStep (DeleteSnapshots names)) (Accepted o) cluster None None None (Some p) next
+may_ask_delete s log names cluster p o next tracked accepts o_is plan_is ledger ops next_is =
+    let leaves = delete_leaves (world_of s log) names in
+    record {
+      swaps = refl;
+      answers = refl;
+      allows = λ image tells same. AskingDelete names (Accepted o) image (subst (λ (n : ℕ). DeleteAllows (world_of s log) names (Accepted n)) (sym o_is) (GoingInto accepts)) same;
+      cluster_is = cluster_from (asked_delete (world_of s log) names) cluster p plan_is (ledger ∙ ap ledger_of (sym leaves)) ops;
+      root_is = λ old h. h ∙ ap (λ (w : World). w.root) (sym leaves);
+      infos_are = infos_swapped s log 0 (AskStep (DeleteSnapshots names)) tracked tt;
+      plan_is = λ old h. plan_is;
+      next_is = next_is ∙ ap (λ (w : World). w.next_id) (sym leaves);
+    }
