@@ -9,7 +9,7 @@ use Rattle.esr_core.specs.Restores.{AreOnce, WasRead}
 use Rattle.esr_core.specs.Allowed.{InReach}
 use Rattle.esr_core.specs.Entry.{LookStep, ReadStep, ReadBlob, Looked, WasFetched, Moment}
 use Rattle.esr_core.specs.After.{caller_told}
-use Rattle.esr_fetch.specs.Told.{Tells}
+use Rattle.esr_depot.specs.Told.{Tells}
 use Rattle.esr_desk.specs.Start.{Start, formats_of, told_bytes, world_of}
 use Rattle.esr_desk.specs.Outcome.{Stepped, fetch_reply}
 use Rattle.esr_checking.specs.Caller.{caller_of, fetched_by}

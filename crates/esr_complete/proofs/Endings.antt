@@ -5,14 +5,14 @@ use Rattle.std.proofs.lemmas.Bool.{le-ltb}
 use Rattle.esr_model.specs.Names.{BlobName}
 use Rattle.esr_model.specs.Values.{Has}
 use Rattle.esr_core.specs.After.{or_else}
-use Rattle.esr_core.specs.Entry.{Refusal, NameInUse, TooMany, NoSnapshot, BeingDeleted, Entry}
+use Rattle.esr_core.specs.Entry.{Refusal, NameInUse, TooMany, NoSnapshot, BeingDeleted, CloneRunning, RestoreRunning, Entry}
 use Rattle.esr_script.specs.declared.item.Item.{Item}
 use Rattle.esr_script.specs.declared.item.Item.TheVariants as items
 use Rattle.esr_script.specs.declared.item.ScriptLine.{ScriptLine}
-use Rattle.esr_report.specs.Replies.{Reply, Made, Restored, Waited, Listed, Checked, Verified, Refused, fails_swap, has_fallen, wait_reply, end_reply, replies}
+use Rattle.esr_report.specs.Replies.{Reply, Made, Deleted, Restored, Waited, Listed, Checked, Verified, Refused, Aborted, fails_swap, has_fallen, wait_reply, end_reply, replies}
 use Rattle.esr_report.specs.Status.{is_deposed, damaged_name, first_damaged, is_spent, are_ok, AllOk, SomeRefused, SwapFailed, ending_by, ending}
-use Rattle.esr_quiet.specs.Refusals.{RefusesSnapshot, RefusesRestore}
-use Rattle.esr_complete.specs.Answers.{IsAnswer, AreAnswered, EndsWell}
+use Rattle.esr_quiet.specs.Refusals.{RefusesSnapshot, RefusesRestore, RefusesDelete}
+use Rattle.esr_complete.specs.Answers.{IsAnswer, AreAnsweredIn, AreAnswered, EndsWell}
 use Rattle.esr_complete.proofs.Facts.{Fact}
 
 -- a rule of accepting refused a command
@@ -21,6 +21,8 @@ IsRuled (NameInUse uuid) = Unit {0}
 IsRuled (TooMany limit) = Unit {0}
 IsRuled (NoSnapshot place) = Unit {0}
 IsRuled (BeingDeleted op) = Unit {0}
+IsRuled (CloneRunning op) = Unit {0}
+IsRuled (RestoreRunning op) = Unit {0}
 IsRuled refusal = ⊥
 
 ruled_snapshot : (refusal : Refusal) → RefusesSnapshot refusal → IsRuled refusal
@@ -34,9 +36,18 @@ ruled_restore (BeingDeleted op) h = tt
 ruled_restore (TooMany limit) h = tt
 ruled_restore refusal h = absurd h
 
+ruled_delete : (refusal : Refusal) → RefusesDelete refusal → IsRuled refusal
+ruled_delete (NoSnapshot place) h = tt
+ruled_delete (CloneRunning op) h = tt
+ruled_delete (RestoreRunning op) h = tt
+ruled_delete (TooMany limit) h = tt
+ruled_delete refusal h = absurd h
+
 -- a reply that ends no run
 abbrev IsFine : Reply → Type 0
 IsFine (Made uuid) = Unit {0}
+IsFine (Deleted op) = Unit {0}
+IsFine (Aborted by) = Unit {0}
 IsFine (Restored files bytes) = Unit {0}
 IsFine Waited = Unit {0}
 IsFine (Listed snapshots) = Unit {0}
@@ -45,16 +56,19 @@ IsFine Verified = Unit {0}
 IsFine (Refused refusal) = IsRuled refusal
 IsFine reply = ⊥
 
-fine_answer : (item : Item) (reply : Reply) → IsAnswer item reply → IsFine reply
-fine_answer (items.Snapshot name indices) (Made uuid) h = tt
-fine_answer (items.Snapshot name indices) (Refused refusal) h = ruled_snapshot refusal h
-fine_answer (items.Restore name place) (Restored files bytes) h = tt
-fine_answer (items.Restore name place) (Refused refusal) h = ruled_restore refusal h
-fine_answer items.Wait Waited h = tt
-fine_answer items.List (Listed snapshots) h = tt
-fine_answer items.Check (Checked snapshots blobs) h = tt
-fine_answer items.Verify Verified h = tt
-fine_answer item reply h = absurd h
+fine_answer : (script : List ScriptLine) (item : Item) (reply : Reply) → IsAnswer script item reply → IsFine reply
+fine_answer script (items.Snapshot name indices) (Made uuid) h = tt
+fine_answer script (items.Snapshot name indices) (Aborted by) h = tt
+fine_answer script (items.Snapshot name indices) (Refused refusal) h = ruled_snapshot refusal h
+fine_answer script (items.Delete names) (Deleted op) h = tt
+fine_answer script (items.Delete names) (Refused refusal) h = ruled_delete refusal h
+fine_answer script (items.Restore name place) (Restored files bytes) h = tt
+fine_answer script (items.Restore name place) (Refused refusal) h = ruled_restore refusal h
+fine_answer script items.Wait Waited h = tt
+fine_answer script items.List (Listed snapshots) h = tt
+fine_answer script items.Check (Checked snapshots blobs) h = tt
+fine_answer script items.Verify Verified h = tt
+fine_answer script item reply h = absurd h
 
 record Calm (reply : Reply) : Type 0 where
   undeposed : is_deposed reply ≡ false
@@ -63,6 +77,8 @@ record Calm (reply : Reply) : Type 0 where
 
 calm_reply : (reply : Reply) → IsFine reply → Calm reply
 calm_reply (Made uuid) fine = record { undeposed = refl; undamaged = refl; unspent = refl }
+calm_reply (Deleted op) fine = record { undeposed = refl; undamaged = refl; unspent = refl }
+calm_reply (Aborted by) fine = record { undeposed = refl; undamaged = refl; unspent = refl }
 calm_reply (Restored files bytes) fine = record { undeposed = refl; undamaged = refl; unspent = refl }
 calm_reply Waited fine = record { undeposed = refl; undamaged = refl; unspent = refl }
 calm_reply (Listed snapshots) fine = record { undeposed = refl; undamaged = refl; unspent = refl }
@@ -72,6 +88,8 @@ calm_reply (Refused (NameInUse uuid)) fine = record { undeposed = refl; undamage
 calm_reply (Refused (TooMany limit)) fine = record { undeposed = refl; undamaged = refl; unspent = refl }
 calm_reply (Refused (NoSnapshot place)) fine = record { undeposed = refl; undamaged = refl; unspent = refl }
 calm_reply (Refused (BeingDeleted op)) fine = record { undeposed = refl; undamaged = refl; unspent = refl }
+calm_reply (Refused (CloneRunning op)) fine = record { undeposed = refl; undamaged = refl; unspent = refl }
+calm_reply (Refused (RestoreRunning op)) fine = record { undeposed = refl; undamaged = refl; unspent = refl }
 calm_reply (Refused refusal) fine = absurd fine
 calm_reply reply fine = absurd fine
 
@@ -84,22 +102,22 @@ record AllCalm (lines : List ScriptLine) (rs : List Reply) : Type 0 where
 neither : (a b : Bool) → a ≡ false → b ≡ false → (a || b) ≡ false
 neither a b x y = ap (λ (c : Bool). c || b) x ∙ y
 
-all_calm : (lines : List ScriptLine) (rs : List Reply) → AreAnswered lines rs → AllCalm lines rs
-all_calm [] [] h = record { undeposed = refl; undamaged = refl; unspent = refl; as_many = refl }
-all_calm (line ∷ lines) (reply ∷ rs) h =
-    let one = calm_reply reply (fine_answer line.item reply h.0) in
-    let rest = all_calm lines rs h.1 in
+all_calm : (script lines : List ScriptLine) (rs : List Reply) → AreAnsweredIn script lines rs → AllCalm lines rs
+all_calm script [] [] h = record { undeposed = refl; undamaged = refl; unspent = refl; as_many = refl }
+all_calm script (line ∷ lines) (reply ∷ rs) h =
+    let one = calm_reply reply (fine_answer script line.item reply h.0) in
+    let rest = all_calm script lines rs h.1 in
     record {
       undeposed = neither (is_deposed reply) (list_any is_deposed rs) one.undeposed rest.undeposed;
       undamaged = ap (λ (a : Option BlobName). or_else a (first_damaged rs)) one.undamaged ∙ rest.undamaged;
       unspent = neither (is_spent reply) (list_any is_spent rs) one.unspent rest.unspent;
       as_many = ap (λ (n : ℕ). suc n) rest.as_many;
     }
-all_calm lines rs h = absurd h
+all_calm script lines rs h = absurd h
 
-unfallen : (all es : List Entry) → ((x : Entry) → Has es x → Fact all x) → has_fallen es ≡ false
-unfallen all [] facts = refl
-unfallen all (x ∷ es) facts = neither (fails_swap x.step x.reply) (has_fallen es) (facts x (inl refl)).unfallen (unfallen all es (λ y has. facts y (inr has)))
+unfallen : (script : List ScriptLine) (all es : List Entry) → ((x : Entry) → Has es x → Fact script all x) → has_fallen es ≡ false
+unfallen script all [] facts = refl
+unfallen script all (x ∷ es) facts = neither (fails_swap x.step x.reply) (has_fallen es) (facts x (inl refl)).unfallen (unfallen script all es (λ y has. facts y (inr has)))
 
 not_less : (m n : ℕ) → m ≡ n → nat_lt m n ≡ false
 not_less m n e = le-ltb m n (omega (arith, e))
@@ -115,8 +133,8 @@ ends lines rs history none c =
     ∙ ap (λ (a : Option BlobName). ending_by a (list_any is_spent rs || nat_lt (length rs) (length lines)) (are_ok rs)) c.undamaged
     ∙ ap (λ (b : Bool). ending_by None b (are_ok rs)) (neither (list_any is_spent rs) (nat_lt (length rs) (length lines)) c.unspent (not_less (length rs) (length lines) c.as_many))
 
-pub ends_well : (lines : List ScriptLine) (history : List Entry) → ((x : Entry) → Has history x → Fact history x) → AreAnswered lines (replies lines history) → EndsWell lines history
+pub ends_well : (lines : List ScriptLine) (history : List Entry) → ((x : Entry) → Has history x → Fact lines history x) → AreAnswered lines (replies lines history) → EndsWell lines history
 unfolding ending
 ends_well lines history facts answered =
-    let e = ends lines (replies lines history) history (unfallen history history facts) (all_calm lines (replies lines history) answered) in
+    let e = ends lines (replies lines history) history (unfallen lines history history facts) (all_calm lines lines (replies lines history) answered) in
     elim (by_ok (are_ok (replies lines history))) [ inl ok ↦ inl (e ∙ ok) | inr ok ↦ inr (e ∙ ok) ]

@@ -1,36 +1,44 @@
 -- What each entry of a history where nothing fails answers to a line.
-use Rattle.std.proofs.Common.{◌≡◌, ℕ, false, List, [], Option, Some, None, refl, sym, subst, inl, inr}
+use Rattle.std.proofs.Common.{◌≡◌, ◌||◌, ℕ, Bool, true, false, true≢false, List, [], ◌∷◌, Option, Some, None, refl, sym, ap, ◌∙◌, subst, inl, inr}
 use Rattle.esr_model.specs.Values.{Bytes, Has}
 use Rattle.esr_core.specs.Entry as entry
-use Rattle.esr_core.specs.Entry.{AskedIndex, Asked, Snapshot, DeleteSnapshots, AsksNoDelete, Restore, Step, AskStep, LookStep, PruneStep, Refusal, NameInUse, TooMany, NoSnapshot, BeingDeleted, CloneRunning, RestoreRunning, Accepted, AcceptedRestore, Looked, Entry, Moment}
+use Rattle.esr_core.specs.Entry.{AskedIndex, Asked, Snapshot, Clone, DeleteSnapshots, SettlePruned, Restore, Step, AskStep, SettleStep, LookStep, PruneStep, Refusal, NameInUse, TooMany, NoSnapshot, NoIndex, BeingDeleted, CloneRunning, RestoreRunning, Accepted, WasSettled, AcceptedRestore, Looked, Entry, Moment}
 use Rattle.esr_core.specs.After.{or_else}
+use Rattle.esr_core.specs.Ready.{IsOpen}
+use Rattle.esr_core.specs.World.{World}
 use Rattle.esr_script.specs.declared.item.AskedIndex.{AskedIndex as LineIndex}
 use Rattle.esr_script.specs.declared.item.Item.{Item}
 use Rattle.esr_script.specs.declared.item.Item.TheVariants as items
-use Rattle.esr_report.specs.Replies.{Reply, fails_swap, has_fallen, deposed_by, end_of_op, restore_reply, ask_reply, look_reply}
+use Rattle.esr_script.specs.declared.item.ScriptLine.{ScriptLine}
+use Rattle.esr_report.specs.Replies.{Reply, name_by, name_of_op, has_name, fails_swap, has_fallen, deposed_by, end_of_op, restore_reply, ask_reply, look_reply}
 use Rattle.esr_desk.specs.Start.{Start, world_of}
 use Rattle.esr_quiet.specs.Refusals.{IsByRule, AreByRule}
-use Rattle.esr_quiet.specs.Smooth.{IsSmooth, NoneFailed, NoneUnrestored}
+use Rattle.esr_quiet.specs.Smooth.{IsSmooth, NoneFailed, NoneUndeleted, NoneUnrestored}
 use Rattle.esr_complete.specs.Lines.{entries_of}
-use Rattle.esr_complete.specs.Answers.{IsIdle, IsAnswer}
-use Rattle.esr_core.proofs.Reading.{Has-mapped}
-use Rattle.esr_complete.proofs.Tickets.{IsCalm, IsUnpruned, IsMade, end_made, settle_made}
-use Rattle.esr_complete.proofs.Following.{IsSaid, accepts, IsSettledIn, FollowsIn}
+use Rattle.esr_complete.specs.Answers.{IsIdle, IsDeletedBy, IsAnswer}
+use Rattle.esr_core.proofs.Accepting.{same_one}
+use Rattle.esr_core.proofs.Reading.{some_same, Has-mapped}
+use Rattle.esr_core.proofs.Results.{choose_true}
+use Rattle.esr_complete.proofs.Tickets.{same_op}
+use Rattle.esr_complete.proofs.OpEnds.{IsCalm, IsPruned, IsSettled, IsDeleted, WasAborted, IsEnded, EndsIn, aborted_in, end_found, settled_in, delete_found, prune_deleted}
+use Rattle.esr_complete.proofs.Following.{IsSaid, snapshot_of, delete_of, HasName, FollowsIn}
+use Rattle.esr_complete.proofs.Steps.{apart_name}
 use Rattle.esr_complete.proofs.RestoreTickets.{IsRestoredReply, restored_reply}
 use Rattle.esr_complete.proofs.FollowingRestores.{AskedRestore, opens}
 use Rattle.esr_complete.proofs.Histories.{Laws, all_calm, all_closed, follows_all}
 use Rattle.esr_complete.proofs.RestoreHistories.{all_restored}
 
 -- there is an answer, and it is one of the line
-abbrev pub IsAnswerOf : Item → Option Reply → Type 0
-IsAnswerOf item None = ⊥
-IsAnswerOf item (Some reply) = IsAnswer item reply
+abbrev pub IsAnswerOf : List ScriptLine → Item → Option Reply → Type 0
+IsAnswerOf script item None = ⊥
+IsAnswerOf script item (Some reply) = IsAnswer script item reply
 
-pub record Fact (all : List Entry) (e : Entry) : Type 0 where
+pub record Fact (script : List ScriptLine) (all : List Entry) (e : Entry) : Type 0 where
   pub unfallen : fails_swap e.step e.reply ≡ false
-  pub asked : (of : Bytes) (refs : List AskedIndex) (moment : ℕ) → e.step ≡ AskStep (Snapshot of refs moment) → (name : Bytes) (indices : List LineIndex) → IsAnswerOf (items.Snapshot name indices) (ask_reply all e.reply)
-  pub restored : (of place : Bytes) → e.step ≡ AskStep (Restore of place) → (name at : Bytes) → IsAnswerOf (items.Restore name at) (ask_reply all e.reply)
-  pub looked : e.step ≡ LookStep → IsAnswerOf items.List (look_reply e.reply)
+  pub asked : (of : Bytes) (refs : List AskedIndex) (moment : ℕ) → e.step ≡ AskStep (Snapshot of refs moment) → (indices : List LineIndex) → IsAnswerOf script (items.Snapshot of indices) (ask_reply all e.reply)
+  pub deleted : (names : List Bytes) → e.step ≡ AskStep (DeleteSnapshots names) → IsAnswerOf script (items.Delete names) (ask_reply all e.reply)
+  pub restored : (of place : Bytes) → e.step ≡ AskStep (Restore of place) → (name at : Bytes) → IsAnswerOf script (items.Restore name at) (ask_reply all e.reply)
+  pub looked : e.step ≡ LookStep → IsAnswerOf script items.List (look_reply e.reply)
 
 unfallen_rule : (command : Asked) (refusal : Refusal) → IsByRule command refusal → fails_swap (AskStep command) (entry.Refused refusal) ≡ false
 unfallen_rule (Snapshot name indices moment) (NameInUse uuid) rule = refl
@@ -40,6 +48,12 @@ unfallen_rule (Restore name place) (NoSnapshot at) rule = refl
 unfallen_rule (Restore name place) (BeingDeleted op) rule = refl
 unfallen_rule (Restore name place) (TooMany limit) rule = refl
 unfallen_rule (Restore name place) refusal rule = absurd rule
+unfallen_rule (Clone source name names moment taken) (NameInUse uuid) rule = refl
+unfallen_rule (Clone source name names moment taken) (NoSnapshot at) rule = refl
+unfallen_rule (Clone source name names moment taken) (BeingDeleted op) rule = refl
+unfallen_rule (Clone source name names moment taken) (NoIndex at) rule = refl
+unfallen_rule (Clone source name names moment taken) (TooMany limit) rule = refl
+unfallen_rule (Clone source name names moment taken) refusal rule = absurd rule
 unfallen_rule (DeleteSnapshots names) (NoSnapshot place) rule = refl
 unfallen_rule (DeleteSnapshots names) (CloneRunning op) rule = refl
 unfallen_rule (DeleteSnapshots names) (RestoreRunning op) rule = refl
@@ -52,57 +66,141 @@ unfallen_by (AskStep command) (entry.Refused refusal) calm = unfallen_rule comma
 unfallen_by step (entry.Refused refusal) calm = absurd calm
 unfallen_by step reply calm = refl
 
-asked_by : (all : List Entry) (of : Bytes) (refs : List AskedIndex) (moment : ℕ) (reply : entry.Reply) (name : Bytes) (indices : List LineIndex) → IsCalm reply (AskStep (Snapshot of refs moment)) → IsSaid (AskStep (Snapshot of refs moment)) reply
-    → ((o : ℕ) → accepts reply ≡ Some o → IsMade (end_of_op all o [] all)) → IsAnswerOf (items.Snapshot name indices) (ask_reply all reply)
-asked_by all of refs moment (Accepted op) name indices calm said made = subst (λ (a : Option Reply). IsAnswerOf (items.Snapshot name indices) (or_else a (deposed_by (has_fallen all)))) (sym (made op refl).is) tt
-asked_by all of refs moment (entry.Refused (NameInUse uuid)) name indices calm said made = tt
-asked_by all of refs moment (entry.Refused (TooMany limit)) name indices calm said made = tt
-asked_by all of refs moment (entry.Refused refusal) name indices calm said made = absurd calm
-asked_by all of refs moment reply name indices calm said made = absurd said
+-- ---- commands
+
+-- what is asked of deletes are lines of the script
+abbrev pub AsksAll : List ScriptLine → List Entry → Type 0
+AsksAll script all = (e : Entry) (names : List Bytes) → Has all e → e.step ≡ AskStep (DeleteSnapshots names) → (line : ScriptLine) × Has script line × (line.item ≡ items.Delete names)
+
+-- the snapshot of each that was accepted was made or aborted
+abbrev AreEnded : List Entry → Step → entry.Reply → Type 0
+AreEnded all step reply = (o : ℕ) → snapshot_of step reply ≡ Some o → (name : Bytes) × (name_by o step reply ≡ Some name) × (name_of_op all o ≡ Some name) × IsEnded all o (end_of_op all o [] all)
+
+has_has : (names : List Bytes) (name : Bytes) → has_name names name ≡ true → Has names name
+has_has [] name e = absurd (true≢false (sym e))
+has_has (x ∷ names) name e = elim (same_one x name) [ inl h ↦ inl h.1 | inr h ↦ inr (has_has names name (sym (ap (λ (b : Bool). b || has_name names name) h) ∙ e)) ]
+
+-- a delete for which the script asks aborted it
+deleted_line : (script : List ScriptLine) (all : List Entry) (o : ℕ) (name : Bytes) (answer : Option Reply) → AsksAll script all → name_of_op all o ≡ Some name → WasAborted all o answer → IsDeletedBy script name
+deleted_line script all o name answer asks is h =
+    let same : h.of ≡ name = some_same h.of name (sym h.of_is ∙ is) in
+    let (line, there, item) = asks h.e h.names h.has h.step in
+    (line, h.names, there, item, has_has h.names name (subst (λ (n : Bytes). has_name h.names n ≡ true) same h.named))
+
+asked_by : (script : List ScriptLine) (all : List Entry) (of : Bytes) (refs : List AskedIndex) (moment : ℕ) (reply : entry.Reply) (indices : List LineIndex) → IsCalm reply (AskStep (Snapshot of refs moment)) → IsSaid (AskStep (Snapshot of refs moment)) reply → AsksAll script all
+    → AreEnded all (AskStep (Snapshot of refs moment)) reply → IsAnswerOf script (items.Snapshot of indices) (ask_reply all reply)
+asked_by script all of refs moment (Accepted op) indices calm said asks ended =
+    let (name, by, is, how) = ended op refl in
+    let same : of ≡ name = some_same of name (sym (choose_true _ _ _ (same_op op)) ∙ by) in
+    elim how [
+      | inl made ↦ subst (λ (a : Option Reply). IsAnswerOf script (items.Snapshot of indices) (or_else a (deposed_by (has_fallen all)))) (sym made.is) tt
+      | inr aborted ↦ subst (λ (a : Option Reply). IsAnswerOf script (items.Snapshot of indices) (or_else a (deposed_by (has_fallen all)))) (sym aborted.is) (subst (IsDeletedBy script) (sym same) (deleted_line script all op name (end_of_op all op [] all) asks is aborted))
+    ]
+asked_by script all of refs moment (entry.Refused (NameInUse uuid)) indices calm said asks ended = tt
+asked_by script all of refs moment (entry.Refused (TooMany limit)) indices calm said asks ended = tt
+asked_by script all of refs moment (entry.Refused refusal) indices calm said asks ended = absurd calm
+asked_by script all of refs moment reply indices calm said asks ended = absurd said
+
+-- the delete of each that was accepted was carried out
+abbrev AreDeleted : List Entry → Step → entry.Reply → Type 0
+AreDeleted all step reply = (d : ℕ) → delete_of step reply ≡ Some d → IsDeleted (end_of_op all d [] all)
+
+deleted_by : (script : List ScriptLine) (all : List Entry) (names : List Bytes) (reply : entry.Reply) → IsCalm reply (AskStep (DeleteSnapshots names)) → IsSaid (AskStep (DeleteSnapshots names)) reply → AreDeleted all (AskStep (DeleteSnapshots names)) reply → IsAnswerOf script (items.Delete names) (ask_reply all reply)
+deleted_by script all names (Accepted op) calm said deleted = subst (λ (a : Option Reply). IsAnswerOf script (items.Delete names) (or_else a (deposed_by (has_fallen all)))) (sym (deleted op refl).is) tt
+deleted_by script all names (entry.Refused (NoSnapshot place)) calm said deleted = tt
+deleted_by script all names (entry.Refused (CloneRunning op)) calm said deleted = tt
+deleted_by script all names (entry.Refused (RestoreRunning op)) calm said deleted = tt
+deleted_by script all names (entry.Refused (TooMany limit)) calm said deleted = tt
+deleted_by script all names (entry.Refused refusal) calm said deleted = absurd calm
+deleted_by script all names reply calm said deleted = absurd said
 
 -- the restore of each that was accepted is answered
 abbrev IsAnswered : List Entry → entry.Reply → Type 0
 IsAnswered all reply = (a : AskedRestore) → opens reply ≡ Some a → IsRestoredReply (restore_reply all a.op a.uuid a.indices)
 
-restored_by : (all : List Entry) (of place : Bytes) (reply : entry.Reply) (name at : Bytes) → IsCalm reply (AskStep (Restore of place)) → IsSaid (AskStep (Restore of place)) reply → IsAnswered all reply → IsAnswerOf (items.Restore name at) (ask_reply all reply)
-restored_by all of place (AcceptedRestore op uuid indices) name at calm said made = subst (λ (a : Option Reply). IsAnswerOf (items.Restore name at) (or_else a (deposed_by (has_fallen all)))) (sym (made (record { op = op; uuid = uuid; indices = indices }) refl).is) tt
-restored_by all of place (entry.Refused (NoSnapshot number)) name at calm said made = tt
-restored_by all of place (entry.Refused (BeingDeleted op)) name at calm said made = tt
-restored_by all of place (entry.Refused (TooMany limit)) name at calm said made = tt
-restored_by all of place (entry.Refused refusal) name at calm said made = absurd calm
-restored_by all of place reply name at calm said made = absurd said
+restored_by : (script : List ScriptLine) (all : List Entry) (of place : Bytes) (reply : entry.Reply) (name at : Bytes) → IsCalm reply (AskStep (Restore of place)) → IsSaid (AskStep (Restore of place)) reply → IsAnswered all reply → IsAnswerOf script (items.Restore name at) (ask_reply all reply)
+restored_by script all of place (AcceptedRestore op uuid indices) name at calm said made =
+    subst (λ (a : Option Reply). IsAnswerOf script (items.Restore name at) (or_else a (deposed_by (has_fallen all)))) (sym (made (record { op = op; uuid = uuid; indices = indices }) refl).is) tt
+restored_by script all of place (entry.Refused (NoSnapshot number)) name at calm said made = tt
+restored_by script all of place (entry.Refused (BeingDeleted op)) name at calm said made = tt
+restored_by script all of place (entry.Refused (TooMany limit)) name at calm said made = tt
+restored_by script all of place (entry.Refused refusal) name at calm said made = absurd calm
+restored_by script all of place reply name at calm said made = absurd said
 
-looked_by : (reply : entry.Reply) → IsSaid LookStep reply → IsAnswerOf items.List (look_reply reply)
-looked_by (Looked snapshots safe) said = tt
-looked_by reply said = absurd said
+looked_by : (script : List ScriptLine) (reply : entry.Reply) → IsSaid LookStep reply → IsAnswerOf script items.List (look_reply reply)
+looked_by script (Looked snapshots safe) said = tt
+looked_by script reply said = absurd said
 
-fact_by : (all : List Entry) (e : Entry) → IsCalm e.reply e.step → IsSaid e.step e.reply → ((o : ℕ) → accepts e.reply ≡ Some o → IsMade (end_of_op all o [] all)) → IsAnswered all e.reply → Fact all e
-fact_by all e calm said made answered =
+fact_by : (script : List ScriptLine) (all : List Entry) (e : Entry) → IsCalm e.reply e.step → IsSaid e.step e.reply → AsksAll script all → AreEnded all e.step e.reply → AreDeleted all e.step e.reply → IsAnswered all e.reply → Fact script all e
+fact_by script all e calm said asks ended deleted answered =
     record {
       unfallen = unfallen_by e.step e.reply calm;
-      asked = λ of refs moment is name indices. asked_by all of refs moment e.reply name indices (subst (IsCalm e.reply) is calm) (subst (λ (step : Step). IsSaid step e.reply) is said) made;
-      restored = λ of place is name at. restored_by all of place e.reply name at (subst (IsCalm e.reply) is calm) (subst (λ (step : Step). IsSaid step e.reply) is said) answered;
-      looked = λ is. looked_by e.reply (subst (λ (step : Step). IsSaid step e.reply) is said);
+      asked = λ of refs moment is indices. asked_by script all of refs moment e.reply indices (subst (IsCalm e.reply) is calm) (subst (λ (step : Step). IsSaid step e.reply) is said) asks (subst (λ (step : Step). AreEnded all step e.reply) is ended);
+      deleted = λ names is. deleted_by script all names e.reply (subst (IsCalm e.reply) is calm) (subst (λ (step : Step). IsSaid step e.reply) is said) (subst (λ (step : Step). AreDeleted all step e.reply) is deleted);
+      restored = λ of place is name at. restored_by script all of place e.reply name at (subst (IsCalm e.reply) is calm) (subst (λ (step : Step). IsSaid step e.reply) is said) answered;
+      looked = λ is. looked_by script e.reply (subst (λ (step : Step). IsSaid step e.reply) is said);
     }
 
-said_unpruned : (step : Step) (reply : entry.Reply) → IsSaid step reply → IsUnpruned step
-said_unpruned (PruneStep prune) reply said = absurd said
-said_unpruned step reply said = tt
+-- ---- of a history
 
--- an op that was accepted ends with its snapshot
-made_by : (all : List Entry) (o : ℕ) → ((e : Entry) → Has all e → IsCalm e.reply e.step) → ((e : Entry) → Has all e → IsUnpruned e.step) → ((e : Entry) → Has all e → AsksNoDelete e.step) → IsSettledIn all o → IsMade (end_of_op all o [] all)
-made_by all o calm own unasked h = end_made all o [] all calm own unasked h.e h.has (settle_made all o h.uuid h.e h.op_is h.uuid_is h.step h.reply)
+pruned_is : (step : Step) (reply : entry.Reply) → IsPruned step reply → (step ≡ PruneStep SettlePruned) × (reply ≡ WasSettled)
+pruned_is (PruneStep SettlePruned) WasSettled is = (refl, refl)
+pruned_is step reply is = absurd is
 
-pub facts : Laws → (s : Start) (log : List Moment) → IsSmooth s log → NoneFailed log → NoneUnrestored log → AreByRule log → IsIdle s log → (e : Entry) → Has (entries_of log) e → Fact (entries_of log) e
-facts laws s log smooth none unrestored by_rule idle e has =
-    fact_by (entries_of log) e (calm e has) (h.said e has) (λ o accepted. elim (h.ended e o has accepted) [ inl stands ↦ absurd (all_closed laws s log smooth idle o stands) | inr settled ↦ made_by (entries_of log) o calm (λ x m. said_unpruned x.step x.reply (h.said x m)) unasked settled ])
-    (λ a opened. restored_reply (entries_of log) a.op a.uuid a.indices (all_restored laws s log smooth none unrestored by_rule idle e a has opened))
+settled_is : (step : Step) (reply : entry.Reply) → IsSettled step reply → (step ≡ SettleStep) × (reply ≡ WasSettled)
+settled_is SettleStep WasSettled is = (refl, refl)
+settled_is step reply is = absurd is
+
+module _ (w : World) (all : List Entry) (h : FollowsIn w all) (calm : (e : Entry) → Has all e → IsCalm e.reply e.step) (closed : (o : ℕ) → IsOpen w o → ⊥) where
+  -- an op with a name ends as a snapshot
+  ends_named : (o : ℕ) → HasName all o → EndsIn all o [] all → IsEnded all o (end_of_op all o [] all)
+  ends_named o name ends =
+      end_found all o [] all refl calm
+      (λ e has of pruned.
+      let is = pruned_is e.step e.reply pruned in
+      let (d, op, nameless) = h.prunes e has is.0 is.1 in
+      apart_name all w.next_op o d name nameless (some_same o d (sym of ∙ op)))
+      ends
+
+  ended : (e : Entry) → Has all e → AreEnded all e.step e.reply
+  ended e has o accepted =
+      let (name, how) = h.ended e o has accepted in (
+        name.0,
+        name.1,
+        name.2,
+        ends_named o (name.0, name.2) (elim how [
+          | inl stands ↦ absurd (closed o (inl stands))
+          | inr over ↦ elim over [
+            | inl s ↦ settled_in all o s.uuid s.e s.has s.op_is s.uuid_is s.step s.reply
+            | inr a ↦ subst (EndsIn all o []) (sym a.is) (aborted_in all o [] a.front a.e a.back a.answer a.aborts)
+          ]
+        ]),
+      )
+
+  deleted : (e : Entry) → Has all e → AreDeleted all e.step e.reply
+  deleted e has d accepted =
+      let (nameless, how) = h.deleted e d has accepted in
+      elim how [
+        | inl stands ↦ absurd (closed d (inr stands))
+        | inr p ↦
+            delete_found all d [] all refl nameless.unnamed calm
+            (λ x x_has of settled.
+            let is = settled_is x.step x.reply settled in
+            let (o, op, name) = h.settles x x_has is.0 is.1 in
+            apart_name all w.next_op o d name nameless (some_same o d (sym op ∙ of)))
+            p.e p.has (prune_deleted all d p.e p.op_is p.step p.reply)
+      ]
+
+pub facts : Laws → (script : List ScriptLine) (s : Start) (log : List Moment) → IsSmooth s log → NoneFailed log → NoneUndeleted log → NoneUnrestored log → AreByRule log → IsIdle s log → AsksAll script (entries_of log) → (e : Entry) → Has (entries_of log) e → Fact script (entries_of log) e
+facts laws script s log smooth none undeleted unrestored by_rule idle asks e has =
+    fact_by script (entries_of log) e (calm e has) (h.said e has) asks (ended (world_of s log) (entries_of log) h calm closed e has) (deleted (world_of s log) (entries_of log) h calm closed e has)
+    (λ a opened. restored_reply (entries_of log) a.op a.uuid a.indices (all_restored laws s log smooth none undeleted unrestored by_rule idle e a has opened))
   where
     h : FollowsIn (world_of s log) (entries_of log)
-    h = follows_all s log smooth none by_rule
+    h = follows_all laws s log smooth none undeleted by_rule
 
     calm : (x : Entry) → Has (entries_of log) x → IsCalm x.reply x.step
-    calm x m = let (moment, there, is) = Has-mapped (λ (y : Moment). y.entry) log x m in subst (λ (y : Entry). IsCalm y.reply y.step) is (all_calm log none by_rule moment there)
+    calm x m = let (moment, there, is) = Has-mapped (λ (y : Moment). y.entry) log x m in subst (λ (y : Entry). IsCalm y.reply y.step) is (all_calm log none undeleted by_rule moment there)
 
-    unasked : (x : Entry) → Has (entries_of log) x → AsksNoDelete x.step
-    unasked x m = let (moment, there, is) = Has-mapped (λ (y : Moment). y.entry) log x m in subst (λ (y : Entry). AsksNoDelete y.step) is (smooth.no_delete_asked moment there)
+    closed : (o : ℕ) → IsOpen (world_of s log) o → ⊥
+    closed o stands = all_closed laws s log smooth idle o stands

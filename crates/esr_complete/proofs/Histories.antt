@@ -1,80 +1,104 @@
 -- The world of a history where nothing fails, and that no op is open where no unit is ready and none is out.
-use Rattle.std.proofs.Common.{◌≡◌, ℕ, true, false, true≢false, List, [], ◌∷◌, ◌++◌, Option, Some, append_assoc, append-nil, refl, sym, ap, ◌∙◌, subst, inl, inr}
+use Rattle.std.proofs.Common.{◌≡◌, ℕ, suc, ◌+◌, ◌<◌, true, false, true≢false, List, [], ◌∷◌, ◌++◌, Option, Some, append_assoc, append-nil, refl, sym, ap, ◌∙◌, subst, inl, inr, arith}
+use Rattle.std.specs.Prelude.{length}
 use Rattle.std.specs.FinMap as fin
 use Rattle.esr_model.specs.Values.{Has, RootData, ClusterRecord, Formats}
 use Rattle.esr_model.specs.Shelf.{Shelved, shelf_after}
 use Rattle.esr_model.specs.Kept.{Kept}
 use Rattle.esr_model.specs.Image.{Blobs, Image}
-use Rattle.esr_core.specs.World.{World, Ticket, opened, Opened, OpenedEmpty, OpenedRecord, no_record, no_root}
+use Rattle.esr_core.specs.World.{World, Deletion, Ticket, kept_deletes, numbered_deletes, opened, Opened, OpenedEmpty, OpenedRecord, no_record, no_root}
 use Rattle.esr_core.specs.Ready.{IsOpen, AnyReady}
 use Rattle.esr_core.specs.Ids.{Law}
 use Rattle.esr_core.specs.ReadLaw.{ReadLaw}
-use Rattle.esr_core.specs.Entry.{Asked, Why, Step, AskStep, TakeStep, FailedStep, Refusal, Reply, NothingReady, HasEnded, Refused, Entry, Moment}
+use Rattle.esr_core.specs.Entry.{Asked, Why, Step, AskStep, TakeStep, FailedStep, PruneStep, DeleteFails, Refusal, Reply, NothingReady, HasEnded, Refused, Entry, Moment}
 use Rattle.esr_core.specs.After.{after}
 use Rattle.esr_core.specs.Allowed as allowed
 use Rattle.esr_core.specs.Allowed.{Allows, Allowed}
-use Rattle.esr_core.specs.History.{world_from, IsLegal, AllKnown, AreTold, AreHonest, committed}
+use Rattle.esr_core.specs.History.{world_from, IsLegal, TellsHandedOut, AllKnown, all_handed_out, AreTold, AreHonest, committed}
 use Rattle.esr_core.proofs.Opening.{nothing}
-use Rattle.esr_core.proofs.Queues.{Deletes}
+use Rattle.esr_core.proofs.Queues.{was_in}
 use Rattle.esr_core.proofs.Histories.{legal_parts, told_parts, honest_parts}
 use Rattle.esr_desk.specs.Start.{Start, formats_of, world_of, Legal, or_no_ticket}
 use Rattle.esr_quiet.specs.Refusals.{IsByRule, AreByRule}
-use Rattle.esr_quiet.specs.Smooth.{IsSmooth, NoDeleteAsked, NoneFailed}
+use Rattle.esr_quiet.specs.Smooth.{IsSmooth, NoneFailed, NoneUndeleted}
+use Rattle.esr_quiet.proofs.Passing.{quiet_at, smooth_front}
 use Rattle.esr_complete.specs.Lines.{entries_of}
 use Rattle.esr_complete.specs.Answers.{IsIdle}
-use Rattle.esr_complete.proofs.Tickets.{IsCalm}
-use Rattle.esr_complete.proofs.Following.{IsOpenIn, FollowsIn}
-use Rattle.esr_complete.proofs.Steps.{follows_step}
+use Rattle.esr_complete.proofs.Tickets.{none_some}
+use Rattle.esr_complete.proofs.OpEnds.{IsCalm}
+use Rattle.esr_complete.proofs.Following.{FollowsIn}
+use Rattle.esr_complete.proofs.Steps.{IsSafe, follows_step}
 
 -- ---- from the opened world on
 
-follows_opened : (blobs : Blobs) (cluster : ClusterRecord) (root : RootData) → (opened blobs cluster root).deletes ≡ fin.empty → FollowsIn (opened blobs cluster root) []
-follows_opened blobs cluster root none =
+-- the deletes that opening keeps
+numbered_told : (number : ℕ) (kept : List (List ℕ)) (d : ℕ) (x : Deletion) → fin.get (numbered_deletes number kept) d ≡ Some x → (x.failed ≡ false) × (d < number + length kept)
+numbered_told number [] d x e = absurd (nothing d x e)
+numbered_told number (uuids ∷ kept) d x e = elim (was_in (numbered_deletes (suc number) kept) number (record { uuids = uuids; clean = false; failed = false }) d x e) [
+  | inl is ↦ (ap (λ (y : Deletion). y.failed) (sym is.1), let same : d ≡ number = is.0 in omega (arith, same))
+  | inr is ↦ let rest = numbered_told (suc number) kept d x is.1 in (rest.0, let below : d < suc number + length kept = rest.1 in omega (arith, below))
+]
+
+follows_opened : (blobs : Blobs) (cluster : ClusterRecord) (root : RootData) → FollowsIn (opened blobs cluster root) []
+follows_opened blobs cluster root =
     record {
       live = refl;
-      no_deletes = λ d x e. nothing d x (ap (λ (m : Deletes). fin.get m d) (sym none) ∙ e);
-      going = λ o op e. absurd (nothing o op e);
-      no_drops = λ k t e is. nothing k t e;
-      no_deleting = λ k t uuids plan e is. nothing k t e;
+      ops = λ o op e. absurd (nothing o op e);
+      deletes = λ d x e.
+          let t = numbered_told 1 (kept_deletes cluster.ops) d x e in
+          record { unfailed = t.0; nameless = record { unnamed = refl; below = let below : d < 1 + length (kept_deletes cluster.ops) = t.1 in omega (arith, below) } };
+      coming = λ o le. refl;
       op_of = λ k t e. absurd (nothing k t e);
       uuid_of = λ k t info results made e is. absurd (nothing k t e);
       fresh = λ k le. (refl, refl);
+      units = λ k t e. absurd (nothing k t e);
+      final = λ o k e. absurd (none_some k e);
       said = λ e has. absurd has;
+      settles = λ e has. absurd has;
+      prunes = λ e has. absurd has;
       ended = λ e o has accepted. absurd has;
+      deleted = λ e d has accepted. absurd has;
     }
 
-pub follows_start : (f : Formats) (image : Image) (w : World) → Opened f image w → w.deletes ≡ fin.empty → FollowsIn w []
-follows_start f image w (OpenedEmpty none) no_deletes = follows_opened image.blobs no_record no_root no_deletes
-follows_start f image w (OpenedRecord cluster text root is reads root_is) no_deletes = follows_opened image.blobs cluster root no_deletes
+pub follows_start : (f : Formats) (image : Image) (w : World) → Opened f image w → FollowsIn w []
+follows_start f image w (OpenedEmpty none) = follows_opened image.blobs no_record no_root
+follows_start f image w (OpenedRecord cluster text root is reads root_is) = follows_opened image.blobs cluster root
 
 -- each entry is of a step where nothing fails
 abbrev pub AreCalm : List Moment → Type 0
 AreCalm log = (m : Moment) → Has log m → IsCalm m.entry.reply m.entry.step
 
-calm_by : (reply : Reply) (step : Step) → ((why : Why) → step ≡ FailedStep why → reply ≡ HasEnded → ⊥) → ((refusal : Refusal) → reply ≡ Refused refusal → (of : (command : Asked) × (step ≡ AskStep command)) × IsByRule of.0 refusal) → IsCalm reply step
-calm_by (Refused refusal) step none by_rule = let x = by_rule refusal refl in subst (IsCalm (Refused refusal)) (sym x.0.1) x.1
-calm_by HasEnded (FailedStep why) none by_rule = absurd (none why refl refl)
-calm_by reply step none by_rule = tt
+calm_by : (reply : Reply) (step : Step) → ((why : Why) → step ≡ FailedStep why → reply ≡ HasEnded → ⊥) → ((why : Why) → step ≡ PruneStep (DeleteFails why) → reply ≡ HasEnded → ⊥)
+    → ((refusal : Refusal) → reply ≡ Refused refusal → (of : (command : Asked) × (step ≡ AskStep command)) × IsByRule of.0 refusal) → IsCalm reply step
+calm_by (Refused refusal) step none undeleted by_rule = let x = by_rule refusal refl in subst (IsCalm (Refused refusal)) (sym x.0.1) x.1
+calm_by HasEnded (FailedStep why) none undeleted by_rule = absurd (none why refl refl)
+calm_by HasEnded (PruneStep (DeleteFails why)) none undeleted by_rule = absurd (undeleted why refl refl)
+calm_by reply step none undeleted by_rule = tt
 
-pub all_calm : (log : List Moment) → NoneFailed log → AreByRule log → AreCalm log
-all_calm log none by_rule m has = calm_by m.entry.reply m.entry.step (λ why is. none m why has is) (λ refusal is. by_rule m refusal has is)
+pub all_calm : (log : List Moment) → NoneFailed log → NoneUndeleted log → AreByRule log → AreCalm log
+all_calm log none undeleted by_rule m has = calm_by m.entry.reply m.entry.step (λ why is. none m why has is) (λ why is. undeleted m why has is) (λ refusal is. by_rule m refusal has is)
 
-pub follows_history : (f : Formats) (size : ℕ) (log : List Moment) (w : World) (es : List Entry) → FollowsIn w es → IsLegal f size w log → AreCalm log → NoDeleteAsked log → FollowsIn (world_from f w log) (es ++ entries_of log)
-follows_history f size [] w es h legal calm unasked = subst (FollowsIn w) (sym (append-nil es)) h
-follows_history f size (m ∷ log) w es h legal calm unasked =
+-- each world that the history passes is lawful, and its tickets are of the present term
+abbrev pub AreSafe : Formats → World → List Moment → Type 0
+AreSafe f w log = (front back : List Moment) → log ≡ front ++ back → IsSafe f (world_from f w front)
+
+pub follows_history : (f : Formats) (size : ℕ) (log : List Moment) (w : World) (es : List Entry) → FollowsIn w es → IsLegal f size w log → AreCalm log → AreSafe f w log → FollowsIn (world_from f w log) (es ++ entries_of log)
+follows_history f size [] w es h legal calm safe = subst (FollowsIn w) (sym (append-nil es)) h
+follows_history f size (m ∷ log) w es h legal calm safe =
     subst (FollowsIn (world_from f (after f w m) log)) (append_assoc es (m.entry ∷ []) (entries_of log))
-    (follows_history f size log (after f w m) (es ++ m.entry ∷ []) (follows_step f size w es h m legal.0 (calm m (inl refl)) (unasked m (inl refl))) legal.1 (λ n has. calm n (inr has)) (λ n has. unasked n (inr has)))
+    (follows_history f size log (after f w m) (es ++ m.entry ∷ []) (follows_step f size w es h m legal.0 (calm m (inl refl)) (safe [] (m ∷ log) refl)) legal.1 (λ n has. calm n (inr has))
+    (λ front back is. safe (m ∷ front) back (ap (λ (l : List Moment). m ∷ l) is)))
 
 -- ---- no unit is ready
 
 -- the laws of the core on which this rests
 pub record Laws : Type 0 where
-  pub lawful : (f : Formats) (part_size : ℕ) (image : Image) (shelf : List Shelved) (w : World) (log : List Moment) → AllKnown f → Kept f image shelf → Opened f image w → IsLegal f part_size w log → AreTold log → AreHonest f w log
+  pub lawful : (f : Formats) (part_size : ℕ) (image : Image) (shelf : List Shelved) (w : World) (log : List Moment) → TellsHandedOut f w log → Kept f image shelf → Opened f image w → IsLegal f part_size w log → AreTold log → AreHonest f w log
       → Law f (world_from f w log) (shelf_after shelf (committed f (world_from f w log).safe w log))
   pub ready : (f : Formats) (w : World) (shelf : List Shelved) (o : ℕ) → Law f w shelf → IsOpen w o → ((k : ℕ) (t : Ticket) → fin.get w.tickets k ≡ Some t → t.out ≡ true → ⊥) → AnyReady w
   pub opening : (f : Formats) (image : Image) (shelf : List Shelved) (w : World) → Kept f image shelf → Opened f image w → Law f w shelf
   pub restores_open : (f : Formats) (blobs : Blobs) (cluster : ClusterRecord) (root : RootData) → ReadLaw f (opened blobs cluster root)
-  pub restores_kept : (f : Formats) (part_size : ℕ) (shelf : List Shelved) (w : World) (log : List Moment) → AllKnown f → Law f w shelf → ReadLaw f w → IsLegal f part_size w log → AreTold log → AreHonest f w log → ReadLaw f (world_from f w log)
+  pub restores_kept : (f : Formats) (part_size : ℕ) (shelf : List Shelved) (w : World) (log : List Moment) → TellsHandedOut f w log → Law f w shelf → ReadLaw f w → IsLegal f part_size w log → AreTold log → AreHonest f w log → ReadLaw f (world_from f w log)
 
 -- what the answer of a take that gives nothing says
 abbrev SaysNone : World → Step → Reply → Type 0
@@ -102,29 +126,39 @@ nothing_ready image = record { entry = record { who = 0; step = TakeStep; reply 
 closed_front : Laws → (f : Formats) (size : ℕ) (first : Image) (shelf : List Shelved) (w : World) (front : List Moment) (image : Option Image) → AllKnown f → Kept f first shelf → Opened f first w → IsLegal f size w (front ++ nothing_ready image ∷ [])
     → AreTold (front ++ nothing_ready image ∷ []) → AreHonest f w (front ++ nothing_ready image ∷ [])
     → ((k : ℕ) (t : Ticket) → fin.get (world_from f w (front ++ nothing_ready image ∷ [])).tickets k ≡ Some t → t.out ≡ true → ⊥)
-    → (o : ℕ) → IsOpenIn (world_from f w (front ++ nothing_ready image ∷ [])).ops o → ⊥
+    → (o : ℕ) → IsOpen (world_from f w (front ++ nothing_ready image ∷ [])) o → ⊥
 closed_front laws f size first shelf w front image known kept start legal told honest none_out o stands =
     let m : Moment = nothing_ready image in
     let last : World = world_from f w front in
     let same : world_from f w (front ++ m ∷ []) ≡ after f last m = world_append f front w m in
     let legals = legal_parts f size front (m ∷ []) w legal in
-    let law = laws.lawful f size first shelf w front known kept start legals.0 (told_parts front (m ∷ []) told).0 (honest_parts f front (m ∷ []) w honest).0 in
+    let law = laws.lawful f size first shelf w front (all_handed_out f w front known) kept start legals.0 (told_parts front (m ∷ []) told).0 (honest_parts f front (m ∷ []) w honest).0 in
     none_ready f size last image legals.1.0
-    (laws.ready f last (shelf_after shelf (committed f last.safe w front)) o law (inl (subst (λ (x : World). IsOpenIn x.ops o) same stands))
+    (laws.ready f last (shelf_after shelf (committed f last.safe w front)) o law (subst (λ (x : World). IsOpen x o) same stands)
     (λ k t e. none_out k t (ap (λ (x : World). fin.get x.tickets k) same ∙ e)))
 
 out_by : (found : Option Ticket) (t : Ticket) → (or_no_ticket found).out ≡ false → found ≡ Some t → t.out ≡ true → ⊥
 out_by found t none is out = true≢false (sym out ∙ sym (ap (λ (o : Option Ticket). (or_no_ticket o).out) is) ∙ none)
 
--- no op is open at the end
-pub all_closed : Laws → (s : Start) (log : List Moment) → IsSmooth s log → IsIdle s log → (o : ℕ) → IsOpenIn (world_of s log).ops o → ⊥
+-- no op is open at the end, nor a delete
+pub all_closed : Laws → (s : Start) (log : List Moment) → IsSmooth s log → IsIdle s log → (o : ℕ) → IsOpen (world_of s log) o → ⊥
 all_closed laws s log smooth idle o stands =
     let is : log ≡ idle.none_ready.front ++ nothing_ready idle.none_ready.image ∷ [] = idle.none_ready.is in
     closed_front laws (formats_of s) s.part_size smooth.image smooth.shelf s.world idle.none_ready.front idle.none_ready.image smooth.known smooth.kept smooth.opened (subst (Legal s) is smooth.legal) (subst AreTold is smooth.told)
     (subst (AreHonest (formats_of s) s.world) is smooth.honest)
     (λ k t e out. out_by (fin.get (world_of s log).tickets k) t (idle.none_out k) (ap (λ (l : List Moment). fin.get (world_of s l).tickets k) is ∙ e) out)
-    o (subst (λ (l : List Moment). IsOpenIn (world_of s l).ops o) is stands)
+    o (subst (λ (l : List Moment). IsOpen (world_of s l) o) is stands)
+
+pub all_safe : Laws → (s : Start) (log : List Moment) → IsSmooth s log → AreSafe (formats_of s) s.world log
+all_safe laws s log smooth front back is =
+    let h = smooth_front s log smooth front back is in
+    record {
+      shelf = shelf_after h.shelf (committed (formats_of s) (world_of s front).safe s.world front);
+      law = laws.lawful (formats_of s) s.part_size h.image h.shelf s.world front (all_handed_out (formats_of s) s.world front h.known) h.kept h.opened h.legal h.told h.honest;
+      present = λ k t e. ((quiet_at s log smooth front back is).tickets k t e).present;
+    }
 
 -- what the whole history tells
-pub follows_all : (s : Start) (log : List Moment) → IsSmooth s log → NoneFailed log → AreByRule log → FollowsIn (world_of s log) (entries_of log)
-follows_all s log smooth none by_rule = follows_history (formats_of s) s.part_size log s.world [] (follows_start (formats_of s) smooth.image s.world smooth.opened smooth.no_deletes) smooth.legal (all_calm log none by_rule) smooth.no_delete_asked
+pub follows_all : Laws → (s : Start) (log : List Moment) → IsSmooth s log → NoneFailed log → NoneUndeleted log → AreByRule log → FollowsIn (world_of s log) (entries_of log)
+follows_all laws s log smooth none undeleted by_rule =
+    follows_history (formats_of s) s.part_size log s.world [] (follows_start (formats_of s) smooth.image s.world smooth.opened) smooth.legal (all_calm log none undeleted by_rule) (all_safe laws s log smooth)

@@ -6,7 +6,7 @@ use Rattle.esr_model.specs.Names.{BlobName}
 use Rattle.esr_model.specs.Values.{Bytes, Has, Formats}
 use Rattle.esr_model.specs.Image.{Image}
 use Rattle.esr_core.specs.World.{World, Caller, no_caller, Opened, OpenedEmpty, OpenedRecord}
-use Rattle.esr_core.specs.Entry.{Read, ReadBlob, CheckedAll, DrawTest, VerifiedAll, ReadFails, Why, Step, AskStep, TakeStep, LookStep, ReadStep, HasEnded, Reply, Refused, Entry, Moment}
+use Rattle.esr_core.specs.Entry.{DeleteSnapshots, Read, ReadBlob, CheckedAll, DrawTest, VerifiedAll, ReadFails, Why, Step, AskStep, TakeStep, LookStep, ReadStep, HasEnded, Reply, Refused, Entry, Moment}
 use Rattle.esr_core.specs.After.{told_blob, is_heard, caller_told, caller_wrote, caller_read, caller_after}
 use Rattle.esr_core.specs.Allowed as allowed
 use Rattle.esr_core.specs.Allowed.{ReadAllows, ReadFound, ReadMissing, ReadFault, RestoringShard, ReaderFailing, CheckingAll, CheckFailing, VerifyAllows, DrawingTest, TestSpent, BeginningTest, BeginTestFails, CommittingTest, TestTaken, CommitTestFails, RemovingTests, RemoveTestsFails, VerifyingAll, VerifyFailing, Allows, Allowed}
@@ -17,15 +17,15 @@ use Rattle.esr_report.specs.Replies.{is_line_step, is_of_line}
 use Rattle.esr_checking.specs.CheckShown.{AllFetches}
 use Rattle.esr_desk.specs.Start.{Start, formats_of, world_of}
 use Rattle.esr_checking.specs.Caller.{caller_of}
-use Rattle.esr_quiet.specs.Asked.{is_line_ask, is_asked, asked_steps}
-use Rattle.esr_quiet.specs.Smooth.{IsSmooth, NoneFailed, NoneUnverified, NoneChecked}
+use Rattle.esr_quiet.specs.Asked.{is_line_ask, is_asked, as_asked, asked_steps}
+use Rattle.esr_quiet.specs.Smooth.{IsSmooth, NoneFailed, NoneUndeleted, NoneUnverified, NoneChecked}
 use Rattle.esr_quiet.specs.Refusals.{AreByRule}
 use Rattle.esr_quiet.proofs.Prefixes.{has_at}
 use Rattle.esr_quiet.proofs.Passing.{quiet_at, legal_at}
 use Rattle.esr_quiet.proofs.Callers.{caller_one, caller_left}
 use Rattle.esr_complete.specs.InTurn.{IsInTurn, IsEndOfCheck, IsCheckPart, IsPart, AreParts, NoneAsksCheck, AreChecksInTurn}
 use Rattle.esr_complete.specs.Lines.{steps_of_item, steps_of, entries_of}
-use Rattle.esr_complete.proofs.Tickets.{IsCalm}
+use Rattle.esr_complete.proofs.OpEnds.{IsCalm}
 use Rattle.esr_complete.proofs.Histories.{all_calm}
 
 -- the step reads nothing
@@ -50,6 +50,7 @@ falses (step ∷ steps) = false ∷ falses steps
 
 abbrev pub kinds_of_item : Item → List Bool
 kinds_of_item (items.Snapshot name indices) = false ∷ []
+kinds_of_item (items.Clone source name indices) = false ∷ []
 kinds_of_item (items.Delete names) = false ∷ []
 kinds_of_item (items.Restore name place) = false ∷ []
 kinds_of_item items.List = false ∷ []
@@ -82,15 +83,15 @@ IsLineStep LookStep = Unit {0}
 IsLineStep (ReadStep DrawTest) = Unit {0}
 IsLineStep step = ⊥
 
-behind : (n : Moment) (log : List Moment) (step : Step) (b : Bool) → Has (asked_steps log) step → Has (if b then n.entry.step ∷ asked_steps log else asked_steps log) step
+behind : (n : Moment) (log : List Moment) (step : Step) (b : Bool) → Has (asked_steps log) step → Has (if b then as_asked n.entry.step ∷ asked_steps log else asked_steps log) step
 behind n log step true h = inr h
 behind n log step false h = h
 
-in_asked : (log : List Moment) (m : Moment) → Has log m → is_asked m.entry ≡ true → Has (asked_steps log) m.entry.step
+pub in_asked : (log : List Moment) (m : Moment) → Has log m → is_asked m.entry ≡ true → Has (asked_steps log) (as_asked m.entry.step)
 in_asked [] m h asked = absurd h
 in_asked (n ∷ log) m (inl e) asked =
-    subst (λ (l : List Step). Has l m.entry.step) (sym (ap (λ (b : Bool). if b then n.entry.step ∷ asked_steps log else asked_steps log) (ap (λ (x : Moment). is_asked x.entry) e ∙ asked))) (inl (ap (λ (x : Moment). x.entry.step) e))
-in_asked (n ∷ log) m (inr h) asked = behind n log m.entry.step (is_asked n.entry) (in_asked log m h asked)
+    subst (λ (l : List Step). Has l (as_asked m.entry.step)) (sym (ap (λ (b : Bool). if b then as_asked n.entry.step ∷ asked_steps log else asked_steps log) (ap (λ (x : Moment). is_asked x.entry) e ∙ asked))) (inl (ap (λ (x : Moment). as_asked x.entry.step) e))
+in_asked (n ∷ log) m (inr h) asked = behind n log (as_asked m.entry.step) (is_asked n.entry) (in_asked log m h asked)
 
 either_list : (a b : List Step) (step : Step) → Has (a ++ b) step → Has a step ⊎ Has b step
 either_list [] b step h = inr h
@@ -100,6 +101,8 @@ either_list (x ∷ a) b step (inr h) = elim (either_list a b step h) [ inl own �
 item_step : (moment : ℕ) (item : Item) (step : Step) → Has (steps_of_item moment item) step → IsLineStep step
 item_step moment (items.Snapshot name indices) step (inl e) = subst IsLineStep e tt
 item_step moment (items.Snapshot name indices) step (inr h) = absurd h
+item_step moment (items.Clone source name indices) step (inl e) = subst IsLineStep e tt
+item_step moment (items.Clone source name indices) step (inr h) = absurd h
 item_step moment (items.Delete names) step (inl e) = subst IsLineStep e tt
 item_step moment (items.Delete names) step (inr h) = absurd h
 item_step moment (items.Restore name place) step (inl e) = subst IsLineStep e tt
@@ -119,6 +122,36 @@ lines_step moment (line ∷ lines) step h = elim (either_list (steps_of_item mom
   | inr later ↦ lines_step moment lines step later
 ]
 
+-- a delete that is asked for is that of a line
+item_delete : (moment : ℕ) (item : Item) (names : List Bytes) → Has (steps_of_item moment item) (AskStep (DeleteSnapshots names)) → item ≡ items.Delete names
+item_delete moment (items.Snapshot name indices) names (inl e) = absurd cc
+item_delete moment (items.Snapshot name indices) names (inr h) = absurd h
+item_delete moment (items.Clone source name indices) names (inl e) = absurd cc
+item_delete moment (items.Clone source name indices) names (inr h) = absurd h
+item_delete moment (items.Delete called) names (inl e) = let same : called ≡ names = cc in ap (λ (l : List Bytes). items.Delete l) same
+item_delete moment (items.Delete called) names (inr h) = absurd h
+item_delete moment (items.Restore name place) names (inl e) = absurd cc
+item_delete moment (items.Restore name place) names (inr h) = absurd h
+item_delete moment items.List names (inl e) = absurd cc
+item_delete moment items.List names (inr h) = absurd h
+item_delete moment items.Check names (inl e) = absurd cc
+item_delete moment items.Check names (inr h) = absurd h
+item_delete moment items.Verify names (inl e) = absurd cc
+item_delete moment items.Verify names (inr h) = absurd h
+item_delete moment item names h = absurd h
+
+pub lines_delete : (moment : ℕ) (lines : List ScriptLine) (names : List Bytes) → Has (steps_of moment lines) (AskStep (DeleteSnapshots names)) → (line : ScriptLine) × Has lines line × (line.item ≡ items.Delete names)
+lines_delete moment [] names h = absurd h
+lines_delete moment (line ∷ lines) names h = elim (either_list (steps_of_item moment line.item) (steps_of moment lines) (AskStep (DeleteSnapshots names)) h) [
+  | inl own ↦ (line, inl refl, item_delete moment line.item names own)
+  | inr later ↦ let (found, there, is) = lines_delete moment lines names later in (found, inr there, is)
+]
+
+-- as it is asked for
+line_step : (step : Step) → IsLineStep (as_asked step) → IsLineStep step
+line_step (AskStep command) h = tt
+line_step step h = h
+
 -- ---- a step
 
 -- what a step does to the id of the open verification
@@ -130,23 +163,23 @@ data OneTurn (was now : Option ℕ) (e : Entry) : Type 0 where
 
 -- what was asked for, with an entry before it
 abbrev asked_with : Entry → List Step → List Step
-asked_with e steps = if is_asked e then e.step ∷ steps else steps
+asked_with e steps = if is_asked e then as_asked e.step ∷ steps else steps
 
 go_on : (was now : Option ℕ) (e : Entry) (es : List Entry) (steps : List Step) (kinds : List Bool) → OneTurn was now e → InTurn (turn_by now) (falses steps ++ kinds) es → InTurn (turn_by was) (falses (asked_with e steps) ++ kinds) (e ∷ es)
 go_on was now e es steps kinds (LineTurn asked line aside none closed) turn =
     subst (λ (o : Option ℕ). InTurn (turn_by o) (falses (asked_with e steps) ++ kinds) (e ∷ es)) (sym none)
-    (subst (λ (b : Bool). InTurn Idle (falses (if b then e.step ∷ steps else steps) ++ kinds) (e ∷ es)) (sym asked)
+    (subst (λ (b : Bool). InTurn Idle (falses (if b then as_asked e.step ∷ steps else steps) ++ kinds) (e ∷ es)) (sym asked)
     (IsLine (falses steps ++ kinds) e es asked line aside (subst (λ (o : Option ℕ). InTurn (turn_by o) (falses steps ++ kinds) es) closed turn)))
 go_on was now e es steps kinds (DrawTurn id asked line draw none opened) turn =
     subst (λ (o : Option ℕ). InTurn (turn_by o) (falses (asked_with e steps) ++ kinds) (e ∷ es)) (sym none)
-    (subst (λ (b : Bool). InTurn Idle (falses (if b then e.step ∷ steps else steps) ++ kinds) (e ∷ es)) (sym asked)
+    (subst (λ (b : Bool). InTurn Idle (falses (if b then as_asked e.step ∷ steps else steps) ++ kinds) (e ∷ es)) (sym asked)
     (IsDraw (falses steps ++ kinds) e es asked line draw (subst (λ (o : Option ℕ). InTurn (turn_by o) (falses steps ++ kinds) es) opened turn)))
 go_on was now e es steps kinds (EndTurn id asked line step reply opened closed) turn =
     subst (λ (o : Option ℕ). InTurn (turn_by o) (falses (asked_with e steps) ++ kinds) (e ∷ es)) (sym opened)
-    (subst (λ (b : Bool). InTurn InVerification (falses (if b then e.step ∷ steps else steps) ++ kinds) (e ∷ es)) (sym asked)
+    (subst (λ (b : Bool). InTurn InVerification (falses (if b then as_asked e.step ∷ steps else steps) ++ kinds) (e ∷ es)) (sym asked)
     (IsEnd (falses steps ++ kinds) e es asked line step reply (subst (λ (o : Option ℕ). InTurn (turn_by o) (falses steps ++ kinds) es) closed turn)))
 go_on was now e es steps kinds (AsideTurn asked line same) turn =
-    subst (λ (b : Bool). InTurn (turn_by was) (falses (if b then e.step ∷ steps else steps) ++ kinds) (e ∷ es)) (sym asked)
+    subst (λ (b : Bool). InTurn (turn_by was) (falses (if b then as_asked e.step ∷ steps else steps) ++ kinds) (e ∷ es)) (sym asked)
     (IsAside (turn_by was) (falses steps ++ kinds) e es asked line (subst (λ (o : Option ℕ). InTurn (turn_by o) (falses steps ++ kinds) es) same turn))
 
 abbrev by_nobody : Step → Reply → Entry
@@ -265,11 +298,12 @@ lines_kinds moment (line ∷ lines) none =
     falses_both (steps_of_item moment line.item) (steps_of moment lines)
     ∙ (λ i. item_kinds moment line.item (none line (inl refl)) i ++ lines_kinds moment lines (λ l has. none l (inr has)) i)
 
-module _ (s : Start) (log : List Moment) (lines : List ScriptLine) (moment : ℕ) (smooth : IsSmooth s log) (none : NoneFailed log) (unverified : NoneUnverified log) (by_rule : AreByRule log) (in_turn : IsInTurn s log)
+module _ (s : Start) (log : List Moment) (lines : List ScriptLine) (moment : ℕ) (smooth : IsSmooth s log) (none : NoneFailed log) (undeleted : NoneUndeleted log) (unverified : NoneUnverified log) (by_rule : AreByRule log) (in_turn : IsInTurn s log)
     (asked : asked_steps log ≡ steps_of moment lines) where
   lined : (m : Moment) → Has log m → m.entry.who ≡ 0 → is_line_ask m.entry.step ≡ true → IsLineStep m.entry.step
   lined m has who ask =
-      lines_step moment lines m.entry.step (subst (λ (l : List Step). Has l m.entry.step) asked (in_asked log m has (ap (λ (k : ℕ). (k == 0) && is_line_ask m.entry.step) who ∙ ask)))
+      line_step m.entry.step
+      (lines_step moment lines (as_asked m.entry.step) (subst (λ (l : List Step). Has l (as_asked m.entry.step)) asked (in_asked log m has (ap (λ (k : ℕ). (k == 0) && is_line_ask m.entry.step) who ∙ ask))))
 
   -- a step by which no check ends well
   turn_at : (front back : List Moment) (m : Moment) → log ≡ front ++ m ∷ back → ((snapshots blobs : ℕ) → m.entry.who ≡ 0 → m.entry.step ≢ ReadStep (CheckedAll snapshots blobs)) → OneTurn (caller_of s front).drawn (caller_of s (front ++ m ∷ [])).drawn m.entry
@@ -280,7 +314,7 @@ module _ (s : Start) (log : List Moment) (lines : List ScriptLine) (moment : ℕ
         | inl nobody ↦ elim a.answered [
           | inl alive ↦
               subst (λ (x : Caller). OneTurn (caller_of s front).drawn x.drawn m.entry) (sym (caller_one s front m))
-              (turn_of (formats_of s) s.part_size (world_of s front) m nobody.1 (lined m has nobody.1) (in_turn.asked front back m is nobody.1) (all_calm log none by_rule m has)
+              (turn_of (formats_of s) s.part_size (world_of s front) m nobody.1 (lined m has nobody.1) (in_turn.asked front back m is nobody.1) (all_calm log none undeleted by_rule m has)
               ((λ why. unverified m why has nobody.1), (λ snapshots blobs. unchecked snapshots blobs nobody.1)) alive.1)
           | inr dead ↦ absurd (true≢false (sym dead.deposed ∙ (quiet_at s log smooth front (m ∷ back) is).present))
         ]
@@ -327,7 +361,7 @@ module _ (s : Start) (log : List Moment) (lines : List ScriptLine) (moment : ℕ
       let ending : InTurn InCheck kinds (entries_of (h.end ∷ back)) =
       IsCheckEnd kinds h.end.entry (entries_of back) snapshots blobs end_asked end_line step h.ended (subst (λ (o : Option ℕ). InTurn (turn_by o) kinds (entries_of back)) closed turn) in
       let calm : AllCalmIn h.fetches =
-      λ m has. all_calm log none by_rule m (subst (λ (l : List Moment). Has l m) (sym from) (behind_all done (h.look ∷ (h.fetches ++ h.end ∷ back)) m (inr (before_all h.fetches (h.end ∷ back) m has)))) in
+      λ m has. all_calm log none undeleted by_rule m (subst (λ (l : List Moment). Has l m) (sym from) (behind_all done (h.look ∷ (h.fetches ++ h.end ∷ back)) m (inr (before_all h.fetches (h.end ∷ back) m has)))) in
       let look_asked : is_asked h.look.entry ≡ true = (λ i. (h.looker i == 0) && is_line_ask (h.looks i)) in
       let look_line : is_of_line h.look.entry ≡ true = (λ i. (h.looker i == 0) && is_line_step (h.looks i) h.look.entry.reply) in
       let looking : InTurn Idle (true ∷ kinds) (entries_of (h.look ∷ (h.fetches ++ h.end ∷ back))) =

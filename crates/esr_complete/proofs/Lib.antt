@@ -1,6 +1,8 @@
 pub mod Tickets
+pub mod OpEnds
 pub mod RestoreTickets
 pub mod Following
+pub mod AbortedOps
 pub mod FollowingRestores
 pub mod Steps
 pub mod RestoreSteps
@@ -8,5 +10,6 @@ pub mod Histories
 pub mod RestoreHistories
 pub mod InTurn
 pub mod Facts
+pub mod Asks
 pub mod Walk
 pub mod Endings

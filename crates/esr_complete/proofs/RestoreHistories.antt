@@ -13,7 +13,7 @@ use Rattle.esr_core.specs.ReadLaw.{ReadLaw}
 use Rattle.esr_core.specs.Ready.{AnyReady, ARestore}
 use Rattle.esr_core.specs.Entry.{Entry, Moment}
 use Rattle.esr_core.specs.After.{after}
-use Rattle.esr_core.specs.History.{world_from, IsLegal, AllKnown, AreTold, AreHonest}
+use Rattle.esr_core.specs.History.{world_from, IsLegal, AllKnown, all_handed_out, AreTold, AreHonest}
 use Rattle.esr_core.proofs.Histories.{legal_parts, told_parts, honest_parts}
 use Rattle.esr_core.proofs.Opening.{nothing}
 use Rattle.esr_core.proofs.Restoring.{one_waits}
@@ -21,7 +21,7 @@ use Rattle.esr_desk.specs.Start.{Start, formats_of, world_of, Legal}
 use Rattle.esr_desk.specs.Readers.{or_no_reader}
 use Rattle.esr_report.specs.Replies.{read_shard}
 use Rattle.esr_quiet.specs.Refusals.{AreByRule}
-use Rattle.esr_quiet.specs.Smooth.{IsSmooth, NoDeleteAsked, NoneFailed, NoneUnrestored}
+use Rattle.esr_quiet.specs.Smooth.{IsSmooth, NoneFailed, NoneUndeleted, NoneUnrestored}
 use Rattle.esr_complete.specs.Lines.{entries_of}
 use Rattle.esr_complete.specs.Answers.{IsIdle}
 use Rattle.esr_complete.proofs.Following.{FollowsIn}
@@ -29,7 +29,7 @@ use Rattle.esr_complete.proofs.Steps.{follows_step}
 use Rattle.esr_complete.proofs.RestoreTickets.{IsRestored}
 use Rattle.esr_complete.proofs.FollowingRestores.{AskedRestore, opens, RestoresIn}
 use Rattle.esr_complete.proofs.RestoreSteps.{IsOrdered, restores_step}
-use Rattle.esr_complete.proofs.Histories.{Laws, AreCalm, all_calm, follows_start, none_ready, world_append, nothing_ready}
+use Rattle.esr_complete.proofs.Histories.{Laws, AreCalm, all_calm, AreSafe, all_safe, follows_start, none_ready, world_append, nothing_ready}
 
 -- ---- each world of the history is in order
 
@@ -42,8 +42,8 @@ below_or_same a b less = omega (arith, less)
 
 ordered_by : Laws → (f : Formats) (size : ℕ) (first : Image) (shelf : List Shelved) (w : World) (log : List Moment) → AllKnown f → Kept f first shelf → Opened f first w → IsLegal f size w log → AreTold log → AreHonest f w log → IsOrdered (world_from f w log)
 ordered_by laws f size first shelf w log known kept start legal told honest =
-    let law = laws.lawful f size first shelf w log known kept start legal told honest in
-    let reads = laws.restores_kept f size shelf w log known (laws.opening f first shelf w kept start) (read_opened laws f first w start) legal told honest in
+    let law = laws.lawful f size first shelf w log (all_handed_out f w log known) kept start legal told honest in
+    let reads = laws.restores_kept f size shelf w log (all_handed_out f w log known) (laws.opening f first shelf w kept start) (read_opened laws f first w start) legal told honest in
     record { tracked = reads.tracked; below = below_or_same (world_from f w log).next_id (first_id (suc (world_from f w log).term)) law.in_term.below }
 
 -- and so is each that a history passes
@@ -70,22 +70,22 @@ restores_start : (f : Formats) (image : Image) (w : World) → Opened f image w 
 restores_start f image w (OpenedEmpty none) = restores_opened image.blobs no_record no_root
 restores_start f image w (OpenedRecord cluster text root is reads root_is) = restores_opened image.blobs cluster root
 
-restores_history : (f : Formats) (size : ℕ) (log : List Moment) (w : World) (es : List Entry) → FollowsIn w es → RestoresIn w es → IsLegal f size w log → AreCalm log → NoDeleteAsked log → NoneUnrestored log → AreOrdered f w log → RestoresIn (world_from f w log) (es ++ entries_of log)
-restores_history f size [] w es h r legal calm unasked none ordered = subst (RestoresIn w) (sym (append-nil es)) r
-restores_history f size (m ∷ log) w es h r legal calm unasked none ordered =
+restores_history : (f : Formats) (size : ℕ) (log : List Moment) (w : World) (es : List Entry) → FollowsIn w es → RestoresIn w es → IsLegal f size w log → AreCalm log → AreSafe f w log → NoneUnrestored log → AreOrdered f w log → RestoresIn (world_from f w log) (es ++ entries_of log)
+restores_history f size [] w es h r legal calm safe none ordered = subst (RestoresIn w) (sym (append-nil es)) r
+restores_history f size (m ∷ log) w es h r legal calm safe none ordered =
     subst (RestoresIn (world_from f (after f w m) log)) (append_assoc es (m.entry ∷ []) (entries_of log))
-    (restores_history f size log (after f w m) (es ++ m.entry ∷ []) (follows_step f size w es h m legal.0 (calm m (inl refl)) (unasked m (inl refl)))
-    (restores_step f size w es r (ordered [] (m ∷ log) refl) h.live m legal.0 (λ why from is. none m why (inl refl) from is)) legal.1 (λ n has. calm n (inr has)) (λ n has. unasked n (inr has)) (λ n why has. none n why (inr has))
+    (restores_history f size log (after f w m) (es ++ m.entry ∷ []) (follows_step f size w es h m legal.0 (calm m (inl refl)) (safe [] (m ∷ log) refl))
+    (restores_step f size w es r (ordered [] (m ∷ log) refl) h.live m legal.0 (λ why from is. none m why (inl refl) from is)) legal.1 (λ n has. calm n (inr has)) (λ front back is. safe (m ∷ front) back (ap (λ (l : List Moment). m ∷ l) is)) (λ n why has. none n why (inr has))
     (λ front back is. ordered (m ∷ front) back (ap (λ (l : List Moment). m ∷ l) is)))
 
 smooth_ordered : Laws → (s : Start) (log : List Moment) → IsSmooth s log → AreOrdered (formats_of s) s.world log
 smooth_ordered laws s log smooth = all_ordered laws (formats_of s) s.part_size smooth.image smooth.shelf s.world log smooth.known smooth.kept smooth.opened smooth.legal smooth.told smooth.honest
 
 -- what the whole history tells
-restores_all : Laws → (s : Start) (log : List Moment) → IsSmooth s log → NoneFailed log → NoneUnrestored log → AreByRule log → RestoresIn (world_of s log) (entries_of log)
-restores_all laws s log smooth none unrestored by_rule =
-    restores_history (formats_of s) s.part_size log s.world [] (follows_start (formats_of s) smooth.image s.world smooth.opened smooth.no_deletes) (restores_start (formats_of s) smooth.image s.world smooth.opened) smooth.legal
-    (all_calm log none by_rule) smooth.no_delete_asked unrestored (smooth_ordered laws s log smooth)
+restores_all : Laws → (s : Start) (log : List Moment) → IsSmooth s log → NoneFailed log → NoneUndeleted log → NoneUnrestored log → AreByRule log → RestoresIn (world_of s log) (entries_of log)
+restores_all laws s log smooth none undeleted unrestored by_rule =
+    restores_history (formats_of s) s.part_size log s.world [] (follows_start (formats_of s) smooth.image s.world smooth.opened) (restores_start (formats_of s) smooth.image s.world smooth.opened) smooth.legal
+    (all_calm log none undeleted by_rule) (all_safe laws s log smooth) unrestored (smooth_ordered laws s log smooth)
 
 -- ---- no restore is open at the end
 
@@ -125,9 +125,9 @@ none_open_at laws s log smooth idle o r there =
     o r (ap (λ (l : List Moment). fin.get (world_of s l).restores o) (sym is) ∙ there)
 
 -- so each shard of each restore that was accepted was restored
-pub all_restored : Laws → (s : Start) (log : List Moment) → IsSmooth s log → NoneFailed log → NoneUnrestored log → AreByRule log → IsIdle s log → (e : Entry) (a : AskedRestore) → Has (entries_of log) e → opens e.reply ≡ Some a
+pub all_restored : Laws → (s : Start) (log : List Moment) → IsSmooth s log → NoneFailed log → NoneUndeleted log → NoneUnrestored log → AreByRule log → IsIdle s log → (e : Entry) (a : AskedRestore) → Has (entries_of log) e → opens e.reply ≡ Some a
     → (p : IndexRef × ℕ) → Has (places a.indices) p → IsRestored (entries_of log) (read_shard a.op a.uuid p)
-all_restored laws s log smooth none unrestored by_rule idle e a has opened p m = elim ((restores_all laws s log smooth none unrestored by_rule).asked e a has opened p m) [
+all_restored laws s log smooth none undeleted unrestored by_rule idle e a has opened p m = elim ((restores_all laws s log smooth none undeleted unrestored by_rule).asked e a has opened p m) [
   | inl stands ↦ absurd (none_open_at laws s log smooth idle a.op stands.r stands.there)
   | inr restored ↦ restored
 ]

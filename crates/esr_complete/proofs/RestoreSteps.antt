@@ -10,11 +10,11 @@ use Rattle.esr_model.specs.Image.{Image}
 use Rattle.esr_core.specs.World.{World, Restored, RestoreShard, Restoring, Reader}
 use Rattle.esr_core.specs.Restores.{IsReading, restore_shard, read_more}
 use Rattle.esr_core.specs.ReadTracked.{ReaderTracked, RestoresTracked}
-use Rattle.esr_core.specs.Entry.{Asked, Snapshot, Restore, Clone, DeleteSnapshots, Cleanup, is_recorded, Given, GivenShard, GivenFinalize, GivenDrop, GivenRestore, GivenClone, GivenDelete, GivenCleanup, Why, Read, ReadBlob, RestoredShard, CheckedAll, CommitTest, ReadFails, Prune, SettlePruned, Step, AskStep, TakeStep, ReadStep, PruneStep, NoSnapshot, BeingDeleted, TooMany, DepotFault, CleanupRunning, CloneRunning, RestoreRunning, Reply, Accepted, Gave, WasSettled, WasFetched, WasAbsent, HasEnded, Refused, AcceptedRestore, Entry, Moment}
+use Rattle.esr_core.specs.Entry.{Asked, Snapshot, Restore, Clone, CloneOf, DeleteSnapshots, Cleanup, is_recorded, Given, GivenShard, GivenFinalize, GivenDrop, GivenRestore, GivenClone, GivenDelete, GivenCleanup, Why, Read, ReadBlob, RestoredShard, CheckedAll, CommitTest, ReadFails, Prune, SettlePruned, Step, AskStep, TakeStep, ReadStep, PruneStep, NameInUse, NoSnapshot, NoIndex, BeingDeleted, TooMany, IdsSpent, DepotFault, CleanupRunning, CloneRunning, RestoreRunning, Reply, Accepted, Gave, WasSettled, WasFetched, WasAbsent, HasEnded, Refused, AcceptedRestore, Entry, Moment}
 use Rattle.esr_core.specs.Deletes.{delete_number}
 use Rattle.esr_core.specs.After.{told_blob, taken_restore, taken_restore_shard, read_told, shard_over, read_over, read_by, test_left, answered, after}
 use Rattle.esr_core.specs.Allowed as allowed
-use Rattle.esr_core.specs.Allowed.{Gives, GivesRestore, DeleteAllows, GoingInto, NotNamed, CloneStands, RestoreStands, FullOfOps, DeleteFault, RestoreAllows, OpeningRestore, NotListed, NamedByDelete, FullOfRestores, ReadAllows, ReadFound, ReadMissing, ReadFault, RestoringShard, ReaderFailing, CheckingAll, CheckFailing, VerifyAllows, DrawingTest, CommittingTest, CommitTestFails, SettlingDelete, PruneAllows, Allows, Allowed}
+use Rattle.esr_core.specs.Allowed.{Gives, GivesRestore, CloneAllows, OpeningClone, CloneUsed, SourceNotListed, SourceDeleted, IndexMissing, FullOfClones, CloneSpent, CloneFault, DeleteAllows, GoingInto, NotNamed, CloneStands, RestoreStands, FullOfOps, DeleteFault, RestoreAllows, OpeningRestore, NotListed, NamedByDelete, FullOfRestores, ReadAllows, ReadFound, ReadMissing, ReadFault, RestoringShard, ReaderFailing, CheckingAll, CheckFailing, VerifyAllows, DrawingTest, CommittingTest, CommitTestFails, SettlingDelete, PruneAllows, Allows, Allowed}
 use Rattle.esr_report.specs.Replies.{ReadShard, shard_ticket_by, shard_end_by}
 use Rattle.esr_core.proofs.Going.{IsOld, goes_answered}
 use Rattle.esr_core.proofs.Reading.{some_same}
@@ -89,6 +89,18 @@ module _ (f : Formats) (size : ℕ) (w : World) (es : List Entry) (h : RestoresI
   asks_delete names reply image (FullOfOps may new full) = aside 0 (AskStep (DeleteSnapshots names)) (Refused (TooMany 1000)) image tt (λ y. refl) refl refl
   asks_delete names reply image (DeleteFault acc) = aside 0 (AskStep (DeleteSnapshots names)) (Refused DepotFault) image tt (λ y. refl) refl refl
 
+  -- and so does a clone
+  asks_clone : (source name : Bytes) (names : List Bytes) (time : ℕ) (taken : Option CloneOf) (reply : Reply) (image : Option Image) → CloneAllows f w source name names time taken reply image
+      → RestoresIn (answered f w 0 (AskStep (Clone source name names time taken)) reply image) (es ++ told 0 (AskStep (Clone source name names time taken)) reply ∷ [])
+  asks_clone source name names time taken reply image (OpeningClone t o im acc) = aside 0 (AskStep (Clone source name names time (Some t))) (Accepted o) im tt (λ y. refl) refl refl
+  asks_clone source name names time taken reply image (CloneUsed uuid im clear is) = aside 0 (AskStep (Clone source name names time None)) (Refused (NameInUse uuid)) im tt (λ y. refl) refl refl
+  asks_clone source name names time taken reply image (SourceNotListed im may none) = aside 0 (AskStep (Clone source name names time None)) (Refused (NoSnapshot 0)) im tt (λ y. refl) refl refl
+  asks_clone source name names time taken reply image (SourceDeleted uuid d im may listed named) = aside 0 (AskStep (Clone source name names time None)) (Refused (BeingDeleted d)) im tt (λ y. refl) refl refl
+  asks_clone source name names time taken reply image (IndexMissing uuid place im may first) = aside 0 (AskStep (Clone source name names time None)) (Refused (NoIndex place)) im tt (λ y. refl) refl refl
+  asks_clone source name names time taken reply image (FullOfClones uuid im may full) = aside 0 (AskStep (Clone source name names time None)) (Refused (TooMany 1000)) im tt (λ y. refl) refl refl
+  asks_clone source name names time taken reply image (CloneSpent uuid im may room spent) = aside 0 (AskStep (Clone source name names time None)) (Refused (IdsSpent w.next_id)) im tt (λ y. refl) refl refl
+  asks_clone source name names time taken reply image (CloneFault t im acc) = aside 0 (AskStep (Clone source name names time (Some t))) (Refused DepotFault) im tt (λ y. refl) refl refl
+
   gives_restore : (o index number uuid : ℕ) → GivesRestore w o index number uuid → RestoresIn (taken_restore w o index number (fin.get w.restores o)) (es ++ gave w.next_ticket o (GivenRestore index number uuid) ∷ [])
   gives_restore o index number uuid g =
       let at = shard_is g.r.shards index number g.s g.found in
@@ -100,7 +112,7 @@ module _ (f : Formats) (size : ℕ) (w : World) (es : List Entry) (h : RestoresI
 
   gives : (k o : ℕ) (unit : Given) (image : Option Image) → k ≡ w.next_ticket → Gives f w o unit → RestoresIn (answered f w 0 TakeStep (Gave k o unit) image) (es ++ gave k o unit ∷ [])
   gives k o (GivenRestore index number uuid) image is g = subst (λ (j : ℕ). RestoresIn (taken_restore w o index number (fin.get w.restores o)) (es ++ gave j o (GivenRestore index number uuid) ∷ [])) (sym is) (gives_restore o index number uuid g)
-  gives k o (GivenClone index number source base) image is g = absurd g
+  gives k o (GivenClone index number source base) image is g = aside 0 TakeStep (Gave k o (GivenClone index number source base)) image tt (λ y. refl) refl refl
   gives k o (GivenDelete uuids) image is g = aside 0 TakeStep (Gave k o (GivenDelete uuids)) image tt (λ y. refl) refl refl
   gives k o GivenCleanup image is g = absurd g
   gives k o (GivenShard index number base) image is g = aside 0 TakeStep (Gave k o (GivenShard index number base)) image tt (λ y. refl) refl refl
@@ -162,13 +174,14 @@ module _ (f : Formats) (size : ℕ) (w : World) (es : List Entry) (h : RestoresI
   -- the record has no restore
   recorded_old : (command : Asked) (reply : Reply) → is_recorded command ≡ true → IsOld (AskStep command) reply
   recorded_old (Snapshot name indices moment) reply is = tt
-  recorded_old (Clone source name indices moment) reply is = tt
+  recorded_old (Clone source name indices moment taken) reply is = tt
   recorded_old (DeleteSnapshots names) reply is = tt
   recorded_old (Restore name place) reply is = absurd (true≢false (sym is))
   recorded_old Cleanup reply is = tt
 
   restores_by : (who : ℕ) (step : Step) (reply : Reply) (image : Option Image) → Allows f size w who step reply image → IsUnfailed who step reply → RestoresIn (answered f w who step reply image) (es ++ told who step reply ∷ [])
   restores_by who step reply image (allowed.AskingRestore name place rep im a same) un = asks name place rep im a
+  restores_by who step reply image (allowed.AskingClone source name names time taken rep im a same) un = asks_clone source name names time taken rep im a
   restores_by who step reply image (allowed.AskingDelete names rep im a same) un = asks_delete names rep im a
   restores_by who step reply image (allowed.Giving k o unit im is lowest g same) un = gives k o unit im is g
   restores_by who step reply image (allowed.Reading k read rep im a same) un = reads k read rep im a un

@@ -1,51 +1,98 @@
--- Each step where nothing fails, and that asks for no delete, keeps what the history tells.
-use Rattle.std.proofs.Common.{◌≡◌, ◌⊎◌, ℕ, suc, true, false, true≢false, List, [], ◌∷◌, ◌++◌, Option, Some, None, map, refl, sym, ap, ◌∙◌, subst, inl, inr}
+-- Each step where nothing fails keeps what the history tells.
+use Rattle.std.proofs.Common.{◌≡◌, ◌⊎◌, ℕ, suc, ◌+◌, ◌<◌, ◌≤◌, Bool, true, false, true≢false, List, [], ◌∷◌, ◌++◌, Option, Some, None, map, refl, sym, ap, ◌∙◌, subst, inl, inr, arith}
+use Rattle.std.proofs.lemmas.Bool.Decides.{eqb_tells}
 use Rattle.std.specs.FinMap as fin
 use Rattle.esr_model.specs.Names.{BlobName, Latest}
-use Rattle.esr_model.specs.Values.{Bytes, SnapInfo, ShardResult, Formats}
-use Rattle.esr_model.specs.Shelf.{Shelved}
+use Rattle.esr_model.specs.Values.{Bytes, Has, SnapInfo, ShardResult, Formats}
+use Rattle.esr_model.specs.Shelf.{Shelved, Command}
+use Rattle.esr_model.specs.Delete.{PrunedShard, kept_count}
 use Rattle.esr_model.specs.Image.{Image}
-use Rattle.esr_core.specs.World.{World, Op, ShardWork, Done, Shard, Finalize, Deleting, Drop, Swap, Ticket, RestoreShard, Restoring, marked, info_of, shelved_of}
-use Rattle.esr_core.specs.Ready.{Goes, Stopped, ReadyDrop}
+use Rattle.esr_core.specs.World.{World, Op, Deletion, ShardWork, Done, Shard, Finalize, Deleting, Drop, Swap, Ticket, RestoreShard, Restoring, marked, info_of, made_of}
+use Rattle.esr_core.specs.Ready.{ReadyDrop, ReadyDelete}
 use Rattle.esr_core.specs.Steps.{shard_ticket, final_ticket, given}
-use Rattle.esr_core.specs.Entry.{AskedIndex, Snapshot, AsksNoDelete, Restore, Given, GivenShard, GivenFinalize, GivenDrop, GivenRestore, GivenClone, GivenDelete, GivenCleanup, Read, ReadBlob, RestoredShard, CheckedAll, DrawTest, BeginTest, CommitTest, RemoveTests, VerifiedAll, ReadFails, Step, AskStep, TakeStep, DrawStep, BeginStep, CommitStep, LatestStep, FetchStep, ListStep, RaiseStep, SettleStep, DoneStep, FinishStep, ElectStep, LookStep, ReadStep, NameInUse, TooMany, NoSnapshot, BeingDeleted, Reply, Accepted, NothingReady, Gave, DrawnFrom, WasBegun, WasDone, WasThere, WasReplaced, WasFetched, WasAbsent, WasListed, RaisedTo, WasSettled, HasEnded, ElectedTerm, Looked, Refused, WasRemoved, AcceptedRestore, Entry, Moment}
-use Rattle.esr_core.specs.After.{asked, asked_op, taken_by, taken_shard, taken_restore, taken_restore_shard, read_by, with_given, change, committing, fetching, told_blob, settled_of, done_of, done_by, after}
+use Rattle.esr_core.specs.Turns.{plain_ticket}
+use Rattle.esr_core.specs.Pruning.{planned_work, planned, delete_swap}
+use Rattle.esr_core.specs.Deletes.{first_delete, runs_for, named_uuids, waiting_delete, running_delete, number_by, aborts_op, aborted_ops, with_named, delete_merged, delete_by}
+use Rattle.esr_core.specs.Ids.{Law}
+use Rattle.esr_core.specs.Entry.{AskedIndex, Asked, Snapshot, Clone, CloneOf, DeleteSnapshots, Restore, Given, GivenShard, GivenFinalize, GivenDrop, GivenRestore, GivenClone, GivenDelete, GivenCleanup, Read, ReadBlob, RestoredShard, CheckedAll, DrawTest, BeginTest, CommitTest, RemoveTests, VerifiedAll, ReadFails, Prune, FetchShard, PlanShards, SettlePruned, RemoveDoomed, EndDelete, Step, AskStep, TakeStep, DrawStep, BeginStep, CommitStep, LatestStep, FetchStep, ListStep, RaiseStep, SettleStep, DoneStep, FinishStep, DroppedStep, ElectStep, LookStep, ReadStep, PruneStep, CleanupRunning, NameInUse, TooMany, NoSnapshot, NoIndex, BeingDeleted, CloneRunning, RestoreRunning, Reply, Accepted, NothingReady, Gave, DrawnFrom, WasBegun, WasDone, WasThere, WasReplaced, WasFetched, WasAbsent, WasListed, RaisedTo, WasSettled, HasEnded, ElectedTerm, Looked, Refused, WasRemoved, AcceptedRestore, Entry, Moment}
+use Rattle.esr_core.specs.After.{asked, asked_op, cloned_op, taken_by, taken_shard, taken_restore, taken_restore_shard, read_by, with_given, change, committing, fetching, told_blob, settled_of, done_of, done_by, dropped_of, delete_settled, after}
 use Rattle.esr_core.specs.Allowed as allowed
-use Rattle.esr_core.proofs.PruneFrames.{prune_has_delete}
-use Rattle.esr_core.specs.Allowed.{Accepts, Gives, GivesShard, GivesFinalize, GivesRestore, Settles, Dones, RestoreAllows, OpeningRestore, NotListed, NamedByDelete, FullOfRestores, ReadAllows, ReadFound, ReadMissing, ReadFault, RestoringShard, ReaderFailing, CheckingAll, CheckFailing, VerifyAllows, DrawingTest, TestSpent, BeginningTest, BeginTestFails, CommittingTest, TestTaken, CommitTestFails, RemovingTests, RemoveTestsFails, VerifyingAll, VerifyFailing, Allows, Allowed}
+use Rattle.esr_core.specs.Allowed.{Accepts, Gives, GivesShard, GivesFinalize, GivesRestore, Settles, Dones, Drops, MayPlan, SettlesDeletion, CloneAllows, OpeningClone, CloneUsed, SourceNotListed, SourceDeleted, IndexMissing, FullOfClones, CloneSpent, CloneFault, DeleteAllows, GoingInto, NotNamed, CloneStands, RestoreStands, FullOfOps, RestoreAllows, OpeningRestore, NotListed, NamedByDelete, FullOfRestores, ReadAllows, ReadFound, ReadMissing, ReadFault, RestoringShard, ReaderFailing, CheckingAll, CheckFailing, VerifyAllows, DrawingTest, BeginningTest, CommittingTest, RemovingTests, VerifyingAll, VerifyFailing, PruneAllows, FetchingShard, ShardMissing, Planning, SettlingDelete, RemovingDoomed, EndingDelete, Allows, Allowed}
+use Rattle.esr_core.proofs.AskedDeletes.{Waits, waits}
 use Rattle.esr_core.proofs.Besides.{IsNoTest, aside_by}
-use Rattle.esr_core.proofs.Reading.{some_same, Has-right}
-use Rattle.esr_core.proofs.Queues.{left_in, stays_in, split_at}
-use Rattle.esr_core.proofs.Moments.{moment, settled_plain}
-use Rattle.esr_report.specs.Replies.{op_by, uuid_by}
-use Rattle.esr_complete.proofs.Tickets.{IsCalm, op_stays, uuid_stays}
-use Rattle.esr_complete.proofs.Following.{IsSaid, accepts, IsOpenIn, IsSettledIn, FollowsIn, stands_at, stands_on, going_on, kin_same, kin_on, goes_on, told, gave, given_on, handed_on, follows_aside}
+use Rattle.esr_core.proofs.Deleting.{bool_told}
+use Rattle.esr_core.proofs.Moments.{moment, settled_plain, delete_settled_plain}
+use Rattle.esr_core.proofs.Queues.{Deletes, was_in, same_in, left_in, stays_in, split_at}
+use Rattle.esr_core.proofs.Reading.{Has-right}
+use Rattle.esr_core.proofs.Recorded.{entry_got}
+use Rattle.esr_core.proofs.Results.{choose_true, choose_false}
+use Rattle.esr_quiet.specs.Refusals.{IsByRule}
+use Rattle.esr_report.specs.Replies as report
+use Rattle.esr_report.specs.Replies.{op_by, uuid_by, name_by, name_of_op, final_out, has_name, abort_of, aborts_at, is_over}
+use Rattle.esr_complete.proofs.Tickets.{op_stays, uuid_stays, name_stays, name_given, IsGiftless, same_op}
+use Rattle.esr_complete.proofs.OpEnds.{IsCalm, abort_names}
+use Rattle.esr_complete.proofs.Following.{IsSaid, snapshot_of, delete_of, IsOpenIn, IsDeleteIn, IsSettledIn, IsPrunedIn, IsAbortedIn, HasName, IsNamedBy, IsNameless, IsToldOp, IsToldDelete, IsFinal, IsOutFinal, IsEndedOr, IsDeletedOr, Follows, FollowsIn, stands_at, stands_on, delete_on, aborted_on, named_on, nameless_on, op_on, delete_told_on, IsKin, kin_same, kin_on, out_same, out_on, IsOne, goes_on, told, gave, given_on, handed_on, follows_aside}
+use Rattle.esr_complete.proofs.AbortedOps.{was_op, is_op, not_out, names_it}
 
--- it accepts nothing, and gives no ticket
-abbrev IsPlain : Reply → Type 0
-IsPlain (Accepted op) = ⊥
-IsPlain (Gave ticket op unit) = ⊥
-IsPlain reply = Unit {0}
+-- what holds of each world that the history passes: it is lawful, and its tickets are of the present term
+pub record IsSafe (f : Formats) (w : World) : Type 0 where
+  pub shelf : List Shelved
+  pub law : Law f w shelf
+  pub present : (k : ℕ) (t : Ticket) → fin.get w.tickets k ≡ Some t → t.term ≡ w.term
 
-none_given : (reply : Reply) → IsPlain reply → (k : ℕ) → (op_by reply k ≡ None) × (uuid_by reply k ≡ None)
-none_given (Accepted op) plain k = absurd plain
-none_given (Gave ticket op unit) plain k = absurd plain
-none_given reply plain k = (refl, refl)
+-- ---- what an entry tells
+
+-- it accepts nothing, gives no ticket, and settles no root
+abbrev IsPlain : Reply → Step → Type 0
+IsPlain (Accepted op) step = ⊥
+IsPlain (Gave ticket op unit) step = ⊥
+IsPlain WasSettled SettleStep = ⊥
+IsPlain WasSettled (PruneStep SettlePruned) = ⊥
+IsPlain reply step = Unit {0}
+
+plain_giftless : (reply : Reply) (step : Step) → IsPlain reply step → IsGiftless reply
+plain_giftless (Gave ticket op unit) step plain = absurd plain
+plain_giftless reply step plain = tt
+
+none_given : (reply : Reply) (step : Step) → IsPlain reply step → (k : ℕ) → (op_by reply k ≡ None) × (uuid_by reply k ≡ None)
+none_given (Gave ticket op unit) step plain k = absurd plain
+none_given reply step plain k = (refl, refl)
+
+plain_name : (o : ℕ) (step : Step) (reply : Reply) → IsPlain reply step → name_by o step reply ≡ None
+plain_name o (AskStep (Snapshot name indices time)) (Accepted op) plain = absurd plain
+plain_name o (AskStep (Clone source name names time (Some taken))) (Accepted op) plain = absurd plain
+plain_name o step reply plain = refl
+
+plain_snapshot : (step : Step) (reply : Reply) → IsPlain reply step → snapshot_of step reply ≡ None
+plain_snapshot (AskStep (Snapshot name indices time)) (Accepted op) plain = absurd plain
+plain_snapshot step reply plain = refl
+
+plain_delete : (step : Step) (reply : Reply) → IsPlain reply step → delete_of step reply ≡ None
+plain_delete (AskStep (DeleteSnapshots names)) (Accepted op) plain = absurd plain
+plain_delete step reply plain = refl
+
+plain_one : (es : List Entry) (next more : ℕ) (x : Entry) → next ≤ more → IsPlain x.reply x.step → IsSaid x.step x.reply → IsOne es next more x
+plain_one es next more x up plain said =
+    record {
+      up = up;
+      giftless = plain_giftless x.reply x.step plain;
+      no_ticket = none_given x.reply x.step plain;
+      no_name = λ o any. plain_name o x.step x.reply plain;
+      said = said;
+      settles = λ step reply. absurd (subst (λ (s : Step). IsPlain WasSettled s) step (subst (λ (r : Reply). IsPlain r x.step) reply plain));
+      prunes = λ step reply. absurd (subst (λ (s : Step). IsPlain WasSettled s) step (subst (λ (r : Reply). IsPlain r x.step) reply plain));
+    }
 
 none_some : (o : ℕ) → ◌≡◌ {A = Option ℕ} None (Some o) → ⊥
 none_some o e = cc
 
-none_accepted : (reply : Reply) → IsPlain reply → (o : ℕ) → accepts reply ≡ Some o → ⊥
-none_accepted (Accepted op) plain o e = plain
-none_accepted (Gave ticket op unit) plain o e = plain
-none_accepted reply plain o e = none_some o e
+some_one : (a b : ℕ) → Some a ≡ Some b → a ≡ b
+some_one a b e = cc
 
-not_both : (op : Op) → Goes op → Stopped op → ⊥
-not_both op goes (inl failed) = true≢false (sym failed ∙ goes.unfailed)
-not_both op goes (inr by) = none_some by.0 (sym goes.unaborted ∙ by.1)
+none_is : (o : ℕ) (found : Option ℕ) → found ≡ None → found ≡ Some o → ⊥
+none_is o found none e = none_some o (sym none ∙ e)
 
-same_shards : (op : Op) (shards : List ShardWork) → Goes op → Goes (record op { shards = shards })
-same_shards op shards goes = record { unfailed = goes.unfailed; unaborted = goes.unaborted }
+-- ---- what tickets are for
 
 shard_drop : (i n : ℕ) → Shard i n ≡ Drop → ⊥
 shard_drop i n e = cc
@@ -53,76 +100,421 @@ shard_drop i n e = cc
 shard_deleting : (i n : ℕ) (uuids : List ℕ) (plan : Option Swap) → Shard i n ≡ Deleting uuids plan → ⊥
 shard_deleting i n uuids plan e = cc
 
-shard_final : (i n : ℕ) (info : SnapInfo) (results : List ShardResult) (made : Shelved) → Shard i n ≡ Finalize info results made → ⊥
+shard_final : (i n : ℕ) (info : SnapInfo) (results : List ShardResult) (made : Command) → Shard i n ≡ Finalize info results made → ⊥
 shard_final i n info results made e = cc
 
-final_drop : (info : SnapInfo) (results : List ShardResult) (made : Shelved) → Finalize info results made ≡ Drop → ⊥
+final_drop : (info : SnapInfo) (results : List ShardResult) (made : Command) → Finalize info results made ≡ Drop → ⊥
 final_drop info results made e = cc
 
-final_deleting : (info : SnapInfo) (results : List ShardResult) (made : Shelved) (uuids : List ℕ) (plan : Option Swap) → Finalize info results made ≡ Deleting uuids plan → ⊥
+final_deleting : (info : SnapInfo) (results : List ShardResult) (made : Command) (uuids : List ℕ) (plan : Option Swap) → Finalize info results made ≡ Deleting uuids plan → ⊥
 final_deleting info results made uuids plan e = cc
 
-final_info : (a b : SnapInfo) (rs qs : List ShardResult) (m n : Shelved) → Finalize a rs m ≡ Finalize b qs n → a ≡ b
+final_info : (a b : SnapInfo) (rs qs : List ShardResult) (m n : Command) → Finalize a rs m ≡ Finalize b qs n → a ≡ b
 final_info a b rs qs m n e = cc
 
+drop_final : (info : SnapInfo) (results : List ShardResult) (made : Command) → Drop ≡ Finalize info results made → ⊥
+drop_final info results made e = cc
+
+drop_deleting : (uuids : List ℕ) (plan : Option Swap) → Drop ≡ Deleting uuids plan → ⊥
+drop_deleting uuids plan e = cc
+
+deleting_drop : (uuids : List ℕ) (plan : Option Swap) → Deleting uuids plan ≡ Drop → ⊥
+deleting_drop uuids plan e = cc
+
+deleting_final : (uuids : List ℕ) (plan : Option Swap) (info : SnapInfo) (results : List ShardResult) (made : Command) → Deleting uuids plan ≡ Finalize info results made → ⊥
+deleting_final uuids plan info results made e = cc
+
+same_uuids : {a b : List ℕ} {p q : Option Swap} → Deleting a p ≡ Deleting b q → a ≡ b
+same_uuids e = cc
+
+ask_settle : (command : Asked) → AskStep command ≡ SettleStep → ⊥
+ask_settle command e = cc
+
+ask_prune : (command : Asked) → AskStep command ≡ PruneStep SettlePruned → ⊥
+ask_prune command e = cc
+
+settle_prune : SettleStep ≡ PruneStep SettlePruned → ⊥
+settle_prune e = cc
+
+prune_settle : PruneStep SettlePruned ≡ SettleStep → ⊥
+prune_settle e = cc
+
+-- no rule refuses so
+no_cleaning : (command : Asked) (d : ℕ) → IsByRule command (CleanupRunning d) → ⊥
+no_cleaning (Snapshot name indices time) d rule = rule
+no_cleaning (Restore name place) d rule = rule
+no_cleaning (Clone source name names time taken) d rule = rule
+no_cleaning (DeleteSnapshots names) d rule = rule
+no_cleaning command d rule = rule
+
+-- the running delete is open
+running_there : (test : ℕ × Deletion → Bool) (deletes : List (ℕ × Deletion)) (d : ℕ) → first_delete test deletes ≡ Some d → (x : Deletion) × Has deletes (d, x)
+running_there test [] d e = absurd (none_some d e)
+running_there test (p ∷ deletes) d e = elim (bool_told (test p)) [
+  | inl b ↦ let same : p.0 ≡ d = some_one p.0 d (sym (choose_true _ _ _ b) ∙ e) in (p.1, inl (λ i. (same i, p.1)))
+  | inr b ↦ let (x, m) = running_there test deletes d (sym (choose_false _ _ _ b) ∙ e) in (x, inr m)
+]
+
+-- where an op was aborted it has a name
+aborted_name : (es : List Entry) (o : ℕ) → IsAbortedIn es o → HasName es o
+aborted_name es o h =
+    let (name, is) = abort_names h.front o h.e h.answer h.aborts in
+    (name, ap (λ (l : List Entry). name_of_op l o) h.is ∙ name_stays h.front (h.e ∷ h.back) o name is)
+
+-- an op with a name is another than one without
+pub apart_name : (es : List Entry) (next o d : ℕ) → HasName es o → IsNameless es next d → o ≡ d → ⊥
+apart_name es next o d name nameless same = no_name name.0 (sym nameless.unnamed ∙ ap (λ (n : ℕ). name_of_op es n) (sym same) ∙ name.1)
+  where
+    no_name : (name : Bytes) → ◌≡◌ {A = Option Bytes} None (Some name) → ⊥
+    no_name name e = cc
+
+same_up : (n : ℕ) → n ≤ n
+same_up n = omega arith
+
+one_up : (n : ℕ) → n ≤ suc n
+one_up n = omega arith
+
+below_up : (n : ℕ) → n < suc n
+below_up n = omega arith
+
 module _ (f : Formats) (size : ℕ) (w : World) (es : List Entry) (h : FollowsIn w es) where
-  stays : (x : Entry) → IsPlain x.reply → IsSaid x.step x.reply → FollowsIn w (es ++ x ∷ [])
-  stays x plain said =
-      goes_on w.deposed w.ops w.ops w.deletes w.deletes w.tickets w.tickets w.next_ticket es x h (λ d y e. e) h.going (kin_same w.tickets) (none_given x.reply plain) said (λ o was. inl was)
-      (λ o e. absurd (none_accepted x.reply plain o e))
+  -- ---- ops and deletes that stay
 
-  changed : (k : ℕ) (t : Ticket) → fin.get w.tickets k ≡ Some t → (g : Ticket → Ticket) → (g t).op ≡ t.op → (g t).work ≡ t.work → (x : Entry) → IsPlain x.reply → IsSaid x.step x.reply → FollowsIn (change w k g) (es ++ x ∷ [])
-  changed k t there g op work x plain said =
-      subst (λ (o : Option Ticket). FollowsIn (with_given w k g o) (es ++ x ∷ [])) (sym there)
-      (goes_on w.deposed w.ops w.ops w.deletes w.deletes w.tickets (fin.insert w.tickets k (g t)) w.next_ticket es x h (λ d y e. e) h.going (kin_on w.tickets k t (g t) there op work) (none_given x.reply plain) said (λ o was. inl was)
-      (λ o e. absurd (none_accepted x.reply plain o e)))
+  ops_stay : (more : ℕ) (x : Entry) → w.next_op ≤ more → ((o : ℕ) → (o < w.next_op) ⊎ (more ≤ o) → name_by o x.step x.reply ≡ None) → (o : ℕ) (op : Op) → fin.get w.ops o ≡ Some op → IsToldOp (es ++ x ∷ []) more o op
+  ops_stay more x up none o op e = op_on es x w.next_op more up none o op op (h.ops o op e) refl refl refl
 
-  -- ---- ask and take
+  deletes_stay : (more : ℕ) (x : Entry) → IsOne es w.next_op more x → (d : ℕ) (y : Deletion) → fin.get w.deletes d ≡ Some y → IsToldDelete (es ++ x ∷ []) more d y
+  deletes_stay more x one d y e = delete_told_on es x w.next_op more one.up one.no_name d y y (h.deletes d y e) refl
 
-  asks : (name : Bytes) (indices : List AskedIndex) (time o : ℕ) → Accepts f w name indices time o
-      → FollowsIn (asked w (Snapshot name indices time)) (es ++ told 0 (AskStep (Snapshot name indices time)) (Accepted o) ∷ [])
-  asks name indices time o a =
-      let op : Op = asked_op w name indices time in
-      goes_on w.deposed w.ops (fin.insert w.ops w.next_op op) w.deletes w.deletes w.tickets w.tickets w.next_ticket es (told 0 (AskStep (Snapshot name indices time)) (Accepted o)) h (λ d y e. e)
-      (going_on w.ops w.next_op op h.going (record { unfailed = refl; unaborted = refl })) (kin_same w.tickets) (λ k. (refl, refl)) tt (λ p was. inl (stands_on w.ops w.next_op op p was))
-      (λ p e. subst (IsOpenIn (fin.insert w.ops w.next_op op)) (sym a.number ∙ some_same o p e) (stands_at w.ops w.next_op op))
+  -- an op goes on with other shards
+  shards_on : (more : ℕ) (x : Entry) → w.next_op ≤ more → ((o : ℕ) → (o < w.next_op) ⊎ (more ≤ o) → name_by o x.step x.reply ≡ None) → (key : ℕ) (old : Op) → fin.get w.ops key ≡ Some old → (shards : List ShardWork)
+      → (o : ℕ) (op : Op) → fin.get (fin.insert w.ops key (record old { shards = shards })) o ≡ Some op → IsToldOp (es ++ x ∷ []) more o op
+  shards_on more x up none key old there shards o op e = elim (was_in w.ops key (record old { shards = shards }) o op e) [
+    | inl is ↦ subst (λ (p : ℕ × Op). IsToldOp (es ++ x ∷ []) more p.0 p.1) (λ i. (sym is.0 i, is.1 i)) (op_on es x w.next_op more up none key old (record old { shards = shards }) (h.ops key old there) refl refl refl)
+    | inr is ↦ ops_stay more x up none o op is.1
+  ]
 
-  gives_shard : (o index number : ℕ) (base : Option ℕ) → GivesShard w o index number base → FollowsIn (taken_by f w o (GivenShard index number base) (fin.get w.ops o)) (es ++ gave w.next_ticket o (GivenShard index number base) ∷ [])
+  -- some leave
+  ops_left : (more : ℕ) (x : Entry) → IsOne es w.next_op more x → (key o : ℕ) (op : Op) → fin.get (fin.remove w.ops key) o ≡ Some op → IsToldOp (es ++ x ∷ []) more o op
+  ops_left more x one key o op e = ops_stay more x one.up one.no_name o op (left_in w.ops key o op e).1
+
+  deletes_left : (more : ℕ) (x : Entry) → IsOne es w.next_op more x → (key d : ℕ) (y : Deletion) → fin.get (fin.remove w.deletes key) d ≡ Some y → IsToldDelete (es ++ x ∷ []) more d y
+  deletes_left more x one key d y e = deletes_stay more x one d y (left_in w.deletes key d y e).1
+
+  -- where none is named
+  stays_named : (key : ℕ) (es_now : List Entry) → IsNameless es w.next_op key → (o : ℕ) → HasName es o → IsOpenIn w.ops o → IsEndedOr (fin.remove w.ops key) es_now o
+  stays_named key es_now nameless o name was = elim (split_at o key) [
+    | inl same ↦ absurd (apart_name es w.next_op o key name nameless same)
+    | inr apart ↦ inl (was.0, stays_in w.ops key o apart ∙ was.1)
+  ]
+
+  stays_nameless : (key : ℕ) (es_now : List Entry) → HasName es key → (d : ℕ) → IsNameless es w.next_op d → IsDeleteIn w.deletes d → IsDeletedOr (fin.remove w.deletes key) es_now d
+  stays_nameless key es_now name d nameless was = elim (split_at d key) [
+    | inl same ↦ absurd (apart_name es w.next_op key d name nameless (sym same))
+    | inr apart ↦ inl (was.0, stays_in w.deletes key d apart ∙ was.1)
+  ]
+
+  -- ---- a step of which nothing is told
+
+  stays_to : (more : ℕ) → w.next_op ≤ more → (x : Entry) → IsPlain x.reply x.step → IsSaid x.step x.reply → Follows w.deposed w.ops w.deletes w.tickets w.next_ticket more (es ++ x ∷ [])
+  stays_to more up x plain said =
+      let one : IsOne es w.next_op more x = plain_one es w.next_op more x up plain said in
+      goes_on w.deposed w.ops w.ops w.deletes w.deletes w.tickets w.tickets w.next_ticket w.next_op more es x h one (ops_stay more x one.up one.no_name) (deletes_stay more x one) (kin_same w.tickets) (out_same w.tickets x) (λ o name was. inl was) (λ d nameless was. inl was)
+      (λ o e. absurd (none_is o _ (plain_snapshot x.step x.reply plain) e)) (λ d e. absurd (none_is d _ (plain_delete x.step x.reply plain) e))
+
+  stays : (x : Entry) → IsPlain x.reply x.step → IsSaid x.step x.reply → FollowsIn w (es ++ x ∷ [])
+  stays x plain said = stays_to w.next_op (same_up w.next_op) x plain said
+
+  -- one ticket goes on
+  ticket_on : (k : ℕ) (t v : Ticket) → fin.get w.tickets k ≡ Some t → ((j : ℕ) (u : Ticket) → fin.get (fin.insert w.tickets k v) j ≡ Some u → IsKin w.tickets j u) → v.op ≡ t.op → (x : Entry) → (IsOutFinal t → IsOutFinal v ⊎ ((is_over x.step x.reply ≡ true) × (k ≡ x.who)))
+      → IsPlain x.reply x.step → IsSaid x.step x.reply → Follows w.deposed w.ops w.deletes (fin.insert w.tickets k v) w.next_ticket w.next_op (es ++ x ∷ [])
+  ticket_on k t v there kin op x outs plain said =
+      let one : IsOne es w.next_op w.next_op x = plain_one es w.next_op w.next_op x (same_up w.next_op) plain said in
+      goes_on w.deposed w.ops w.ops w.deletes w.deletes w.tickets (fin.insert w.tickets k v) w.next_ticket w.next_op w.next_op es x h one (ops_stay w.next_op x one.up one.no_name) (deletes_stay w.next_op x one) kin (out_on w.tickets k t v x there op outs) (λ o name was. inl was)
+      (λ d nameless was. inl was) (λ o e. absurd (none_is o _ (plain_snapshot x.step x.reply plain) e)) (λ d e. absurd (none_is d _ (plain_delete x.step x.reply plain) e))
+
+  changed : (k : ℕ) (t : Ticket) → fin.get w.tickets k ≡ Some t → (g : Ticket → Ticket) → (g t).op ≡ t.op → (g t).work ≡ t.work → (x : Entry) → (IsOutFinal t → IsOutFinal (g t) ⊎ ((is_over x.step x.reply ≡ true) × (k ≡ x.who))) → IsPlain x.reply x.step → IsSaid x.step x.reply
+      → FollowsIn (change w k g) (es ++ x ∷ [])
+  changed k t there g op work x outs plain said =
+      subst (λ (o : Option Ticket). FollowsIn (with_given w k g o) (es ++ x ∷ [])) (sym there) (ticket_on k t (g t) there (kin_on w.tickets k t (g t) there op work) op x outs plain said)
+
+  -- ---- ask
+
+  asks_next : (name : Bytes) (indices : List AskedIndex) (time : ℕ) → FollowsIn (asked w (Snapshot name indices time)) (es ++ told 0 (AskStep (Snapshot name indices time)) (Accepted w.next_op) ∷ [])
+  asks_next name indices time =
+      goes_on w.deposed w.ops (fin.insert w.ops w.next_op op) w.deletes w.deletes w.tickets w.tickets w.next_ticket w.next_op (suc w.next_op) es x h one told_ops (deletes_stay (suc w.next_op) x one) (kin_same w.tickets) (out_same w.tickets x) (λ o named was. inl (stands_on w.ops w.next_op op o was))
+      (λ d nameless was. inl was) (λ o e. subst (λ (n : ℕ). IsNamedBy (es ++ x ∷ []) n x × IsOpenIn (fin.insert w.ops w.next_op op) n) (some_one w.next_op o e) ((name, choose_true _ _ _ (same_op w.next_op), named), stands_at w.ops w.next_op op)) (λ d e. absurd (none_some d e))
+    where
+      op : Op
+      op = asked_op w name indices time
+
+      x : Entry
+      x = told 0 (AskStep (Snapshot name indices time)) (Accepted w.next_op)
+
+      other : (o : ℕ) → (o < w.next_op) ⊎ (suc w.next_op ≤ o) → w.next_op ≡ o → ⊥
+      other o (inl below) same = omega (arith, below, same)
+      other o (inr above) same = omega (arith, above, same)
+
+      one : IsOne es w.next_op (suc w.next_op) (told 0 (AskStep (Snapshot name indices time)) (Accepted w.next_op))
+      one =
+          record {
+            up = one_up w.next_op;
+            giftless = tt;
+            no_ticket = λ k. (refl, refl);
+            no_name = λ o any. elim (eqb_tells w.next_op o) [ inl t ↦ absurd (other o any t.1) | inr t ↦ choose_false _ _ _ t.0 ];
+            said = tt;
+            settles = λ step. absurd (ask_settle (Snapshot name indices time) step);
+            prunes = λ step. absurd (ask_prune (Snapshot name indices time) step);
+          }
+
+      named : name_of_op (es ++ told 0 (AskStep (Snapshot name indices time)) (Accepted w.next_op) ∷ []) w.next_op ≡ Some name
+      named = name_given es x w.next_op (h.coming w.next_op (same_up w.next_op)) ∙ choose_true _ _ _ (same_op w.next_op)
+
+      mine : IsToldOp (es ++ told 0 (AskStep (Snapshot name indices time)) (Accepted w.next_op) ∷ []) (suc w.next_op) w.next_op (asked_op w name indices time)
+      mine = record { unfailed = refl; aborted = λ by e. absurd (none_some by e); named = named; below = below_up w.next_op }
+
+      told_ops : (o : ℕ) (q : Op) → fin.get (fin.insert w.ops w.next_op (asked_op w name indices time)) o ≡ Some q → IsToldOp (es ++ told 0 (AskStep (Snapshot name indices time)) (Accepted w.next_op) ∷ []) (suc w.next_op) o q
+      told_ops o q e = elim (was_in w.ops w.next_op op o q e) [
+        | inl is ↦ subst (λ (p : ℕ × Op). IsToldOp (es ++ x ∷ []) (suc w.next_op) p.0 p.1) (λ i. (sym is.0 i, is.1 i)) mine
+        | inr is ↦ ops_stay (suc w.next_op) x one.up one.no_name o q is.1
+      ]
+
+  asks : (name : Bytes) (indices : List AskedIndex) (time o : ℕ) → Accepts f w name indices time o → FollowsIn (asked w (Snapshot name indices time)) (es ++ told 0 (AskStep (Snapshot name indices time)) (Accepted o) ∷ [])
+  asks name indices time o a = subst (λ (n : ℕ). FollowsIn (asked w (Snapshot name indices time)) (es ++ told 0 (AskStep (Snapshot name indices time)) (Accepted n) ∷ [])) (sym a.number) (asks_next name indices time)
+
+  -- ---- a clone is asked for
+
+  -- an op that copies comes as one of a snapshot does
+  clones_next : (source name : Bytes) (names : List Bytes) (time : ℕ) (taken : CloneOf) → FollowsIn (asked w (Clone source name names time (Some taken))) (es ++ told 0 (AskStep (Clone source name names time (Some taken))) (Accepted w.next_op) ∷ [])
+  clones_next source name names time taken =
+      goes_on w.deposed w.ops (fin.insert w.ops w.next_op op) w.deletes w.deletes w.tickets w.tickets w.next_ticket w.next_op (suc w.next_op) es x h one told_ops (deletes_stay (suc w.next_op) x one) (kin_same w.tickets) (out_same w.tickets x) (λ o named was. inl (stands_on w.ops w.next_op op o was))
+      (λ d nameless was. inl was) (λ o e. absurd (none_some o e)) (λ d e. absurd (none_some d e))
+    where
+      op : Op
+      op = cloned_op w name time taken
+
+      x : Entry
+      x = told 0 (AskStep (Clone source name names time (Some taken))) (Accepted w.next_op)
+
+      other : (o : ℕ) → (o < w.next_op) ⊎ (suc w.next_op ≤ o) → w.next_op ≡ o → ⊥
+      other o (inl below) same = omega (arith, below, same)
+      other o (inr above) same = omega (arith, above, same)
+
+      one : IsOne es w.next_op (suc w.next_op) (told 0 (AskStep (Clone source name names time (Some taken))) (Accepted w.next_op))
+      one =
+          record {
+            up = one_up w.next_op;
+            giftless = tt;
+            no_ticket = λ k. (refl, refl);
+            no_name = λ o any. elim (eqb_tells w.next_op o) [ inl t ↦ absurd (other o any t.1) | inr t ↦ choose_false _ _ _ t.0 ];
+            said = tt;
+            settles = λ step. absurd (ask_settle (Clone source name names time (Some taken)) step);
+            prunes = λ step. absurd (ask_prune (Clone source name names time (Some taken)) step);
+          }
+
+      named : name_of_op (es ++ told 0 (AskStep (Clone source name names time (Some taken))) (Accepted w.next_op) ∷ []) w.next_op ≡ Some name
+      named = name_given es x w.next_op (h.coming w.next_op (same_up w.next_op)) ∙ choose_true _ _ _ (same_op w.next_op)
+
+      mine : IsToldOp (es ++ told 0 (AskStep (Clone source name names time (Some taken))) (Accepted w.next_op) ∷ []) (suc w.next_op) w.next_op (cloned_op w name time taken)
+      mine = record { unfailed = refl; aborted = λ by e. absurd (none_some by e); named = named; below = below_up w.next_op }
+
+      told_ops : (o : ℕ) (q : Op) → fin.get (fin.insert w.ops w.next_op (cloned_op w name time taken)) o ≡ Some q → IsToldOp (es ++ told 0 (AskStep (Clone source name names time (Some taken))) (Accepted w.next_op) ∷ []) (suc w.next_op) o q
+      told_ops o q e = elim (was_in w.ops w.next_op op o q e) [
+        | inl is ↦ subst (λ (p : ℕ × Op). IsToldOp (es ++ x ∷ []) (suc w.next_op) p.0 p.1) (λ i. (sym is.0 i, is.1 i)) mine
+        | inr is ↦ ops_stay (suc w.next_op) x one.up one.no_name o q is.1
+      ]
+
+  clones : (source name : Bytes) (names : List Bytes) (time o : ℕ) (taken : CloneOf) → o ≡ w.next_op → FollowsIn (asked w (Clone source name names time (Some taken))) (es ++ told 0 (AskStep (Clone source name names time (Some taken))) (Accepted o) ∷ [])
+  clones source name names time o taken is = subst (λ (n : ℕ). FollowsIn (asked w (Clone source name names time (Some taken))) (es ++ told 0 (AskStep (Clone source name names time (Some taken))) (Accepted n) ∷ [])) (sym is) (clones_next source name names time taken)
+
+  asks_clone : (source name : Bytes) (names : List Bytes) (time : ℕ) (taken : Option CloneOf) (reply : Reply) (image : Option Image) → CloneAllows f w source name names time taken reply image → IsCalm reply (AskStep (Clone source name names time taken))
+      → FollowsIn (after f w (moment 0 (AskStep (Clone source name names time taken)) reply image)) (es ++ told 0 (AskStep (Clone source name names time taken)) reply ∷ [])
+  asks_clone source name names time taken reply image (OpeningClone t o im a) calm = clones source name names time o t a.number
+  asks_clone source name names time taken reply image (CloneUsed uuid im clear is) calm = stays (told 0 (AskStep (Clone source name names time None)) (Refused (NameInUse uuid))) tt tt
+  asks_clone source name names time taken reply image (SourceNotListed im may none) calm = stays (told 0 (AskStep (Clone source name names time None)) (Refused (NoSnapshot 0))) tt tt
+  asks_clone source name names time taken reply image (SourceDeleted uuid d im may listed named) calm = stays (told 0 (AskStep (Clone source name names time None)) (Refused (BeingDeleted d))) tt tt
+  asks_clone source name names time taken reply image (IndexMissing uuid place im may first) calm = stays (told 0 (AskStep (Clone source name names time None)) (Refused (NoIndex place))) tt tt
+  asks_clone source name names time taken reply image (FullOfClones uuid im may full) calm = stays (told 0 (AskStep (Clone source name names time None)) (Refused (TooMany 1000))) tt tt
+  asks_clone source name names time taken reply image (CloneSpent uuid im may room spent) calm = absurd calm
+  asks_clone source name names time taken reply image (CloneFault t im acc) calm = absurd calm
+
+  -- ---- a delete is asked for
+
+  -- each open op is as it was, or its abort is told
+  module _ (safe : IsSafe f w) (names : List Bytes) (d more : ℕ) (up : w.next_op ≤ more) where
+    abbrev ask : Entry
+    ask = told 0 (AskStep (DeleteSnapshots names)) (Accepted d)
+
+    ask_one : IsOne es w.next_op more (told 0 (AskStep (DeleteSnapshots names)) (Accepted d))
+    ask_one =
+        record {
+          up = up;
+          giftless = tt;
+          no_ticket = λ k. (refl, refl);
+          no_name = λ o any. refl;
+          said = tt;
+          settles = λ step. absurd (ask_settle (DeleteSnapshots names) step);
+          prunes = λ step. absurd (ask_prune (DeleteSnapshots names) step);
+        }
+
+    -- no finalization of one that it aborts is out
+    none_out : (o : ℕ) (old : Op) → aborts_op w (named_uuids w names) (o, old) ≡ true → final_out es o ≡ None
+    none_out o old aborts = by (final_out es o) refl
+      where
+        by : (found : Option ℕ) → final_out es o ≡ found → found ≡ None
+        by None is = refl
+        by (Some k) is = let t = h.final o k is in absurd (not_out w (named_uuids w names) o old k t.t aborts t.there (safe.present k t.t t.there) t.op_is t.is)
+
+    abort_is : (o : ℕ) (old : Op) → fin.get w.ops o ≡ Some old → aborts_op w (named_uuids w names) (o, old) ≡ true → aborts_at es o (told 0 (AskStep (DeleteSnapshots names)) (Accepted d)) ≡ Some (report.Aborted d)
+    abort_is o old there aborts =
+        (λ i. abort_of ((h.ops o old there).named i) (none_out o old aborts i) (AskStep (DeleteSnapshots names)) (Accepted d))
+        ∙ choose_true (has_name names old.name) (Some (report.Aborted d)) None (names_it f w safe.shelf safe.law names o old there aborts)
+
+    asked_ops : (o : ℕ) (op : Op) → fin.get (aborted_ops w (named_uuids w names) d) o ≡ Some op → IsToldOp (es ++ told 0 (AskStep (DeleteSnapshots names)) (Accepted d) ∷ []) more o op
+    asked_ops o op e =
+        let (old, there, how) = was_op w (named_uuids w names) d o op e in
+        let was : IsToldOp (es ++ ask ∷ []) more o old = ops_stay more ask up (λ p any. refl) o old there in
+        elim how [
+          | inl same ↦ subst (IsToldOp (es ++ ask ∷ []) more o) (sym same) was
+          | inr now ↦ subst (IsToldOp (es ++ ask ∷ []) more o) (sym now.0) (record {
+            unfailed = was.unfailed;
+            aborted = λ by is. record { front = es; e = ask; back = []; is = refl; answer = report.Aborted d; aborts = abort_is o old there now.1 };
+            named = was.named;
+            below = was.below;
+          })
+        ]
+
+    asked_on : (left : Deletes) → ((e : ℕ) (y : Deletion) → fin.get left e ≡ Some y → IsToldDelete (es ++ told 0 (AskStep (DeleteSnapshots names)) (Accepted d) ∷ []) more e y) → ((e : ℕ) → IsDeleteIn w.deletes e → IsDeleteIn left e)
+        → IsNameless (es ++ told 0 (AskStep (DeleteSnapshots names)) (Accepted d) ∷ []) more d → IsDeleteIn left d
+        → Follows w.deposed (aborted_ops w (named_uuids w names) d) left w.tickets w.next_ticket more (es ++ told 0 (AskStep (DeleteSnapshots names)) (Accepted d) ∷ [])
+    asked_on left told_deletes kept nameless stands =
+        goes_on w.deposed w.ops (aborted_ops w (named_uuids w names) d) w.deletes left w.tickets w.tickets w.next_ticket w.next_op more es ask h ask_one asked_ops told_deletes (kin_same w.tickets) (out_same w.tickets ask)
+        (λ o name was. inl (is_op w (named_uuids w names) d o was.0 was.1)) (λ e was_nameless was. inl (kept e was)) (λ o e. absurd (none_some o e)) (λ e is. subst (λ (n : ℕ). IsNameless (es ++ ask ∷ []) more n × IsDeleteIn left n) (some_one d e is) (nameless, stands))
+
+  -- it joins an open delete
+  joins : (names : List Bytes) (d : ℕ) → IsDeleteIn w.deletes d → FollowsIn w (es ++ told 0 (AskStep (DeleteSnapshots names)) (Accepted d) ∷ [])
+  joins names d stands =
+      let x : Entry = told 0 (AskStep (DeleteSnapshots names)) (Accepted d) in
+      let one : IsOne es w.next_op w.next_op x = record { up = same_up w.next_op; giftless = tt; no_ticket = λ k. (refl, refl); no_name = λ o any. refl; said = tt; settles = λ step. absurd (ask_settle (DeleteSnapshots names) step); prunes = λ step. absurd (ask_prune (DeleteSnapshots names) step) } in
+      goes_on w.deposed w.ops w.ops w.deletes w.deletes w.tickets w.tickets w.next_ticket w.next_op w.next_op es x h one (ops_stay w.next_op x one.up one.no_name) (deletes_stay w.next_op x one) (kin_same w.tickets) (out_same w.tickets x) (λ o name was. inl was) (λ e nameless was. inl was)
+      (λ o e. absurd (none_some o e)) (λ e is. subst (λ (n : ℕ). IsNameless (es ++ x ∷ []) w.next_op n × IsDeleteIn w.deletes n) (some_one d e is) ((deletes_stay w.next_op x one d stands.0 stands.1).nameless, stands))
+
+  -- it is merged into one that waits
+  merges : IsSafe f w → (names : List Bytes) (d : ℕ) → Waits w d → FollowsIn (delete_merged w names d (fin.get w.deletes d)) (es ++ told 0 (AskStep (DeleteSnapshots names)) (Accepted d) ∷ [])
+  merges safe names d a =
+      let x : Entry = told 0 (AskStep (DeleteSnapshots names)) (Accepted d) in
+      let one : IsOne es w.next_op w.next_op x = ask_one safe names d w.next_op (same_up w.next_op) in
+      let y : Deletion = record a.x { uuids = with_named w a.x.uuids names } in
+      let old : IsToldDelete (es ++ x ∷ []) w.next_op d a.x = deletes_stay w.next_op x one d a.x a.there in
+      subst (λ (found : Option Deletion). FollowsIn (delete_merged w names d found) (es ++ x ∷ [])) (sym a.there)
+      (asked_on safe names d w.next_op (same_up w.next_op) (fin.insert w.deletes d y)
+      (λ e z is. elim (was_in w.deletes d y e z is) [
+        | inl mine ↦ subst (λ (p : ℕ × Deletion). IsToldDelete (es ++ x ∷ []) w.next_op p.0 p.1) (λ i. (sym mine.0 i, mine.1 i)) (record { unfailed = old.unfailed; nameless = old.nameless })
+        | inr other ↦ deletes_stay w.next_op x one e z other.1
+      ])
+      (delete_on w.deletes d y) old.nameless (y, same_in w.deletes d y))
+
+  -- or it is an op of its own
+  opens : IsSafe f w → (names : List Bytes) → FollowsIn (delete_by w names None None) (es ++ told 0 (AskStep (DeleteSnapshots names)) (Accepted w.next_op) ∷ [])
+  opens safe names =
+      let d : ℕ = w.next_op in
+      let x : Entry = told 0 (AskStep (DeleteSnapshots names)) (Accepted w.next_op) in
+      let one : IsOne es w.next_op (suc w.next_op) x = ask_one safe names w.next_op (suc w.next_op) (one_up w.next_op) in
+      let y : Deletion = record { uuids = named_uuids w names; clean = false; failed = false } in
+      let nameless : IsNameless (es ++ x ∷ []) (suc w.next_op) w.next_op = record { unnamed = name_given es x w.next_op (h.coming w.next_op (same_up w.next_op)); below = below_up w.next_op } in
+      asked_on safe names w.next_op (suc w.next_op) (one_up w.next_op) (fin.insert w.deletes w.next_op y)
+      (λ e z is. elim (was_in w.deletes w.next_op y e z is) [
+        | inl mine ↦ subst (λ (p : ℕ × Deletion). IsToldDelete (es ++ x ∷ []) (suc w.next_op) p.0 p.1) (λ i. (sym mine.0 i, mine.1 i)) (record { unfailed = refl; nameless = nameless })
+        | inr other ↦ deletes_stay (suc w.next_op) x one e z other.1
+      ])
+      (delete_on w.deletes w.next_op y) nameless (y, same_in w.deletes w.next_op y)
+
+  goes_into : IsSafe f w → (names : List Bytes) (waiting running : Option ℕ) → waiting_delete w ≡ waiting → running_delete w (named_uuids w names) ≡ running
+      → FollowsIn (delete_by w names waiting running) (es ++ told 0 (AskStep (DeleteSnapshots names)) (Accepted (number_by w.next_op waiting running)) ∷ [])
+  goes_into safe names (Some d) running is runs = merges safe names d (waits w d is)
+  goes_into safe names None (Some d) is runs = let (x, m) = running_there (runs_for w (named_uuids w names)) (fin.entries w.deletes) d runs in joins names d (x, entry_got w.deletes d x m)
+  goes_into safe names None None is runs = opens safe names
+
+  asks_delete : IsSafe f w → (names : List Bytes) (reply : Reply) (image : Option Image) → DeleteAllows w names reply → IsCalm reply (AskStep (DeleteSnapshots names)) → FollowsIn (after f w (moment 0 (AskStep (DeleteSnapshots names)) reply image)) (es ++ told 0 (AskStep (DeleteSnapshots names)) reply ∷ [])
+  asks_delete safe names reply image (GoingInto acc) calm = goes_into safe names (waiting_delete w) (running_delete w (named_uuids w names)) refl refl
+  asks_delete safe names reply image (NotNamed place clear first) calm = stays (told 0 (AskStep (DeleteSnapshots names)) (Refused (NoSnapshot place))) tt tt
+  asks_delete safe names reply image (CloneStands o clear named lowest) calm = stays (told 0 (AskStep (DeleteSnapshots names)) (Refused (CloneRunning o))) tt tt
+  asks_delete safe names reply image (RestoreStands o clear named no_clone lowest) calm = stays (told 0 (AskStep (DeleteSnapshots names)) (Refused (RestoreRunning o))) tt tt
+  asks_delete safe names reply image (FullOfOps may new full) calm = stays (told 0 (AskStep (DeleteSnapshots names)) (Refused (TooMany 1000))) tt tt
+  asks_delete safe names reply image other calm = absurd calm
+
+  -- ---- take
+
+  gives_shard : (o index number : ℕ) (base : Option ℕ) → GivesShard w o index number None base → FollowsIn (taken_by f w o (GivenShard index number base) (fin.get w.ops o)) (es ++ gave w.next_ticket o (GivenShard index number base) ∷ [])
   gives_shard o index number base g =
-      let all : List Entry = es ++ gave w.next_ticket o (GivenShard index number base) ∷ [] in
-      let op : Op = record g.op { shards = map (given w.next_ticket g.s.ref.id g.s.number) g.op.shards } in
-      subst (λ (x : Option Op). FollowsIn (taken_by f w o (GivenShard index number base) x) all) (sym g.ready.op_there)
-      (subst (λ (x : Option ShardWork). FollowsIn (taken_shard w o g.op base x) all) (sym g.found)
-      (given_on w.deposed w.ops (fin.insert w.ops o op) w.deletes w.tickets w.next_ticket es o (GivenShard index number base) (shard_ticket w o g.op g.s base) h
-      (going_on w.ops o op h.going (same_shards g.op op.shards g.ready.goes)) (stands_on w.ops o op) refl (shard_drop g.s.ref.id g.s.number) (shard_deleting g.s.ref.id g.s.number)
+      let x : Entry = gave w.next_ticket o (GivenShard index number base) in
+      let shards : List ShardWork = map (given w.next_ticket g.s.ref.id g.s.number) g.op.shards in
+      let op : Op = record g.op { shards = shards } in
+      subst (λ (y : Option Op). FollowsIn (taken_by f w o (GivenShard index number base) y) (es ++ x ∷ [])) (sym g.ready.op_there)
+      (subst (λ (y : Option ShardWork). FollowsIn (taken_shard w o g.op base y) (es ++ x ∷ [])) (sym g.found)
+      (given_on w.deposed w.ops (fin.insert w.ops o op) w.deletes w.tickets w.next_ticket w.next_op es o (GivenShard index number base) h (shards_on w.next_op x (same_up w.next_op) (λ q any. refl) o g.op g.ready.op_there shards) (stands_on w.ops o op)
+      (shard_ticket w o g.op g.s base) refl (λ e. absurd (shard_drop g.s.ref.id g.s.number e)) (λ info results made e. absurd (shard_final g.s.ref.id g.s.number info results made e)) (λ uuids plan e. absurd (shard_deleting g.s.ref.id g.s.number uuids plan e)) (λ final. absurd final)
       (λ info results made e. absurd (shard_final g.s.ref.id g.s.number info results made e))))
+
+  -- a shard of a clone is given as another
+  gives_clone : (o index number source : ℕ) (base : Option ℕ) → GivesShard w o index number (Some source) base → FollowsIn (taken_by f w o (GivenClone index number source base) (fin.get w.ops o)) (es ++ gave w.next_ticket o (GivenClone index number source base) ∷ [])
+  gives_clone o index number source base g =
+      let x : Entry = gave w.next_ticket o (GivenClone index number source base) in
+      let shards : List ShardWork = map (given w.next_ticket g.s.ref.id g.s.number) g.op.shards in
+      let op : Op = record g.op { shards = shards } in
+      subst (λ (y : Option Op). FollowsIn (taken_by f w o (GivenClone index number source base) y) (es ++ x ∷ [])) (sym g.ready.op_there)
+      (subst (λ (y : Option ShardWork). FollowsIn (taken_shard w o g.op base y) (es ++ x ∷ [])) (sym g.found)
+      (given_on w.deposed w.ops (fin.insert w.ops o op) w.deletes w.tickets w.next_ticket w.next_op es o (GivenClone index number source base) h (shards_on w.next_op x (same_up w.next_op) (λ q any. refl) o g.op g.ready.op_there shards) (stands_on w.ops o op)
+      (shard_ticket w o g.op g.s base) refl (λ e. absurd (shard_drop g.s.ref.id g.s.number e)) (λ info results made e. absurd (shard_final g.s.ref.id g.s.number info results made e)) (λ uuids plan e. absurd (shard_deleting g.s.ref.id g.s.number uuids plan e)) (λ final. absurd final)
+      (λ info results made e. absurd (shard_final g.s.ref.id g.s.number info results made e))))
+
+  -- the ops stay as a ticket is given
+  ops_given : (k o : ℕ) (unit : Given) (q : ℕ) (op : Op) → fin.get w.ops q ≡ Some op → IsToldOp (es ++ gave k o unit ∷ []) w.next_op q op
+  ops_given k o unit q op e = ops_stay w.next_op (gave k o unit) (same_up w.next_op) (λ p any. refl) q op e
 
   gives_final : (o : ℕ) (info : SnapInfo) (results : List ShardResult) → GivesFinalize f w o info results → FollowsIn (taken_by f w o (GivenFinalize info results) (fin.get w.ops o)) (es ++ gave w.next_ticket o (GivenFinalize info results) ∷ [])
   gives_final o info results g =
       let all : List Entry = es ++ gave w.next_ticket o (GivenFinalize info results) ∷ [] in
       subst (λ (x : Option Op). FollowsIn (taken_by f w o (GivenFinalize info results) x) all) (sym g.ready.op_there)
-      (given_on w.deposed w.ops w.ops w.deletes w.tickets w.next_ticket es o (GivenFinalize info results) (final_ticket f w o g.op results) h h.going (λ p was. was) refl
-      (final_drop (info_of g.op results) results (shelved_of f g.op)) (final_deleting (info_of g.op results) results (shelved_of f g.op))
-      (λ other rs made e. ap (λ (y : SnapInfo). Some y.uuid) (g.info_is ∙ final_info (info_of g.op results) other results rs (shelved_of f g.op) made e)))
+      (given_on w.deposed w.ops w.ops w.deletes w.tickets w.next_ticket w.next_op es o (GivenFinalize info results) h (ops_given w.next_ticket o (GivenFinalize info results)) (λ p was. was) (final_ticket f w o g.op results) refl
+      (λ e. absurd (final_drop (info_of g.op results) results (made_of f g.op) e)) (λ other rs made e. (g.op.name, (h.ops o g.op g.ready.op_there).named)) (λ uuids plan e. absurd (final_deleting (info_of g.op results) results (made_of f g.op) uuids plan e))
+      (λ final. record { out = refl; unsettled = refl; final = tt })
+      (λ other rs made e. ap (λ (y : SnapInfo). Some y.uuid) (g.info_is ∙ final_info (info_of g.op results) other results rs (made_of f g.op) made e)))
 
-  -- no op is stopped
-  no_drop : (o : ℕ) → ReadyDrop w o → ⊥
-  no_drop o ready = elim ready.stopped [ inl z ↦ not_both z.0 (h.going o z.0 z.1) z.2 | inr z ↦ h.no_deletes o z.0 z.1 ]
+  -- what stops an op is that a delete aborted it
+  stopped : (o : ℕ) → ReadyDrop w o → IsAbortedIn es o
+  stopped o ready = elim ready.stopped [
+    | inl z ↦ elim z.2 [
+      | inl failed ↦ absurd (true≢false (sym failed ∙ (h.ops o z.0 z.1).unfailed))
+      | inr by ↦ (h.ops o z.0 z.1).aborted by.0 by.1
+    ]
+    | inr z ↦ absurd (true≢false (sym z.2 ∙ (h.deletes o z.0 z.1).unfailed))
+  ]
+
+  gives_drop : (o : ℕ) → ReadyDrop w o → FollowsIn (taken_by f w o GivenDrop (fin.get w.ops o)) (es ++ gave w.next_ticket o GivenDrop ∷ [])
+  gives_drop o ready =
+      given_on w.deposed w.ops w.ops w.deletes w.tickets w.next_ticket w.next_op es o GivenDrop h (ops_given w.next_ticket o GivenDrop) (λ p was. was) (plain_ticket w o Drop) refl (λ e. stopped o ready)
+      (λ info results made e. absurd (drop_final info results made e)) (λ uuids plan e. absurd (drop_deleting uuids plan e)) (λ final. absurd final) (λ info results made e. absurd (drop_final info results made e))
+
+  gives_delete : (o : ℕ) (uuids : List ℕ) (x : Deletion) → ReadyDelete w o x → FollowsIn (taken_by f w o (GivenDelete uuids) (fin.get w.ops o)) (es ++ gave w.next_ticket o (GivenDelete uuids) ∷ [])
+  gives_delete o uuids x ready =
+      given_on w.deposed w.ops w.ops w.deletes w.tickets w.next_ticket w.next_op es o (GivenDelete uuids) h (ops_given w.next_ticket o (GivenDelete uuids)) (λ p was. was) (plain_ticket w o (Deleting uuids None)) refl (λ e. absurd (deleting_drop uuids None e))
+      (λ info results made e. absurd (deleting_final uuids None info results made e)) (λ us plan e. (h.deletes o x ready.there).nameless) (λ final. absurd final) (λ info results made e. absurd (deleting_final uuids None info results made e))
 
   gives_restore : (o index number uuid : ℕ) → GivesRestore w o index number uuid → FollowsIn (taken_restore w o index number (fin.get w.restores o)) (es ++ gave w.next_ticket o (GivenRestore index number uuid) ∷ [])
   gives_restore o index number uuid g =
       let all : List Entry = es ++ gave w.next_ticket o (GivenRestore index number uuid) ∷ [] in
       subst (λ (x : Option Restoring). FollowsIn (taken_restore w o index number x) all) (sym g.ready.there)
       (subst (λ (x : Option RestoreShard). FollowsIn (taken_restore_shard w o g.r x) all) (sym g.found)
-      (handed_on w.deposed w.ops w.deletes w.tickets w.next_ticket es o (GivenRestore index number uuid) h))
+      (handed_on w.deposed w.ops w.deletes w.tickets w.next_ticket w.next_op es o (GivenRestore index number uuid) (λ final. final) h))
 
   gives : (o : ℕ) (unit : Given) → Gives f w o unit → FollowsIn (taken_by f w o unit (fin.get w.ops o)) (es ++ gave w.next_ticket o unit ∷ [])
   gives o (GivenShard index number base) g = gives_shard o index number base g
   gives o (GivenFinalize info results) g = gives_final o info results g
-  gives o GivenDrop g = absurd (no_drop o g)
+  gives o GivenDrop g = gives_drop o g
   gives o (GivenRestore index number uuid) g = gives_restore o index number uuid g
-  gives o (GivenClone index number source base) g = absurd g
-  gives o (GivenDelete uuids) g = absurd (h.no_deletes o g.0 g.1.there)
+  gives o (GivenClone index number source base) g = gives_clone o index number source base g
+  gives o (GivenDelete uuids) g = gives_delete o uuids g.0 g.1
   gives o GivenCleanup g = absurd g
 
   gives_as : (k o : ℕ) (unit : Given) → k ≡ w.next_ticket → Gives f w o unit → FollowsIn (taken_by f w o unit (fin.get w.ops o)) (es ++ gave k o unit ∷ [])
@@ -130,35 +522,52 @@ module _ (f : Formats) (size : ℕ) (w : World) (es : List Entry) (h : FollowsIn
 
   -- ---- blobs
 
-  commits : (k : ℕ) (t : Ticket) → fin.get w.tickets k ≡ Some t → (name : BlobName) (o : Option Bytes) (x : Entry) → IsPlain x.reply → IsSaid x.step x.reply → FollowsIn (change w k (committing name o)) (es ++ x ∷ [])
-  commits k t there name None x plain said = changed k t there (committing name None) refl refl x plain said
-  commits k t there name (Some bytes) x plain said = changed k t there (committing name (Some bytes)) refl refl x plain said
+  commits : (k : ℕ) (t : Ticket) → fin.get w.tickets k ≡ Some t → (name : BlobName) (o : Option Bytes) (x : Entry) → IsPlain x.reply x.step → IsSaid x.step x.reply → FollowsIn (change w k (committing name o)) (es ++ x ∷ [])
+  commits k t there name None x plain said = changed k t there (committing name None) refl refl x (λ is. inl (record { out = is.out; unsettled = is.unsettled; final = is.final })) plain said
+  commits k t there name (Some bytes) x plain said = changed k t there (committing name (Some bytes)) refl refl x (λ is. inl (record { out = is.out; unsettled = is.unsettled; final = is.final })) plain said
 
-  fetches : (k : ℕ) (t : Ticket) → fin.get w.tickets k ≡ Some t → (name : BlobName) (o : Option Bytes) (x : Entry) → IsPlain x.reply → IsSaid x.step x.reply → FollowsIn (change w k (fetching name o)) (es ++ x ∷ [])
-  fetches k t there name None x plain said = changed k t there (fetching name None) refl refl x plain said
-  fetches k t there name (Some bytes) x plain said = changed k t there (fetching name (Some bytes)) refl refl x plain said
+  fetches : (k : ℕ) (t : Ticket) → fin.get w.tickets k ≡ Some t → (name : BlobName) (o : Option Bytes) (x : Entry) → IsPlain x.reply x.step → IsSaid x.step x.reply → FollowsIn (change w k (fetching name o)) (es ++ x ∷ [])
+  fetches k t there name None x plain said = changed k t there (fetching name None) refl refl x (λ is. inl is) plain said
+  fetches k t there name (Some bytes) x plain said = changed k t there (fetching name (Some bytes)) refl refl x (λ is. inl (record { out = is.out; unsettled = is.unsettled; final = is.final })) plain said
 
   -- ---- the end of a unit
 
   does : (k : ℕ) (r : ShardResult) (image : Option Image) → Dones f size w k r image → FollowsIn (done_of w k r (fin.get w.tickets k)) (es ++ told k (DoneStep r) HasEnded ∷ [])
   does k r image d =
       let x : Entry = told k (DoneStep r) HasEnded in
-      let op : Op = record d.op { shards = map (marked k (Done r)) d.op.shards } in
+      let one : IsOne es w.next_op w.next_op x = plain_one es w.next_op w.next_op x (same_up w.next_op) tt tt in
+      let shards : List ShardWork = map (marked k (Done r)) d.op.shards in
+      let op : Op = record d.op { shards = shards } in
       subst (λ (o : Option Ticket). FollowsIn (done_of w k r o) (es ++ x ∷ [])) (sym d.out.there)
       (subst (λ (o : Option Op). FollowsIn (done_by w k r d.t o) (es ++ x ∷ [])) (sym d.op_there)
-      (goes_on w.deposed w.ops (fin.insert w.ops d.t.op op) w.deletes w.deletes w.tickets (fin.insert w.tickets k (record d.t { out = false })) w.next_ticket es x h (λ n y e. e)
-      (going_on w.ops d.t.op op h.going (same_shards d.op op.shards (h.going d.t.op d.op d.op_there)))
-      (kin_on w.tickets k d.t (record d.t { out = false }) d.out.there refl refl) (λ j. (refl, refl)) tt (λ o was. inl (stands_on w.ops d.t.op op o was))
-      (λ o e. absurd (none_some o e))))
+      (goes_on w.deposed w.ops (fin.insert w.ops d.t.op op) w.deletes w.deletes w.tickets (fin.insert w.tickets k (record d.t { out = false })) w.next_ticket w.next_op w.next_op es x h one (shards_on w.next_op x one.up one.no_name d.t.op d.op d.op_there shards) (deletes_stay w.next_op x one)
+      (kin_on w.tickets k d.t (record d.t { out = false }) d.out.there refl refl) (out_on w.tickets k d.t (record d.t { out = false }) x d.out.there refl (λ is. absurd (subst IsFinal d.is is.final))) (λ o name was. inl (stands_on w.ops d.t.op op o was)) (λ e nameless was. inl was)
+      (λ o e. absurd (none_some o e)) (λ e is. absurd (none_some e is))))
 
   settles : (k : ℕ) → Settles f w k → FollowsIn (settled_of f w k (fin.get w.tickets k)) (es ++ told k SettleStep WasSettled ∷ [])
   settles k s =
-      let x : Entry = told k SettleStep WasSettled in
-      subst (λ (v : World). FollowsIn v (es ++ x ∷ [])) (sym (settled_plain f w k s))
-      (goes_on w.deposed w.ops (fin.remove w.ops s.t.op) w.deletes (fin.remove w.deletes s.t.op) w.tickets (fin.insert w.tickets k (record s.t { settled = true })) w.next_ticket es x h
-      (λ d y e. (left_in w.deletes s.t.op d y e).1) (λ o op e. h.going o op (left_in w.ops s.t.op o op e).1)
-      (kin_on w.tickets k s.t (record s.t { settled = true }) s.may.out.there refl refl) (λ j. (refl, refl)) tt leaves (λ o e. absurd (none_some o e)))
+      subst (λ (v : World). FollowsIn v (es ++ told k SettleStep WasSettled ∷ [])) (sym (settled_plain f w k s))
+      (goes_on w.deposed w.ops (fin.remove w.ops s.t.op) w.deletes (fin.remove w.deletes s.t.op) w.tickets (fin.insert w.tickets k (record s.t { settled = true })) w.next_ticket w.next_op w.next_op es x h one (ops_left w.next_op x one s.t.op) (deletes_left w.next_op x one s.t.op)
+      (kin_on w.tickets k s.t (record s.t { settled = true }) s.may.out.there refl refl) (out_on w.tickets k s.t (record s.t { settled = true }) x s.may.out.there refl (λ is. inr (refl, refl))) leaves (stays_nameless s.t.op (es ++ x ∷ []) named) (λ o e. absurd (none_some o e)) (λ d e. absurd (none_some d e)))
     where
+      x : Entry
+      x = told k SettleStep WasSettled
+
+      named : HasName es s.t.op
+      named = (h.units k s.t s.may.out.there).finals s.info s.results s.made s.work
+
+      one : IsOne es w.next_op w.next_op (told k SettleStep WasSettled)
+      one =
+          record {
+            up = same_up w.next_op;
+            giftless = tt;
+            no_ticket = λ j. (refl, refl);
+            no_name = λ o any. refl;
+            said = tt;
+            settles = λ step reply. (s.t.op, op_stays es (x ∷ []) k s.t.op (h.op_of k s.t s.may.out.there), named_on es x s.t.op named);
+            prunes = λ step. absurd (settle_prune step);
+          }
+
       it : IsSettledIn (es ++ told k SettleStep WasSettled ∷ []) s.t.op
       it =
           record {
@@ -171,21 +580,121 @@ module _ (f : Formats) (size : ℕ) (w : World) (es : List Entry) (h : FollowsIn
             uuid_is = uuid_stays es (told k SettleStep WasSettled ∷ []) k s.info.uuid (h.uuid_of k s.t s.info s.results s.made s.may.out.there s.work);
           }
 
-      leaves : (o : ℕ) → IsOpenIn w.ops o → IsOpenIn (fin.remove w.ops s.t.op) o ⊎ IsSettledIn (es ++ told k SettleStep WasSettled ∷ []) o
-      leaves o was = elim (split_at o s.t.op) [
-        | inl same ↦ inr (subst (IsSettledIn (es ++ told k SettleStep WasSettled ∷ [])) (sym same) it)
+      leaves : (o : ℕ) → HasName es o → IsOpenIn w.ops o → IsEndedOr (fin.remove w.ops s.t.op) (es ++ told k SettleStep WasSettled ∷ []) o
+      leaves o name was = elim (split_at o s.t.op) [
+        | inl same ↦ inr (inl (subst (IsSettledIn (es ++ told k SettleStep WasSettled ∷ [])) (sym same) it))
         | inr apart ↦ inl (was.0, stays_in w.ops s.t.op o apart ∙ was.1)
       ]
+
+  -- an op that was aborted leaves
+  drops : (k : ℕ) → Drops w k → FollowsIn (dropped_of w k (fin.get w.tickets k)) (es ++ told k DroppedStep HasEnded ∷ [])
+  drops k d =
+      let t : Ticket = d.may.t in
+      subst (λ (o : Option Ticket). FollowsIn (dropped_of w k o) (es ++ told k DroppedStep HasEnded ∷ [])) (sym d.may.out.there)
+      (goes_on w.deposed w.ops (fin.remove w.ops t.op) w.deletes (fin.remove w.deletes t.op) w.tickets (fin.insert w.tickets k (record t { out = false })) w.next_ticket w.next_op w.next_op es x h one (ops_left w.next_op x one t.op) (deletes_left w.next_op x one t.op)
+      (kin_on w.tickets k t (record t { out = false }) d.may.out.there refl refl) (out_on w.tickets k t (record t { out = false }) x d.may.out.there refl (λ is. absurd (subst IsFinal d.may.work is.final))) leaves (stays_nameless t.op (es ++ x ∷ []) (aborted_name es t.op was_aborted))
+      (λ o e. absurd (none_some o e)) (λ e is. absurd (none_some e is)))
+    where
+      x : Entry
+      x = told k DroppedStep HasEnded
+
+      one : IsOne es w.next_op w.next_op (told k DroppedStep HasEnded)
+      one = plain_one es w.next_op w.next_op x (same_up w.next_op) tt tt
+
+      was_aborted : IsAbortedIn es d.may.t.op
+      was_aborted = (h.units k d.may.t d.may.out.there).drops d.may.work
+
+      leaves : (o : ℕ) → HasName es o → IsOpenIn w.ops o → IsEndedOr (fin.remove w.ops d.may.t.op) (es ++ told k DroppedStep HasEnded ∷ []) o
+      leaves o name was = elim (split_at o d.may.t.op) [
+        | inl same ↦ inr (inr (subst (IsAbortedIn (es ++ x ∷ [])) (sym same) (aborted_on es x d.may.t.op was_aborted)))
+        | inr apart ↦ inl (was.0, stays_in w.ops d.may.t.op o apart ∙ was.1)
+      ]
+
+  -- ---- steps of a delete's ticket
+
+  plans : (k : ℕ) (shards : List PrunedShard) (image : Option Image) (p : MayPlan f w k shards image) → FollowsIn (record (change w k (planned f shards w.next_id)) { next_id = w.next_id + kept_count shards }) (es ++ told k (PruneStep (PlanShards shards)) (DrawnFrom w.next_id) ∷ [])
+  plans k shards image p =
+      let x : Entry = told k (PruneStep (PlanShards shards)) (DrawnFrom w.next_id) in
+      subst (λ (o : Option Ticket). FollowsIn (record (with_given w k (planned f shards w.next_id) o) { next_id = w.next_id + kept_count shards }) (es ++ x ∷ [])) (sym p.deleting.out.there)
+      (ticket_on k p.t (planned f shards w.next_id p.t) p.deleting.out.there kin refl x (λ is. absurd (subst IsFinal p.deleting.work is.final)) tt tt)
+    where
+      work_is : (planned f shards w.next_id p.t).work ≡ Deleting p.uuids (Some (delete_swap f p.t.root p.t.read p.uuids shards w.next_id))
+      work_is = ap (planned_work f p.t shards w.next_id) p.deleting.work
+
+      kin : (j : ℕ) (u : Ticket) → fin.get (fin.insert w.tickets k (planned f shards w.next_id p.t)) j ≡ Some u → IsKin w.tickets j u
+      kin j u e = elim (was_in w.tickets k (planned f shards w.next_id p.t) j u e) [
+        | inl is ↦
+            let mine : u.work ≡ Deleting p.uuids (Some (delete_swap f p.t.root p.t.read p.uuids shards w.next_id)) = ap (λ (y : Ticket). y.work) (sym is.1) ∙ work_is in
+            record {
+              was = p.t;
+              there = ap (fin.get w.tickets) is.0 ∙ p.deleting.out.there;
+              op_is = ap (λ (y : Ticket). y.op) is.1;
+              drops = λ drop. absurd (deleting_drop p.uuids _ (sym mine ∙ drop));
+              finals = λ info results made final. absurd (deleting_final p.uuids _ info results made (sym mine ∙ final));
+              deletes = λ uuids plan deleting. (None, p.deleting.work ∙ ap (λ (us : List ℕ). Deleting us None) (same_uuids (sym mine ∙ deleting)));
+            }
+        | inr is ↦ kin_same w.tickets j u is.1
+      ]
+
+  settles_delete : (k : ℕ) → SettlesDeletion f w k → FollowsIn (delete_settled f w k (fin.get w.tickets k)) (es ++ told k (PruneStep SettlePruned) WasSettled ∷ [])
+  settles_delete k s =
+      subst (λ (v : World). FollowsIn v (es ++ told k (PruneStep SettlePruned) WasSettled ∷ [])) (sym (delete_settled_plain f w k s.n s.t s.s s.may))
+      (goes_on w.deposed w.ops (fin.remove w.ops s.t.op) w.deletes (fin.remove w.deletes s.t.op) w.tickets (fin.insert w.tickets k (record s.t { settled = true })) w.next_ticket w.next_op w.next_op es x h one (ops_left w.next_op x one s.t.op) (deletes_left w.next_op x one s.t.op)
+      (kin_on w.tickets k s.t (record s.t { settled = true }) s.may.out.there refl refl) (out_on w.tickets k s.t (record s.t { settled = true }) x s.may.out.there refl (λ is. absurd (subst IsFinal s.deleting.work is.final))) (stays_named s.t.op (es ++ x ∷ []) nameless) leaves
+      (λ o e. absurd (none_some o e)) (λ d e. absurd (none_some d e)))
+    where
+      x : Entry
+      x = told k (PruneStep SettlePruned) WasSettled
+
+      nameless : IsNameless es w.next_op s.t.op
+      nameless = (h.units k s.t s.may.out.there).deletes s.uuids (Some s.s) s.deleting.work
+
+      one : IsOne es w.next_op w.next_op (told k (PruneStep SettlePruned) WasSettled)
+      one =
+          record {
+            up = same_up w.next_op;
+            giftless = tt;
+            no_ticket = λ j. (refl, refl);
+            no_name = λ o any. refl;
+            said = tt;
+            settles = λ step. absurd (prune_settle step);
+            prunes = λ step reply. (s.t.op, op_stays es (x ∷ []) k s.t.op (h.op_of k s.t s.may.out.there), nameless_on es x w.next_op w.next_op (same_up w.next_op) (λ o any. refl) s.t.op nameless);
+          }
+
+      it : IsPrunedIn (es ++ told k (PruneStep SettlePruned) WasSettled ∷ []) s.t.op
+      it =
+          record {
+            e = told k (PruneStep SettlePruned) WasSettled;
+            has = Has-right es (told k (PruneStep SettlePruned) WasSettled ∷ []) (told k (PruneStep SettlePruned) WasSettled) (inl refl);
+            step = refl;
+            reply = refl;
+            op_is = op_stays es (told k (PruneStep SettlePruned) WasSettled ∷ []) k s.t.op (h.op_of k s.t s.may.out.there);
+          }
+
+      leaves : (d : ℕ) → IsNameless es w.next_op d → IsDeleteIn w.deletes d → IsDeletedOr (fin.remove w.deletes s.t.op) (es ++ told k (PruneStep SettlePruned) WasSettled ∷ []) d
+      leaves d none was = elim (split_at d s.t.op) [
+        | inl same ↦ inr (subst (IsPrunedIn (es ++ told k (PruneStep SettlePruned) WasSettled ∷ [])) (sym same) it)
+        | inr apart ↦ inl (was.0, stays_in w.deletes s.t.op d apart ∙ was.1)
+      ]
+
+  prunes : (k : ℕ) (prune : Prune) (reply : Reply) (image : Option Image) → PruneAllows f w k prune reply image → IsCalm reply (PruneStep prune) → FollowsIn (after f w (moment k (PruneStep prune) reply image)) (es ++ told k (PruneStep prune) reply ∷ [])
+  prunes k prune reply image (FetchingShard j name im g found) calm = fetches j g.t g.deleting.out.there name (told_blob f im name) (told j (PruneStep (FetchShard name)) WasFetched) tt tt
+  prunes k prune reply image (ShardMissing j name im g found) calm = stays (told j (PruneStep (FetchShard name)) WasAbsent) tt tt
+  prunes k prune reply image (Planning j shards im p fits back same) calm = plans j shards im p
+  prunes k prune reply image (SettlingDelete j im s present same) calm = settles_delete j s
+  prunes k prune reply image (RemovingDoomed j names im r left) calm = stays (told j (PruneStep (RemoveDoomed names)) WasRemoved) tt tt
+  prunes k prune reply image (EndingDelete j im e same) calm = changed j e.t e.deleting.out.there (λ t. record t { out = false }) refl refl (told j (PruneStep EndDelete) HasEnded) (λ is. absurd (subst IsFinal e.deleting.work is.final)) tt tt
+  prunes k prune reply image other calm = absurd calm
 
   -- ---- restores, and what is read
 
   asks_restore : (name place : Bytes) (reply : Reply) (image : Option Image) → RestoreAllows f w name reply image → FollowsIn (after f w (moment 0 (AskStep (Restore name place)) reply image)) (es ++ told 0 (AskStep (Restore name place)) reply ∷ [])
-  asks_restore name place reply image (OpeningRestore o uuid indices im acc) = stays (told 0 (AskStep (Restore name place)) (AcceptedRestore o uuid indices)) tt tt
+  asks_restore name place reply image (OpeningRestore o uuid indices im acc) = stays_to (suc w.next_op) (one_up w.next_op) (told 0 (AskStep (Restore name place)) (AcceptedRestore o uuid indices)) tt tt
   asks_restore name place reply image (NotListed im none) = stays (told 0 (AskStep (Restore name place)) (Refused (NoSnapshot 0))) tt tt
   asks_restore name place reply image (NamedByDelete uuid d im listed named) = stays (told 0 (AskStep (Restore name place)) (Refused (BeingDeleted d))) tt tt
   asks_restore name place reply image (FullOfRestores uuid im listed spared full) = stays (told 0 (AskStep (Restore name place)) (Refused (TooMany 1000))) tt tt
 
-  reads_on : (k : ℕ) (read : Read) (reply : Reply) (image : Option Image) → IsNoTest read → IsPlain reply → FollowsIn (read_by f w k read reply image) (es ++ told k (ReadStep read) reply ∷ [])
+  reads_on : (k : ℕ) (read : Read) (reply : Reply) (image : Option Image) → IsNoTest read → IsPlain reply (ReadStep read) → FollowsIn (read_by f w k read reply image) (es ++ told k (ReadStep read) reply ∷ [])
   reads_on k read reply image no_test plain = follows_aside w (read_by f w k read reply image) (es ++ told k (ReadStep read) reply ∷ []) (aside_by f w k read reply image no_test) (stays (told k (ReadStep read) reply) plain tt)
 
   reads : (k : ℕ) (read : Read) (reply : Reply) (image : Option Image) → ReadAllows f w k read reply image → IsCalm reply (ReadStep read) → FollowsIn (after f w (moment k (ReadStep read) reply image)) (es ++ told k (ReadStep read) reply ∷ [])
@@ -208,38 +717,42 @@ module _ (f : Formats) (size : ℕ) (w : World) (es : List Entry) (h : FollowsIn
 
   -- ---- each answer
 
-  follows_by : (who : ℕ) (step : Step) (reply : Reply) (image : Option Image) → Allows f size w who step reply image → IsCalm reply step → AsksNoDelete step → FollowsIn (after f w (moment who step reply image)) (es ++ told who step reply ∷ [])
-  follows_by who step reply image (allowed.Accepting name indices time o im acc same) calm unasked = asks name indices time o acc
-  follows_by who step reply image (allowed.GivingNothing im none same) calm unasked = stays (told 0 TakeStep NothingReady) tt tt
-  follows_by who step reply image (allowed.Giving k o unit im is lowest g same) calm unasked = gives_as k o unit is g
-  follows_by who step reply image (allowed.Drawing k n first im d same) calm unasked = changed k d.may.t d.may.out.there (λ t. record t { first = w.next_id; drawn = n }) refl refl (told k (DrawStep n) (DrawnFrom first)) tt tt
-  follows_by who step reply image (allowed.Beginning k name im c same) calm unasked = stays (told k (BeginStep name) WasBegun) tt tt
-  follows_by who step reply image (allowed.BeginningLatest k im c same) calm unasked = stays (told k (BeginStep Latest) WasBegun) tt tt
-  follows_by who step reply image (allowed.Committing k name im c adds) calm unasked = commits k c.t c.out.there name (told_blob f im name) (told k (CommitStep name) WasDone) tt tt
-  follows_by who step reply image (allowed.Finding k name im c found) calm unasked = commits k c.t c.out.there name None (told k (CommitStep name) WasThere) tt tt
-  follows_by who step reply image (allowed.Replacing k im c named puts) calm unasked = changed k c.t c.out.there (λ t. record t { tried_latest = true }) refl refl (told k LatestStep WasReplaced) tt tt
-  follows_by who step reply image (allowed.Fetching k name im g found) calm unasked = fetches k g.t g.out.there name (told_blob f im name) (told k (FetchStep name) WasFetched) tt tt
-  follows_by who step reply image (allowed.Missing k name im g found) calm unasked = stays (told k (FetchStep name) WasAbsent) tt tt
-  follows_by who step reply image (allowed.Listing k im t out same) calm unasked = stays (told k ListStep WasListed) tt tt
-  follows_by who step reply image (allowed.Raising k n im r same) calm unasked = changed k r.may.t r.may.out.there (λ t. record t { raised = Some w.pending }) refl refl (told k RaiseStep (RaisedTo n)) tt tt
-  follows_by who step reply image (allowed.Settling k im s same) calm unasked = settles k s
-  follows_by who step reply image (allowed.Doing k r im d same) calm unasked = does k r im d
-  follows_by who step reply image (allowed.Finishing k im c same) calm unasked = changed k c.t c.out.there (λ t. record t { out = false }) refl refl (told k FinishStep HasEnded) tt tt
-  follows_by who step reply image (allowed.Dropping k im c same) calm unasked = absurd (h.no_drops k c.may.t c.may.out.there c.may.work)
-  follows_by who step reply image (allowed.Electing im room same) calm unasked = stays (told 0 ElectStep (ElectedTerm (suc w.term))) tt tt
-  follows_by who step reply image (allowed.Looking im same) calm unasked = stays (told 0 LookStep (Looked w.root.snapshots w.safe)) tt tt
-  follows_by who step reply image (allowed.Used name indices time uuid im clear is same) calm unasked = stays (told 0 (AskStep (Snapshot name indices time)) (Refused (NameInUse uuid))) tt tt
-  follows_by who step reply image (allowed.Full name indices time im clear unused full same) calm unasked = stays (told 0 (AskStep (Snapshot name indices time)) (Refused (TooMany 1000))) tt tt
-  follows_by who step reply image (allowed.AskingRestore name place rep im a same) calm unasked = asks_restore name place rep im a
-  follows_by who step reply image (allowed.AskingDelete names rep im a same) calm unasked = absurd (unasked names refl)
-  follows_by who step reply image (allowed.Reading k read rep im a same) calm unasked = reads k read rep im a calm
-  follows_by who step reply image (allowed.Verifying read rep im a) calm unasked = verifies read rep im a calm
-  follows_by who step reply image (allowed.Cleaning command d x im recorded there clean same) calm unasked = absurd (h.no_deletes d x there)
-  follows_by who step reply image (allowed.Pruning k prune rep im p) calm unasked = let d = prune_has_delete f w k prune rep im p in absurd (h.no_deleting d.k d.t d.uuids d.plan d.there d.work)
-  follows_by who step reply image other calm unasked = absurd calm
+  follows_by : (who : ℕ) (step : Step) (reply : Reply) (image : Option Image) → Allows f size w who step reply image → IsCalm reply step → IsSafe f w → FollowsIn (after f w (moment who step reply image)) (es ++ told who step reply ∷ [])
+  follows_by who step reply image (allowed.Accepting name indices time o im acc same) calm safe = asks name indices time o acc
+  follows_by who step reply image (allowed.GivingNothing im none same) calm safe = stays (told 0 TakeStep NothingReady) tt tt
+  follows_by who step reply image (allowed.Giving k o unit im is lowest g same) calm safe = gives_as k o unit is g
+  follows_by who step reply image (allowed.Drawing k n first im d same) calm safe =
+      changed k d.may.t d.may.out.there (λ t. record t { first = w.next_id; drawn = n }) refl refl (told k (DrawStep n) (DrawnFrom first)) (λ is. inl (record { out = is.out; unsettled = is.unsettled; final = is.final })) tt tt
+  follows_by who step reply image (allowed.Beginning k name im c same) calm safe = stays (told k (BeginStep name) WasBegun) tt tt
+  follows_by who step reply image (allowed.BeginningLatest k im c same) calm safe = stays (told k (BeginStep Latest) WasBegun) tt tt
+  follows_by who step reply image (allowed.Committing k name im c adds) calm safe = commits k c.t c.out.there name (told_blob f im name) (told k (CommitStep name) WasDone) tt tt
+  follows_by who step reply image (allowed.Finding k name im c found) calm safe = commits k c.t c.out.there name None (told k (CommitStep name) WasThere) tt tt
+  follows_by who step reply image (allowed.Replacing k im c named puts) calm safe =
+      changed k c.t c.out.there (λ t. record t { tried_latest = true }) refl refl (told k LatestStep WasReplaced) (λ is. inl (record { out = is.out; unsettled = is.unsettled; final = is.final })) tt tt
+  follows_by who step reply image (allowed.Fetching k name im g found) calm safe = fetches k g.t g.out.there name (told_blob f im name) (told k (FetchStep name) WasFetched) tt tt
+  follows_by who step reply image (allowed.Missing k name im g found) calm safe = stays (told k (FetchStep name) WasAbsent) tt tt
+  follows_by who step reply image (allowed.Listing k im t out same) calm safe = stays (told k ListStep WasListed) tt tt
+  follows_by who step reply image (allowed.Raising k n im r same) calm safe =
+      changed k r.may.t r.may.out.there (λ t. record t { raised = Some w.pending }) refl refl (told k RaiseStep (RaisedTo n)) (λ is. inl (record { out = is.out; unsettled = is.unsettled; final = is.final })) tt tt
+  follows_by who step reply image (allowed.Settling k im s same) calm safe = settles k s
+  follows_by who step reply image (allowed.Doing k r im d same) calm safe = does k r im d
+  follows_by who step reply image (allowed.Finishing k im c same) calm safe = changed k c.t c.out.there (λ t. record t { out = false }) refl refl (told k FinishStep HasEnded) (λ is. inr (refl, refl)) tt tt
+  follows_by who step reply image (allowed.Dropping k im c same) calm safe = drops k c
+  follows_by who step reply image (allowed.Electing im room same) calm safe = stays (told 0 ElectStep (ElectedTerm (suc w.term))) tt tt
+  follows_by who step reply image (allowed.Looking im same) calm safe = stays (told 0 LookStep (Looked w.root.snapshots w.safe)) tt tt
+  follows_by who step reply image (allowed.Used name indices time uuid im clear is same) calm safe = stays (told 0 (AskStep (Snapshot name indices time)) (Refused (NameInUse uuid))) tt tt
+  follows_by who step reply image (allowed.Full name indices time im clear unused full same) calm safe = stays (told 0 (AskStep (Snapshot name indices time)) (Refused (TooMany 1000))) tt tt
+  follows_by who step reply image (allowed.AskingRestore name place rep im a same) calm safe = asks_restore name place rep im a
+  follows_by who step reply image (allowed.AskingClone source name names time taken rep im a same) calm safe = asks_clone source name names time taken rep im a calm
+  follows_by who step reply image (allowed.AskingDelete names rep im a same) calm safe = asks_delete safe names rep im a calm
+  follows_by who step reply image (allowed.Reading k read rep im a same) calm safe = reads k read rep im a calm
+  follows_by who step reply image (allowed.Verifying read rep im a) calm safe = verifies read rep im a calm
+  follows_by who step reply image (allowed.Cleaning command d x im recorded there clean same) calm safe = absurd (no_cleaning command d calm)
+  follows_by who step reply image (allowed.Pruning k prune rep im p) calm safe = prunes k prune rep im p calm
+  follows_by who step reply image other calm safe = absurd calm
 
-pub follows_step : (f : Formats) (size : ℕ) (w : World) (es : List Entry) → FollowsIn w es → (m : Moment) → Allowed f size w m → IsCalm m.entry.reply m.entry.step → AsksNoDelete m.entry.step → FollowsIn (after f w m) (es ++ m.entry ∷ [])
-follows_step f size w es h m a calm unasked = elim a.answered [
-  | inl alive ↦ follows_by f size w es h m.entry.who m.entry.step m.entry.reply m.image alive.1 calm unasked
+pub follows_step : (f : Formats) (size : ℕ) (w : World) (es : List Entry) → FollowsIn w es → (m : Moment) → Allowed f size w m → IsCalm m.entry.reply m.entry.step → IsSafe f w → FollowsIn (after f w m) (es ++ m.entry ∷ [])
+follows_step f size w es h m a calm safe = elim a.answered [
+  | inl alive ↦ follows_by f size w es h m.entry.who m.entry.step m.entry.reply m.image alive.1 calm safe
   | inr dead ↦ absurd (true≢false (sym dead.deposed ∙ h.live))
 ]

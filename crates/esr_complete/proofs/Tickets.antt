@@ -1,12 +1,11 @@
--- What a longer history tells of tickets, and how an op ends where nothing fails.
-use Rattle.std.proofs.Common.{◌≡◌, ◌⊎◌, ℕ, Bool, true, false, List, [], ◌∷◌, ◌++◌, Option, Some, None, option_map, if◌then◌else◌, ◌==◌, refl, sym, ap, ◌∙◌, subst, inl, inr}
+-- What a longer history tells of tickets, of the names of ops and of the finalizations that are out.
+use Rattle.std.proofs.Common.{◌≡◌, ℕ, Bool, true, false, List, [], ◌∷◌, ◌++◌, Option, Some, None, if◌then◌else◌, ◌==◌, ◌&&◌, ◌⊎◌, refl, sym, ap, ◌∙◌, inl, inr}
 use Rattle.std.proofs.lemmas.Bool.Decides.{eqb_tells}
-use Rattle.esr_model.specs.Values.{Bytes, Has}
-use Rattle.esr_core.specs.Entry.{DeleteSnapshots, AsksNoDelete, Step, AskStep, SettleStep, FailedStep, PruneStep, Reply, WasSettled, HasEnded, Refused, Entry}
+use Rattle.esr_model.specs.Values.{Bytes}
+use Rattle.esr_core.specs.Entry.{Given, GivenFinalize, Reply, Gave, ElectedTerm, Entry}
 use Rattle.esr_core.specs.After.{or_else}
-use Rattle.esr_quiet.specs.Refusals.{IsByRule}
-use Rattle.esr_report.specs.Replies as report
-use Rattle.esr_report.specs.Replies.{Made, op_by, op_of_ticket, uuid_by, uuid_of_ticket, is_op, ends_by, ends_at, name_of_op, final_out, abort_by, abort_of, aborts_at, end_of_op}
+use Rattle.esr_core.proofs.Results.{choose_true, choose_false}
+use Rattle.esr_report.specs.Replies.{op_by, op_of_ticket, uuid_by, uuid_of_ticket, name_by, name_of_op, is_over, final_given, final_kept, final_step, final_from, final_out}
 
 pub none_some : {A : Type 0} (x : A) → ◌≡◌ {A = Option A} None (Some x) → ⊥
 none_some x e = cc
@@ -43,91 +42,72 @@ op_given es x k e = op_append es (x ∷ []) k ∙ ap (λ (a : Option ℕ). or_el
 pub uuid_given : (es : List Entry) (x : Entry) (k : ℕ) → uuid_of_ticket es k ≡ None → uuid_of_ticket (es ++ x ∷ []) k ≡ uuid_by x.reply k
 uuid_given es x k e = uuid_append es (x ∷ []) k ∙ ap (λ (a : Option ℕ). or_else a (or_else (uuid_by x.reply k) None)) e ∙ or_none (uuid_by x.reply k)
 
--- ---- the end of an op
+-- ---- the names of ops
 
--- no unit failed by this entry, and no refusal but that of a command by a rule
-abbrev pub IsCalm : Reply → Step → Type 0
-IsCalm (Refused refusal) (AskStep command) = IsByRule command refusal
-IsCalm (Refused refusal) step = ⊥
-IsCalm HasEnded (FailedStep why) = ⊥
-IsCalm reply step = Unit {0}
+name_append : (es rest : List Entry) (o : ℕ) → name_of_op (es ++ rest) o ≡ or_else (name_of_op es o) (name_of_op rest o)
+name_append [] rest o = refl
+name_append (e ∷ es) rest o = ap (λ (a : Option Bytes). or_else (name_by o e.step e.reply) a) (name_append es rest o) ∙ or_assoc (name_by o e.step e.reply) (name_of_op es o) (name_of_op rest o)
 
--- it is no step of a delete's ticket
-abbrev pub IsUnpruned : Step → Type 0
-IsUnpruned (PruneStep prune) = ⊥
-IsUnpruned step = Unit {0}
+pub name_stays : (es rest : List Entry) (o : ℕ) (name : Bytes) → name_of_op es o ≡ Some name → name_of_op (es ++ rest) o ≡ Some name
+name_stays es rest o name e = name_append es rest o ∙ ap (λ (a : Option Bytes). or_else a (name_of_op rest o)) e
 
--- the snapshot was made
-pub record IsMade (answer : Option report.Reply) : Type 0 where
-  pub uuid : ℕ
-  pub is : answer ≡ Some (Made uuid)
+pub name_given : (es : List Entry) (x : Entry) (o : ℕ) → name_of_op es o ≡ None → name_of_op (es ++ x ∷ []) o ≡ name_by o x.step x.reply
+name_given es x o e = name_append es (x ∷ []) o ∙ ap (λ (a : Option Bytes). or_else a (or_else (name_by o x.step x.reply) None)) e ∙ or_none (name_by o x.step x.reply)
 
-abbrev MadeOrNone : Option report.Reply → Type 0
-MadeOrNone None = Unit {0}
-MadeOrNone (Some (Made uuid)) = Unit {0}
-MadeOrNone (Some reply) = ⊥
+-- what a longer history doesn't tell a front of it doesn't tell either
+pub name_before : (es rest : List Entry) (o : ℕ) → name_of_op (es ++ rest) o ≡ None → name_of_op es o ≡ None
+name_before es rest o e = first (name_of_op es o) refl
+  where
+    first : (a : Option Bytes) → name_of_op es o ≡ a → a ≡ None
+    first None is = refl
+    first (Some name) is = absurd (none_some name (sym e ∙ name_stays es rest o name is))
 
-of_uuid : (uuid : Option ℕ) → MadeOrNone (option_map Made uuid)
-of_uuid None = tt
-of_uuid (Some u) = tt
+-- ---- the finalizations that are out
 
-ends_calm : (all : List Entry) (who : ℕ) (step : Step) (reply : Reply) → IsCalm reply step → IsUnpruned step → MadeOrNone (ends_by all who step reply)
-ends_calm all who SettleStep WasSettled calm own = of_uuid (uuid_of_ticket all who)
-ends_calm all who (FailedStep why) HasEnded calm own = absurd calm
-ends_calm all who (PruneStep prune) reply calm own = absurd own
-ends_calm all who step reply calm own = tt
+final_append : (op : ℕ) (k : Option ℕ) (es : List Entry) (x : Entry) → final_from op k (es ++ x ∷ []) ≡ final_step op (final_from op k es) x x.reply
+final_append op k [] x = refl
+final_append op k (e ∷ es) x = final_append op (final_step op k e e.reply) es x
 
-if_made : (b : Bool) (answer : Option report.Reply) → MadeOrNone answer → MadeOrNone (if b then answer else None)
-if_made true answer h = h
-if_made false answer h = tt
+pub final_on : (op : ℕ) (es : List Entry) (x : Entry) → final_out (es ++ x ∷ []) op ≡ final_step op (final_out es op) x x.reply
+final_on op es x = final_append op None es x
 
-ends_at_calm : (all : List Entry) (o : ℕ) (e : Entry) → IsCalm e.reply e.step → IsUnpruned e.step → MadeOrNone (ends_at all o e)
-ends_at_calm all o e calm own = if_made (is_op o (op_of_ticket all e.who)) (ends_by all e.who e.step e.reply) (ends_calm all e.who e.step e.reply calm own)
+-- it gives no ticket
+abbrev pub IsGiftless : Reply → Type 0
+IsGiftless (Gave ticket op unit) = ⊥
+IsGiftless reply = Unit {0}
 
-either_made : (a b : Option report.Reply) → MadeOrNone a → IsMade a ⊎ IsMade b → IsMade (or_else a b)
-either_made None b calm (inl made) = absurd (none_some (Made made.uuid) made.is)
-either_made None b calm (inr made) = made
-either_made (Some (Made u)) b calm made = record { uuid = u; is = refl }
-either_made (Some reply) b calm made = absurd calm
+kept_was : (k : Option ℕ) (who : ℕ) (over : Bool) (j : ℕ) → final_kept k who over ≡ Some j → (k ≡ Some j) × ((over && (j == who)) ≡ false)
+kept_was None who over j e = absurd (none_some j e)
+kept_was (Some k) who over j e = chosen (over && (k == who)) refl e
+  where
+    one : (a b : ℕ) → Some a ≡ Some b → a ≡ b
+    one a b h = cc
 
--- what asks for no delete aborts nothing
-unasked_name : (name : Bytes) (step : Step) (reply : Reply) → AsksNoDelete step → abort_by name step reply ≡ None
-unasked_name name (AskStep (DeleteSnapshots names)) reply unasked = absurd (unasked names refl)
-unasked_name name step reply unasked = refl
+    chosen : (b : Bool) → (over && (k == who)) ≡ b → (if b then None else Some k) ≡ Some j → (Some k ≡ Some j) × ((over && (j == who)) ≡ false)
+    chosen true is h = absurd (none_some j h)
+    chosen false is h = (h, ap (λ (i : ℕ). over && (i == who)) (sym (one k j h)) ∙ is)
 
-unasked_of : (name : Option Bytes) (k : Option ℕ) (step : Step) (reply : Reply) → AsksNoDelete step → abort_of name k step reply ≡ None
-unasked_of None k step reply unasked = refl
-unasked_of (Some name) None step reply unasked = unasked_name name step reply unasked
-unasked_of (Some name) (Some k) step reply unasked = refl
+-- one that is out after an entry which gives none was out, and the entry doesn't end it
+pub final_was : (op : ℕ) (k : Option ℕ) (e : Entry) (reply : Reply) (j : ℕ) → IsGiftless reply → final_step op k e reply ≡ Some j → (k ≡ Some j) × ((is_over e.step reply && (j == e.who)) ≡ false)
+final_was op k e (Gave ticket o unit) j none is = absurd none
+final_was op k e (ElectedTerm term) j none is = absurd (none_some j is)
+final_was op k e reply j none is = kept_was k e.who (is_over e.step reply) j is
 
-unasked_aborts : (before : List Entry) (o : ℕ) (e : Entry) → AsksNoDelete e.step → aborts_at before o e ≡ None
-unasked_aborts before o e unasked = unasked_of (name_of_op before o) (final_out before o) e.step e.reply unasked
+-- the unit is a finalization
+abbrev pub IsFinalGiven : Given → Type 0
+IsFinalGiven (GivenFinalize info results) = Unit {0}
+IsFinalGiven unit = ⊥
 
-after_none : (a b : Option report.Reply) → a ≡ None → IsMade b → IsMade (or_else a b)
-after_none a b none made = subst (λ (x : Option report.Reply). IsMade (or_else x b)) (sym none) made
-
-pub end_made : (all : List Entry) (o : ℕ) (before es : List Entry) → ((e : Entry) → Has es e → IsCalm e.reply e.step) → ((e : Entry) → Has es e → IsUnpruned e.step) → ((e : Entry) → Has es e → AsksNoDelete e.step)
-    → (e : Entry) → Has es e → IsMade (ends_at all o e) → IsMade (end_of_op all o before es)
-end_made all o before [] calm own unasked e has made = absurd has
-end_made all o before (x ∷ es) calm own unasked e (inl same) made =
-    either_made (ends_at all o x) (or_else (aborts_at before o x) (end_of_op all o (before ++ x ∷ []) es)) (ends_at_calm all o x (calm x (inl refl)) (own x (inl refl))) (inl (subst (λ (y : Entry). IsMade (ends_at all o y)) (sym same) made))
-end_made all o before (x ∷ es) calm own unasked e (inr has) made =
-    let later = end_made all o (before ++ x ∷ []) es (λ y h. calm y (inr h)) (λ y h. own y (inr h)) (λ y h. unasked y (inr h)) e has made in
-    either_made (ends_at all o x) (or_else (aborts_at before o x) (end_of_op all o (before ++ x ∷ []) es)) (ends_at_calm all o x (calm x (inl refl)) (own x (inl refl)))
-    (inr (after_none (aborts_at before o x) (end_of_op all o (before ++ x ∷ []) es) (unasked_aborts before o x (unasked x (inl refl))) later))
+-- after an entry that gives a ticket it is that one, or was out
+pub final_gave : (op : ℕ) (k : Option ℕ) (o : ℕ) (unit : Given) (ticket j : ℕ) → final_given op k o unit ticket ≡ Some j → (k ≡ Some j) ⊎ ((o ≡ op) × (ticket ≡ j) × IsFinalGiven unit)
+final_gave op k o (GivenFinalize info results) ticket j is = elim (eqb_tells o op) [
+  | inl h ↦ inr (h.1, one ticket j (sym (choose_true _ _ _ h.0) ∙ is), tt)
+  | inr h ↦ inl (sym (choose_false _ _ _ h.0) ∙ is)
+]
+  where
+    one : (a b : ℕ) → Some a ≡ Some b → a ≡ b
+    one a b h = cc
+final_gave op k o unit ticket j is = inl is
 
 pub same_op : (o : ℕ) → (o == o) ≡ true
 same_op o = elim (eqb_tells o o) [ inl h ↦ h.0 | inr h ↦ absurd (h.1 refl) ]
-
--- a settle of the op makes its snapshot
-pub settle_made : (all : List Entry) (o uuid : ℕ) (e : Entry) → op_of_ticket all e.who ≡ Some o → uuid_of_ticket all e.who ≡ Some uuid → e.step ≡ SettleStep → e.reply ≡ WasSettled → IsMade (ends_at all o e)
-settle_made all o uuid e op_is uuid_is step reply =
-    record {
-      uuid = uuid;
-      is =
-          ap (λ (a : Option ℕ). if is_op o a then ends_by all e.who e.step e.reply else None) op_is
-          ∙ ap (λ (b : Bool). if b then ends_by all e.who e.step e.reply else None) (same_op o)
-          ∙ ap (λ (x : Step). ends_by all e.who x e.reply) step
-          ∙ ap (λ (x : Reply). ends_by all e.who SettleStep x) reply
-          ∙ ap (option_map Made) uuid_is;
-    }

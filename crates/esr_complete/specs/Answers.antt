@@ -1,16 +1,17 @@
 -- How lines are answered where nothing fails.
 use Rattle.std.specs.Prelude.{◌≡◌, ◌⊎◌, ℕ, false, List, [], ◌∷◌}
+use Rattle.esr_model.specs.Values.{Bytes, Has}
 use Rattle.esr_core.specs.Entry.{TakeStep, NothingReady, Entry, Moment}
 use Rattle.esr_script.specs.declared.item.Item.{Item}
 use Rattle.esr_script.specs.declared.item.Item.TheVariants as items
 use Rattle.esr_script.specs.declared.item.ScriptLine.{ScriptLine}
-use Rattle.esr_report.specs.Replies.{Reply, Made, Restored, Waited, Listed, Checked, Verified, Refused}
+use Rattle.esr_report.specs.Replies.{Reply, Made, Deleted, Restored, Waited, Listed, Checked, Verified, Refused, Aborted}
 use Rattle.esr_report.specs.Status.{ending, AllOk, SomeRefused}
 use Rattle.esr_desk.specs.Start.{Start}
 use Rattle.esr_desk.specs.Grew.{NoneOut}
 use Rattle.esr_desk.specs.Last.{IsLast}
 use Rattle.esr_desk.specs.Readers.{reader_of}
-use Rattle.esr_quiet.specs.Refusals.{RefusesSnapshot, RefusesRestore}
+use Rattle.esr_quiet.specs.Refusals.{RefusesSnapshot, RefusesRestore, RefusesDelete}
 
 -- no ticket of a restore is out
 abbrev pub NoReaderOut : Start → List Moment → Type 0
@@ -22,23 +23,34 @@ pub record IsIdle (s : Start) (log : List Moment) : Type 0 where
   pub no_reader : NoReaderOut s log
   pub none_ready : IsLast log 0 TakeStep NothingReady
 
--- the answer of a line: a snapshot was made, or a restore has restored each shard, or a rule refused it; the safe root was checked; the container was verified
-abbrev pub IsAnswer : Item → Reply → Type 0
-IsAnswer (items.Snapshot name indices) (Made uuid) = Unit {0}
-IsAnswer (items.Snapshot name indices) (Refused refusal) = RefusesSnapshot refusal
-IsAnswer (items.Restore name place) (Restored files bytes) = Unit {0}
-IsAnswer (items.Restore name place) (Refused refusal) = RefusesRestore refusal
-IsAnswer items.Wait Waited = Unit {0}
-IsAnswer items.List (Listed snapshots) = Unit {0}
-IsAnswer items.Check (Checked snapshots blobs) = Unit {0}
-IsAnswer items.Verify Verified = Unit {0}
-IsAnswer item reply = ⊥
+-- some line of the script asks for a delete that names this
+abbrev pub IsDeletedBy : List ScriptLine → Bytes → Type 0
+IsDeletedBy script name = (line : ScriptLine) × (names : List Bytes) × Has script line × (line.item ≡ items.Delete names) × Has names name
 
--- each line is answered so
+-- The answer of a line of the script: a snapshot was made, or aborted by a delete for which the script asks, or snapshots were deleted, or
+-- a restore has restored each shard, or a rule refused it; the safe root was checked; the container was verified.
+abbrev pub IsAnswer : List ScriptLine → Item → Reply → Type 0
+IsAnswer script (items.Snapshot name indices) (Made uuid) = Unit {0}
+IsAnswer script (items.Snapshot name indices) (Aborted by) = IsDeletedBy script name
+IsAnswer script (items.Snapshot name indices) (Refused refusal) = RefusesSnapshot refusal
+IsAnswer script (items.Delete names) (Deleted op) = Unit {0}
+IsAnswer script (items.Delete names) (Refused refusal) = RefusesDelete refusal
+IsAnswer script (items.Restore name place) (Restored files bytes) = Unit {0}
+IsAnswer script (items.Restore name place) (Refused refusal) = RefusesRestore refusal
+IsAnswer script items.Wait Waited = Unit {0}
+IsAnswer script items.List (Listed snapshots) = Unit {0}
+IsAnswer script items.Check (Checked snapshots blobs) = Unit {0}
+IsAnswer script items.Verify Verified = Unit {0}
+IsAnswer script item reply = ⊥
+
+-- each of these lines of the script is answered so
+abbrev pub AreAnsweredIn : List ScriptLine → List ScriptLine → List Reply → Type 0
+AreAnsweredIn script [] [] = Unit {0}
+AreAnsweredIn script (line ∷ lines) (reply ∷ replies) = IsAnswer script line.item reply × AreAnsweredIn script lines replies
+AreAnsweredIn script lines replies = ⊥
+
 abbrev pub AreAnswered : List ScriptLine → List Reply → Type 0
-AreAnswered [] [] = Unit {0}
-AreAnswered (line ∷ lines) (reply ∷ replies) = IsAnswer line.item reply × AreAnswered lines replies
-AreAnswered lines replies = ⊥
+AreAnswered lines replies = AreAnsweredIn lines lines replies
 
 -- the run ends with 0, or with 1 since a command was refused
 abbrev pub EndsWell : List ScriptLine → List Entry → Type 0

@@ -250,6 +250,7 @@ accepted f w shelf l name indices moment o a =
       one_new = one_new w known_below indices (suc w.next_id) (omega arith);
       distinct = pending_one w indices (suc w.next_id) a.distinct;
       source = λ u e. absurd (none_some u e);
+      copies = λ u e. absurd (none_some u e);
       uuid_is = refl;
       drawn = suc (new_names w indices);
       fits = a.fits;

@@ -1,12 +1,11 @@
 -- What a restore gives is on the shelf as it was when it was asked.
-use Rattle.std.proofs.Common.{◌≡◌, ◌⊎◌, ℕ, suc, ◌<◌, List, [], ◌∷◌, ◌++◌, true, false, true≢false, Option, Some, None, map, refl, sym, ap, ◌∙◌, subst, inl, inr, arith, nat_cmp}
+use Rattle.std.proofs.Common.{◌≡◌, ℕ, suc, List, [], ◌∷◌, ◌++◌, false, true≢false, Option, Some, None, map, refl, sym, ap, ◌∙◌, subst, inl, inr, arith, nat_cmp}
 use Rattle.std.specs.FinMap.{FinMap}
 use Rattle.std.specs.FinMap as fin
-use Rattle.esr_model.specs.Names.{Snap}
 use Rattle.esr_model.specs.Values.{Bytes, Has, IndexRef, RootSnap, SnapInfo, FileEntry, Formats}
 use Rattle.esr_model.specs.Shelf.{Shelved, ShelfShard, shelf_after}
 use Rattle.esr_model.specs.Places.{shelf_places}
-use Rattle.esr_model.specs.Image.{Image, AllPairs, At, Reads, FileStands, ShardStands, SnapStands}
+use Rattle.esr_model.specs.Image.{Image, AllPairs, FileStands, ShardStands}
 use Rattle.esr_core.specs.World.{World, Restoring, Reader, HeldIn}
 use Rattle.esr_core.specs.Restores.{IsReading, restore_of, restore_opened}
 use Rattle.esr_core.specs.Queue.{Lists}
@@ -15,14 +14,14 @@ use Rattle.esr_core.specs.Entry.{Restore, Step, AskStep, Reply, Refused, Deposed
 use Rattle.esr_core.specs.After.{answered, after}
 use Rattle.esr_core.specs.Allowed as allowed
 use Rattle.esr_core.specs.Allowed.{Told, RestoredBy, RestoreAllows, OpeningRestore, AcceptsRestore, IsInInfo, Allows, Allowed}
-use Rattle.esr_core.specs.History.{world_from, IsLegal, AllKnown, AreTold, AreHonest, commands_at, committed}
+use Rattle.esr_core.specs.History.{world_from, IsLegal, TellsHandedOut, AreTold, AreHonest, commands_at, committed}
 use Rattle.esr_core.specs.ReadLaw.{ReadLaw, ReadsShelved, IsOnShelf}
 use Rattle.esr_core.specs.Restored.{IsServed, IsShelvedAs}
 use Rattle.esr_core.proofs.Reading.{some_same, none_some}
 use Rattle.esr_core.proofs.Restoring.{put_was}
 use Rattle.esr_core.proofs.Frames.{AllPairs-map}
 use Rattle.esr_core.proofs.ListedInfo.{IsListedAs, listed_as, listed_snap, listed_info, made_info}
-use Rattle.esr_core.proofs.Shelving.{shelved_as, shelved_one, reads_on}
+use Rattle.esr_core.proofs.Shelving.{shelved_one, reads_on}
 use Rattle.esr_core.proofs.OnShelf.{on_shelf}
 use Rattle.esr_core.proofs.ReadLaws.{Serves, serves_now, serves_snap}
 use Rattle.esr_core.proofs.Histories.{Stepped, step_law, lasts, legal_law}
@@ -147,9 +146,17 @@ pub honest_front : (f : Formats) (w : World) (log rest : List Moment) → AreHon
 honest_front f w [] rest h = honest_now f w rest h
 honest_front f w (m ∷ log) rest h = (h.0, honest_front f (after f w m) log rest h.1)
 
+pub known_now : (f : Formats) (w : World) (log : List Moment) → TellsHandedOut f w log → TellsHandedOut f w []
+known_now f w [] h = h
+known_now f w (m ∷ log) h = h.0
+
+pub known_front : (f : Formats) (w : World) (log rest : List Moment) → TellsHandedOut f w (log ++ rest) → TellsHandedOut f w log
+known_front f w [] rest h = known_now f w rest h
+known_front f w (m ∷ log) rest h = (h.0, known_front f (after f w m) log rest h.1)
+
 -- ---- what was asked and is read later
 
-module _ (f : Formats) (size : ℕ) (known : AllKnown f) (m : Moment) (name place : Bytes) (o uuid : ℕ) (indices : List IndexRef) (step : m.entry.step ≡ AskStep (Restore name place)) (reply : m.entry.reply ≡ AcceptedRestore o uuid indices) (k : ℕ) (q : Reader) (of : q.op ≡ o) (files bytes : ℕ) (by : RestoredBy f q files bytes) where
+module _ (f : Formats) (size : ℕ) (m : Moment) (name place : Bytes) (o uuid : ℕ) (indices : List IndexRef) (step : m.entry.step ≡ AskStep (Restore name place)) (reply : m.entry.reply ≡ AcceptedRestore o uuid indices) (k : ℕ) (q : Reader) (of : q.op ≡ o) (files bytes : ℕ) (by : RestoredBy f q files bytes) where
   -- the ask counts for nothing
   no_commands : (w : World) (safe : ℕ) → commands_at f safe w m.entry.who m.entry.step m.entry.reply ≡ []
   no_commands w safe = ap (commands_at f safe w m.entry.who m.entry.step) reply
@@ -160,11 +167,11 @@ module _ (f : Formats) (size : ℕ) (known : AllKnown f) (m : Moment) (name plac
   next_at : (w : World) → (after f w m).next_op ≡ suc w.next_op
   next_at w = ap (λ (s : Step). (answered f w m.entry.who s m.entry.reply m.image).next_op) step ∙ ap (λ (r : Reply). (answered f w m.entry.who (AskStep (Restore name place)) r m.image).next_op) reply
 
-  from_ask : (w : World) (shelf : List Shelved) (rest : List Moment) → Law f w shelf → ReadLaw f w → IsLegal f size w (m ∷ rest) → AreTold (m ∷ rest) → AreHonest f w (m ∷ rest) → IsReading (world_from f (after f w m) rest) k q → IsOnShelf f shelf q files bytes by
-  from_ask w shelf rest l r legal told honest reading =
+  from_ask : (w : World) (shelf : List Shelved) (rest : List Moment) → TellsHandedOut f w (m ∷ rest) → Law f w shelf → ReadLaw f w → IsLegal f size w (m ∷ rest) → AreTold (m ∷ rest) → AreHonest f w (m ∷ rest) → IsReading (world_from f (after f w m) rest) k q → IsOnShelf f shelf q files bytes by
+  from_ask w shelf rest known l r legal told honest reading =
       let a : AcceptedAs f w m name place o uuid indices = accepted_as f size w m name place o uuid indices legal.0 step reply in
       let asked : IsShelvedAs shelf name uuid indices = asked_shelf f w shelf l m name place o uuid indices told.0.0 told.0.1 a in
-      let s : Stepped f w shelf m (after f w m) = step_law f size w shelf known l honest.0 m told.0.0 told.0.1 legal.0 in
+      let s : Stepped f w shelf m (after f w m) = step_law f size w shelf known.0 l honest.0 m told.0.0 told.0.1 legal.0 in
       let none : s.commands ≡ [] = sym (s.counted (after f w m).safe (omega arith) (λ e. refl)) ∙ no_commands w (after f w m).safe in
       let law : Law f (after f w m) shelf = subst (λ cs. Law f (after f w m) (shelf_after shelf cs)) none s.law in
       let read : ReadLaw f (after f w m) = read_step_law f size w shelf l r m (after f w m) s in
@@ -176,9 +183,9 @@ module _ (f : Formats) (size : ℕ) (known : AllKnown f) (m : Moment) (name plac
       ] in
       let last : World = world_from f (after f w m) rest in
       let later : List Shelved = shelf_after shelf (committed f last.safe (after f w m) rest) in
-      let on : ReadsShelved last later o asked.shelved = reads_on f size shelf (after f w m) rest o asked.shelved known law read (omega (arith, number, next)) reads legal.1 told.1 honest.1 in
-      let last_law : Law f last later = legal_law f size rest (after f w m) shelf known law legal.1 told.1 honest.1 in
-      let last_read : ReadLaw f last = read_legal f size rest (after f w m) shelf known law read legal.1 told.1 honest.1 in
+      let on : ReadsShelved last later o asked.shelved = reads_on f size shelf (after f w m) rest o asked.shelved known.1 law read (omega (arith, number, next)) reads legal.1 told.1 honest.1 in
+      let last_law : Law f last later = legal_law f size rest (after f w m) shelf known.1 law legal.1 told.1 honest.1 in
+      let last_read : ReadLaw f last = read_legal f size rest (after f w m) shelf known.1 law read legal.1 told.1 honest.1 in
       let h : IsOnShelf f later q files bytes by = on_shelf f last later last_law last_read k q reading files bytes by in
       let t = last_read.tracked.readers k q reading.there reading.out in
       let here = on t.r (ap (fin.get last.restores) (sym of) ∙ t.there) in
@@ -199,14 +206,14 @@ module _ (f : Formats) (size : ℕ) (known : AllKnown f) (m : Moment) (name plac
         bytes_is = h.bytes_is;
       }
 
-  pub from_start : (before rest : List Moment) (w : World) (shelf : List Shelved) → Law f w shelf → ReadLaw f w → IsLegal f size w (before ++ m ∷ rest) → AreTold (before ++ m ∷ rest) → AreHonest f w (before ++ m ∷ rest) → IsReading (world_from f w (before ++ m ∷ rest)) k q
+  pub from_start : (before rest : List Moment) (w : World) (shelf : List Shelved) → TellsHandedOut f w (before ++ m ∷ rest) → Law f w shelf → ReadLaw f w → IsLegal f size w (before ++ m ∷ rest) → AreTold (before ++ m ∷ rest) → AreHonest f w (before ++ m ∷ rest) → IsReading (world_from f w (before ++ m ∷ rest)) k q
       → IsOnShelf f (shelf_after shelf (committed f (world_from f w before).safe w before)) q files bytes by
-  from_start [] rest w shelf l r legal told honest reading = from_ask w shelf rest l r legal told honest reading
-  from_start (b ∷ before) rest w shelf l r legal told honest reading =
-      let s : Stepped f w shelf b (after f w b) = step_law f size w shelf known l honest.0 b told.0.0 told.0.1 legal.0 in
-      let lasting = lasts f size before (after f w b) (shelf_after shelf s.commands) known s.law (legal_front f size (after f w b) before (m ∷ rest) legal.1) (told_front before (m ∷ rest) told.1) (honest_front f (after f w b) before (m ∷ rest) honest.1) in
+  from_start [] rest w shelf known l r legal told honest reading = from_ask w shelf rest known l r legal told honest reading
+  from_start (b ∷ before) rest w shelf known l r legal told honest reading =
+      let s : Stepped f w shelf b (after f w b) = step_law f size w shelf known.0 l honest.0 b told.0.0 told.0.1 legal.0 in
+      let lasting = lasts f size before (after f w b) (shelf_after shelf s.commands) (known_front f (after f w b) before (m ∷ rest) known.1) s.law (legal_front f size (after f w b) before (m ∷ rest) legal.1) (told_front before (m ∷ rest) told.1) (honest_front f (after f w b) before (m ∷ rest) honest.1) in
       let ask : World = world_from f (after f w b) before in
       let mine : commands_at f ask.safe w b.entry.who b.entry.step b.entry.reply ≡ s.commands = s.counted ask.safe lasting.rises lasting.alone in
       let h : IsOnShelf f (shelf_after (shelf_after shelf s.commands) (committed f ask.safe (after f w b) before)) q files bytes by =
-      from_start before rest (after f w b) (shelf_after shelf s.commands) s.law (read_step_law f size w shelf l r b (after f w b) s) legal.1 told.1 honest.1 reading in
+      from_start before rest (after f w b) (shelf_after shelf s.commands) known.1 s.law (read_step_law f size w shelf l r b (after f w b) s) legal.1 told.1 honest.1 reading in
       subst (λ (x : List Shelved). IsOnShelf f x q files bytes by) (sym (shelf_after-append shelf s.commands (committed f ask.safe (after f w b) before)) ∙ ap (λ cs. shelf_after shelf (cs ++ committed f ask.safe (after f w b) before)) (sym mine)) h

@@ -1,19 +1,20 @@
 -- A command that is accepted keeps the law.
 use Rattle.std.proofs.Common.{◌≡◌, ◌⊎◌, ℕ, ◌<◌, List, [], true, false, true≢false, Option, Some, None, refl, sym, ap, ◌∙◌, subst, inl, inr, arith}
 use Rattle.std.specs.FinMap as fin
-use Rattle.esr_model.specs.Names.{BlobName, ShardIndex}
+use Rattle.esr_model.specs.Names.{BlobName, Snap, ShardIndex}
 use Rattle.esr_model.specs.Values.{Bytes, IndexRef, RootData, SnapList, ShardFiles, Formats}
 use Rattle.esr_model.specs.Shelf.{Shelved}
-use Rattle.esr_model.specs.Image.{Has}
-use Rattle.esr_core.specs.World.{World, Op, ShardWork, Out, Deleting, Ticket, Swap, swap_of, AllDone, HeldIn, info_of, shelved_of}
+use Rattle.esr_model.specs.Image.{Has, At, Reads, RootStands}
+use Rattle.esr_core.specs.World.{World, Op, ShardWork, Out, Deleting, Ticket, Swap, swap_of, AllDone, HeldIn, info_of, made_from, made_of}
 use Rattle.esr_core.specs.Ready.{Stopped}
 use Rattle.esr_core.specs.Steps.{completing}
 use Rattle.esr_core.specs.Turns.{AskCreate, AskCleanup, IsApart, AskDelete, MergeDelete, Aborts}
-use Rattle.esr_core.specs.Generations.{DoneAt, IsLive, HasShard, ListsOwn, IsOwn, Carries, Base, OpLaw, Together, PlanLaw, Carried}
+use Rattle.esr_core.specs.Generations.{DoneAt, IsLive, HasShard, ListsOwn, IsOwn, Carries, Base, OpLaw, Together, PlanLaw, AreIndicesBy, Carried}
 use Rattle.esr_core.specs.Ids.{IdsIn}
-use Rattle.esr_core.specs.Queue.{Queue, Lawful}
+use Rattle.esr_core.specs.Queue.{Queue, Lawful, Lists}
 use Rattle.esr_core.proofs.DeletesHold.{none_both}
-use Rattle.esr_core.proofs.Reading.{some_same, held_one, reads_one}
+use Rattle.esr_core.proofs.Reading.{some_same, held_one, reads_one, safe_root_stands}
+use Rattle.esr_core.proofs.Grows.{info_there}
 use Rattle.esr_core.proofs.Owning.{OnWith, own_on, plan_on}
 use Rattle.esr_core.proofs.Ordered.{shard_ref}
 use Rattle.esr_core.proofs.Queues.{Ops, was_in, other_in, Evolves, queue_ops, queued_back, queue_add, queue_add_delete, queue_delete}
@@ -73,11 +74,20 @@ module _ (f : Formats) (w : World) (shelf : List Shelved) (l : Lawful f w shelf)
   stays : (o : ℕ) (x : Op) → fin.get w.ops o ≡ Some x → fin.get ops o ≡ Some x
   stays o x e = other_in w.ops w.next_op op o (λ same. let b : o < w.next_op = l.queue.numbers o x e in omega arith) ∙ e
 
+  -- nobody may remove the info of a listed snapshot
+  held_indices : (u : ℕ) → Lists w.root u → AreIndicesBy f (At f w.blobs) u op.indices → AreIndicesBy f (HeldIn f w) u op.indices
+  held_indices u has b =
+      let stands : RootStands f (HeldIn f w) w.root shelf = safe_root_stands f (HeldIn f w) (held_one f w) w.safe w.root shelf l.sound.rooted.kept.picked c.root_is in
+      let (shelved, s) = info_there f (HeldIn f w) w.root w.root.snapshots shelf stands.snapshots has.0 has.1 in
+      let reads : Reads (HeldIn f w) (Snap u) f.info s.info = subst (λ n. Reads (HeldIn f w) (Snap n) f.info s.info) has.2 s.info_reads in
+      record { info = b.info; info_reads = record { bytes = b.info_reads.bytes; there = (b.info_reads.there, reads.there.1); reads = b.info_reads.reads }; apart = b.apart; named_once = b.named_once; among = b.among; once = b.once }
+
   mine : OpLaw f (HeldIn f w) w.root op
   mine =
       record {
         places = d.places;
         texts = d.texts;
+        copies = λ u is. let listed = (d.source u is).0 in record { listed = listed; by_info = held_indices u listed (d.copies u is) };
         done = λ s r m e. absurd (pending_done (sym (d.pending s m) ∙ e));
         unlisted = apart_from.unlisted;
         unused = apart_from.unused;
@@ -106,6 +116,7 @@ module _ (f : Formats) (w : World) (shelf : List Shelved) (l : Lawful f w shelf)
           op = h.op;
           op_there = stays u.op h.op h.op_there;
           uuid_is = h.uuid_is;
+          source_is = h.source_is;
           s = h.s;
           s_there = h.s_there;
           state = h.state;
@@ -183,7 +194,12 @@ module _ (f : Formats) (w : World) (shelf : List Shelved) (l : Lawful f w shelf)
   own_before i n g h = own_on w.ops now on_with f (HeldIn f w) i n g h.own
 
   op_law_to : (x : Op) → OpLaw f (HeldIn f w) w.root x → OpLaw f (HeldIn f w) w.root (record x { aborted = Some by })
-  op_law_to x h = record { places = h.places; done = h.done; texts = h.texts; unlisted = h.unlisted; unused = h.unused; one_id = h.one_id; distinct = h.distinct; same_name = h.same_name }
+  op_law_to x h = record { places = h.places; done = h.done; copies = h.copies; texts = h.texts; unlisted = h.unlisted; unused = h.unused; one_id = h.one_id; distinct = h.distinct; same_name = h.same_name }
+
+  -- an abort leaves what it is to make
+  made_same : (x : Op) (source : Option ℕ) → made_from f x source ≡ made_from f (record x { aborted = Some by }) source
+  made_same x None = refl
+  made_same x (Some u) = refl
 
   pub carried_aborts : Carried f (HeldIn f w) w.safe w.term w.root now w.tickets
   carried_aborts =
@@ -203,6 +219,7 @@ module _ (f : Formats) (w : World) (shelf : List Shelved) (l : Lawful f w shelf)
               op = op;
               op_there = there;
               uuid_is = as_was (λ (y : Op). y.uuid ≡ u.uuid) (λ y z. z) h.op op how h.uuid_is;
+              source_is = as_was (λ (y : Op). u.source ≡ y.source) (λ y z. z) h.op op how h.source_is;
               s = h.s;
               s_there = as_was (λ (y : Op). Has y.shards h.s) (λ y z. z) h.op op how h.s_there;
               state = h.state;
@@ -221,7 +238,7 @@ module _ (f : Formats) (w : World) (shelf : List Shelved) (l : Lawful f w shelf)
               op_there = there;
               done = as_was (λ (y : Op). AllDone y.shards results) (λ y z. z) h.op op how h.done;
               info_is = as_was (λ (y : Op). info ≡ info_of y results) (λ y z. z) h.op op how h.info_is;
-              made_is = as_was (λ (y : Op). made ≡ shelved_of f y) (λ y z. z) h.op op how h.made_is;
+              made_is = as_was (λ (y : Op). made ≡ made_of f y) (λ y z. z ∙ made_same y y.source) h.op op how h.made_is;
               root_is = h.root_is;
             };
         held = λ p q z j e m state. let (old, there, how) = a.was p q e in before.held p old z j there (as_is (λ (y : Op). Has y.shards z) (λ y h. h) old q how m) state;

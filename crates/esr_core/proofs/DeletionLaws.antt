@@ -1,9 +1,9 @@
 -- Each turn keeps what the tickets of deletes have read, their plans, and what they doomed.
-use Rattle.std.proofs.Common.{◌≡◌, ◌≢◌, ℕ, suc, ◌≤◌, List, [], ◌∷◌, ◌++◌, Bool, true, false, true≢false, Option, Some, None, refl, sym, ap, ◌∙◌, subst, inl, inr, arith}
+use Rattle.std.proofs.Common.{◌≡◌, ℕ, suc, ◌≤◌, List, [], ◌∷◌, ◌++◌, Bool, true, false, true≢false, Option, Some, None, refl, sym, ap, ◌∙◌, subst, inl, inr, arith}
 use Rattle.std.specs.FinMap as fin
 use Rattle.esr_model.specs.Names.{BlobName}
 use Rattle.esr_model.specs.Values.{Bytes, Has, SnapInfo, ShardResult, Formats}
-use Rattle.esr_model.specs.Shelf.{Shelved, Delete}
+use Rattle.esr_model.specs.Shelf.{Shelved, Command, Delete}
 use Rattle.esr_model.specs.Image.{Blobs, IsStored}
 use Rattle.esr_model.specs.Delete.{doomed_names}
 use Rattle.esr_core.specs.World.{World, Shard, Finalize, Deleting, Drop, Ticket, Swap, HeldIn, Safely}
@@ -71,7 +71,7 @@ module _ (f : Formats) (blobs : Blobs) (doomed : List BlobName) (safe term : ℕ
 shard_other : (i n : ℕ) (uuids : List ℕ) (plan : Option Swap) → Shard i n ≡ Deleting uuids plan → ⊥
 shard_other i n uuids plan e = cc
 
-final_other : (info : SnapInfo) (results : List ShardResult) (made : Shelved) (uuids : List ℕ) (plan : Option Swap) → Finalize info results made ≡ Deleting uuids plan → ⊥
+final_other : (info : SnapInfo) (results : List ShardResult) (made : Command) (uuids : List ℕ) (plan : Option Swap) → Finalize info results made ≡ Deleting uuids plan → ⊥
 final_other info results made uuids plan e = cc
 
 drop_other : (uuids : List ℕ) (plan : Option Swap) → Drop ≡ Deleting uuids plan → ⊥

@@ -7,10 +7,10 @@ use Rattle.esr_model.specs.Places.{shelf_places}
 use Rattle.esr_model.specs.Names.{BlobName, Snap, ShardSnap, ShardIndex}
 use Rattle.esr_model.specs.Values.{Bytes, IndexRef, RootSnap, RootData, SnapInfo, FileEntry, ShardSnapshot, ShardFiles, ShardResult, Formats}
 use Rattle.esr_model.specs.Shelf.{Shelved, ShelfShard}
-use Rattle.esr_model.specs.Image.{Has, AllPairs, Reads, Generation, Lists, ListsAs, FileStands, IndexStands, ShardStands, RootStands}
-use Rattle.esr_core.specs.World.{World, Op, ShardWork, Shard, Ticket, Done, Out, marked, HeldIn}
+use Rattle.esr_model.specs.Image.{Has, AllPairs, Reads, Generation, Lists, ListsAs, IndexStands, ShardStands, RootStands}
+use Rattle.esr_core.specs.World.{World, Op, ShardWork, ShardState, Shard, Ticket, Done, Out, marked, HeldIn}
 use Rattle.esr_core.specs.Steps.{DoneShard, Extends, ExtendsBase}
-use Rattle.esr_core.specs.Generations.{DoneAt, IsLive, IsOfShard, HasShard, IsOwn, Carries, DoneStands, OpLaw, Together, Base, BaseBelow, ShardLaw, Carried}
+use Rattle.esr_core.specs.Generations.{DoneAt, IsLive, IsOfShard, HasShard, IsOwn, Carries, AreFilesOf, DoneStands, OpLaw, Together, Base, BaseBelow, ShardLaw, Carried}
 use Rattle.esr_core.proofs.Maps.{split, get_was, get_same, get_other}
 use Rattle.esr_core.proofs.Reading.{some_same, held_one as func_of, reads_one, Has-map, Has-mapped}
 use Rattle.esr_core.proofs.Results.{done_same, done_out, done_of}
@@ -18,13 +18,11 @@ use Rattle.esr_core.proofs.Marked.{marked_is, marked_ref, marked_number}
 use Rattle.esr_core.proofs.Grows.{info_there}
 use Rattle.esr_core.proofs.Owning.{OnWith, own_on, plan_on}
 
--- the file of a pair
-file_of : (f : Formats) (has : BlobName → Bytes → Type 0) (index shard : ℕ) (es : List FileEntry) (files : List (Bytes × Bytes))
-    → AllPairs (λ e file. (e.physical ≡ file.0) × FileStands f has index shard e file.1) es files → (e : FileEntry) → Has es e → (bytes : Bytes) × FileStands f has index shard e bytes
-file_of f has index shard [] files h e m = absurd m
-file_of f has index shard (x ∷ xs) [] h e m = absurd h
-file_of f has index shard (x ∷ xs) (y ∷ ys) h e (inl same) = (y.1, subst (λ z. FileStands f has index shard z y.1) same h.0.1)
-file_of f has index shard (x ∷ xs) (y ∷ ys) h e (inr m) = file_of f has index shard xs ys h.1 e m
+-- the files of a shard, whatever its state
+files_in : (f : Formats) (has : BlobName → Bytes → Type 0) (source : Option ℕ) (index shard : ℕ) (s : ShardWork) (state : ShardState) (files : List FileEntry)
+    → AreFilesOf f has source index shard s files → AreFilesOf f has source index shard (record s { state = state }) files
+files_in f has None index shard s state files h = h
+files_in f has (Some u) index shard s state files h = h
 
 -- a place of a listed snapshot has a generation in the root
 pub place_has : (f : Formats) (has : BlobName → Bytes → Type 0) (root : RootData) (uuid : ℕ) (places : List (IndexRef × ℕ)) (shards : List ShelfShard) → AllPairs (ShardStands f has root uuid) places shards
@@ -149,7 +147,7 @@ module _ (f : Formats) (w : World) (k : ℕ) (r : ShardResult) (new : World) (d 
       record {
         held = d.held;
         held_reads = d.held_reads;
-        files = λ e m. elim (ext.files_from e m) [ inl no_file ↦ absurd no_file | inr m' ↦ file_of f (HeldIn f w) r.index r.shard d.snap.files _ d.files e m' ];
+        files = λ e m. elim (ext.files_from e m) [ inl no_file ↦ absurd no_file | inr m' ↦ d.stand e m' ];
         snaps = λ l snap m n e. elim (ext.lists_from l m) [ inl no_list ↦ absurd no_list | inr z ↦ new_snap snap.uuid (sym z ∙ e) ];
         below = λ l m. elim (ext.lists_from l m) [ inl no_list ↦ absurd no_list | inr e ↦ subst (λ x. x < r.generation) (sym e) below_new.0 ];
       }
@@ -158,7 +156,7 @@ module _ (f : Formats) (w : World) (k : ℕ) (r : ShardResult) (new : World) (d 
       record {
         held = d.held;
         held_reads = d.held_reads;
-        files = λ e m. elim (ext.files_from e m) [ inl old ↦ h.1.stands.files e (subst (λ x. Has x.files e) (sym same) old) | inr m' ↦ file_of f (HeldIn f w) r.index r.shard d.snap.files _ d.files e m' ];
+        files = λ e m. elim (ext.files_from e m) [ inl old ↦ h.1.stands.files e (subst (λ x. Has x.files e) (sym same) old) | inr m' ↦ d.stand e m' ];
         snaps = λ l snap m n e. elim (ext.lists_from l m) [
           | inl old ↦ h.1.stands.snaps l snap (subst (λ (x : ShardFiles). Has x.snapshots l) (sym same) old) n e
           | inr z ↦ new_snap snap.uuid (sym z ∙ e)
@@ -246,11 +244,12 @@ module _ (f : Formats) (w : World) (k : ℕ) (r : ShardResult) (new : World) (d 
                   let r_is : r ≡ q = done_same _ _ (ap (λ (y : ShardWork). y.state) z_is ∙ state) in
                   let i : d.s.ref.id ≡ r.index = ap (λ (y : ShardWork). y.ref.id) (sym one.2) ∙ one.0 in
                   let n : d.s.number ≡ r.shard = ap (λ (y : ShardWork). y.number) (sym one.2) ∙ one.1 in
-                  subst (λ (y : ShardWork). DoneStands f (HeldIn f w) d.op.uuid y q) z_is (subst (DoneStands f (HeldIn f w) d.op.uuid (record d.s { state = Done r })) r_is (new_done_stands i n))
+                  subst (λ (y : ShardWork). DoneStands f (HeldIn f w) d.op.source d.op.uuid y q) z_is (subst (DoneStands f (HeldIn f w) d.op.source d.op.uuid (record d.s { state = Done r })) r_is (new_done_stands i n))
               | inr was ↦
                   let z_is : x ≡ z = sym was.is ∙ same in
-                  subst (λ (y : ShardWork). DoneStands f (HeldIn f w) d.op.uuid y q) z_is (l.done x q x_there (ap (λ (y : ShardWork). y.state) z_is ∙ state))
+                  subst (λ (y : ShardWork). DoneStands f (HeldIn f w) d.op.source d.op.uuid y q) z_is (l.done x q x_there (ap (λ (y : ShardWork). y.state) z_is ∙ state))
             ];
+        copies = l.copies;
         texts = l.texts;
         unlisted = l.unlisted;
         unused = l.unused;
@@ -269,15 +268,15 @@ module _ (f : Formats) (w : World) (k : ℕ) (r : ShardResult) (new : World) (d 
       map_places [] = refl
       map_places (s ∷ ss) = λ i. (marked_ref k (Done r) s i, marked_number k (Done r) s i) ∷ map_places ss i
 
-      new_done_stands : d.s.ref.id ≡ r.index → d.s.number ≡ r.shard → DoneStands f (HeldIn f w) d.op.uuid (record d.s { state = Done r }) r
+      new_done_stands : d.s.ref.id ≡ r.index → d.s.number ≡ r.shard → DoneStands f (HeldIn f w) d.op.source d.op.uuid (record d.s { state = Done r }) r
       new_done_stands i n =
           record {
             index_is = sym i;
             shard_is = sym n;
             snap = d.snap;
             snap_reads = subst (λ x. Reads (HeldIn f w) (ShardSnap x d.s.number d.op.uuid) f.shard_snap d.snap) (sym i) (subst (λ x. Reads (HeldIn f w) (ShardSnap r.index x d.op.uuid) f.shard_snap d.snap) (sym n) (subst (λ x. Reads (HeldIn f w) (ShardSnap r.index r.shard x) f.shard_snap d.snap) (sym uuid_is) d.snap_reads));
-            files = subst (λ x. AllPairs (λ e file. (e.physical ≡ file.0) × FileStands f (HeldIn f w) x d.s.number e file.1) d.snap.files (f.told d.s.place d.s.ref.name d.s.number)) (sym i)
-                (subst (λ x. AllPairs (λ e file. (e.physical ≡ file.0) × FileStands f (HeldIn f w) r.index x e file.1) d.snap.files (f.told d.s.place d.s.ref.name d.s.number)) (sym n) d.files);
+            files = files_in f (HeldIn f w) d.op.source d.s.ref.id d.s.number d.s (Done r) d.snap.files
+                (subst (λ x. AreFilesOf f (HeldIn f w) d.op.source x d.s.number d.s d.snap.files) (sym i) (subst (λ x. AreFilesOf f (HeldIn f w) d.op.source r.index x d.s d.snap.files) (sym n) d.files));
           }
 
   abbrev tickets_now : FinMap nat_cmp Ticket
@@ -302,6 +301,7 @@ module _ (f : Formats) (w : World) (k : ℕ) (r : ShardResult) (new : World) (d 
           op = op_now;
           op_there = ap (fin.get ops_now) same ∙ get_same nat_cmp_total nat_cmp-IsAntisymmetric w.ops d.t.op op_now;
           uuid_is = ap (λ (x : Op). x.uuid) (sym one) ∙ l.uuid_is;
+          source_is = l.source_is ∙ ap (λ (x : Op). x.source) one;
           s = l.s;
           s_there = subst (Has (map (marked k (Done r)) d.op.shards)) (stays l.s l.state) (Has-map (marked k (Done r)) d.op.shards l.s there);
           state = l.state;
@@ -314,6 +314,7 @@ module _ (f : Formats) (w : World) (k : ℕ) (r : ShardResult) (new : World) (d 
       op = l.op;
       op_there = get_other nat_cmp_total nat_cmp-IsAntisymmetric w.ops d.t.op op_now u.op h.0 ∙ l.op_there;
       uuid_is = l.uuid_is;
+      source_is = l.source_is;
       s = l.s;
       s_there = l.s_there;
       state = l.state;

@@ -1,11 +1,13 @@
 -- Dooming what the safe root doesn't reach keeps the law.
 use Rattle.std.proofs.Common.{◌≡◌, ℕ, zero, suc, ◌<◌, List, ◌++◌, refl, sym, subst, inl, inr, arith}
-use Rattle.esr_model.specs.Names.{BlobName, Root}
-use Rattle.esr_model.specs.Values.{Bytes, Formats}
+use Rattle.esr_model.specs.Names.{BlobName, Root, Snap}
+use Rattle.esr_model.specs.Values.{Bytes, IndexRef, RootSnap, Formats}
 use Rattle.esr_model.specs.Shelf.{Shelved}
-use Rattle.esr_model.specs.Image.{RootStands, Picked}
+use Rattle.esr_model.specs.Image.{Has, RootStands, Picked}
+use Rattle.esr_model.specs.Reach.{Reached, ReachSnap}
 use Rattle.esr_core.specs.World.{World, HeldIn, Safely}
 use Rattle.esr_model.specs.Image.{RootIs}
+use Rattle.esr_core.specs.Generations.{AreIndicesBy}
 use Rattle.esr_core.specs.Doomed.{Dooms}
 use Rattle.esr_core.specs.Sound.{Sound}
 use Rattle.esr_core.proofs.Frames.{reads_kept, root_kept}
@@ -29,6 +31,18 @@ module _ (f : Formats) (w new : World) (shelf : List Shelved) (names : List Blob
   root_now =
       root_kept f (Used f (HeldIn f w) w.root) now used_now w.root shelf
       (root_used f (HeldIn f w) w.root shelf (safe_root_stands f (HeldIn f w) (held_one f w) w.safe w.root shelf l.rooted.kept.picked l.carried.root_is))
+
+  -- nor the info of a listed snapshot
+  indices_now : (u : ℕ) (indices : List IndexRef) → (z : RootSnap) × Has w.root.snapshots z × (z.uuid ≡ u) → AreIndicesBy f (HeldIn f w) u indices → AreIndicesBy f now u indices
+  indices_now u indices listed c =
+      record {
+        info = c.info;
+        info_reads = record { bytes = c.info_reads.bytes; there = used_now (Snap u) c.info_reads.bytes (c.info_reads.there, subst (λ n. Reached f (HeldIn f w) w.root (Snap n)) listed.2 (ReachSnap listed.0 listed.1)); reads = c.info_reads.reads };
+        apart = c.apart;
+        named_once = c.named_once;
+        among = c.among;
+        once = c.once;
+      }
 
   root_is_now : (safe : ℕ) → w.safe ≡ safe → RootIs f (HeldIn f w) safe w.root → RootIs f now safe w.root
   root_is_now zero e h = h
@@ -65,6 +79,7 @@ module _ (f : Formats) (w new : World) (shelf : List Shelved) (names : List Blob
           root_is = root_is_now w.safe refl l.carried.root_is;
           ops = λ o op e. let old = l.carried.ops o op e in record {
             places = old.places;
+            copies = λ u has. let c = old.copies u has in record { listed = c.listed; by_info = indices_now u op.indices c.listed c.by_info };
             texts = old.texts;
             unlisted = old.unlisted;
             unused = old.unused;

@@ -4,7 +4,7 @@ use Rattle.std.specs.Prelude.{if◌then◌else◌}
 use Rattle.std.specs.FinMap as fin
 use Rattle.esr_model.specs.Names.{BlobName, Root, ShardIndex}
 use Rattle.esr_model.specs.Values.{Bytes, RootSnap, RootData, SnapInfo, ShardFiles, ShardResult, Formats}
-use Rattle.esr_model.specs.Shelf.{Shelved, left_shelf, names_uuid, shelf_after}
+use Rattle.esr_model.specs.Shelf.{Shelved, Command, left_shelf, names_uuid, shelf_after}
 use Rattle.esr_model.specs.Image.{Has, AllPairs, SnapStands, RootStands}
 use Rattle.esr_model.specs.Delete.{Deletes, left_snaps}
 use Rattle.esr_core.specs.World.{World, Shard, Finalize, Deleting, Drop, Ticket, Swap, ledger_of, HeldIn}
@@ -55,7 +55,7 @@ draw_shard_lawful f w shelf l k n new d above = subst (λ x. Lawful f x shelf) (
           out = λ e. e;
           holds = λ i n e o. o;
           settled = λ e. e;
-          shard = λ f b r o k i n l. record { op = l.op; op_there = l.op_there; uuid_is = l.uuid_is; s = l.s; s_there = l.s_there; state = l.state; index_is = l.index_is; shard_is = l.shard_is; base = l.base; ids = λ id a b. above id a };
+          shard = λ f b r o k i n l. record { op = l.op; op_there = l.op_there; uuid_is = l.uuid_is; source_is = l.source_is; s = l.s; s_there = l.s_there; state = l.state; index_is = l.index_is; shard_is = l.shard_is; base = l.base; ids = λ id a b. above id a };
           final = λ f r o i rs m l. record { op = l.op; op_there = l.op_there; done = l.done; info_is = l.info_is; made_is = l.made_is; root_is = l.root_is };
         }
 
@@ -201,7 +201,7 @@ module _ (f : Formats) (w : World) (shelf : List Shelved) (l : Lawful f w shelf)
         ];
       }
     where
-      not_final : {info : SnapInfo} {rs : List ShardResult} {made : Shelved} → Deleting d.named (Some its) ≡ Finalize info rs made → ⊥
+      not_final : {info : SnapInfo} {rs : List ShardResult} {made : Command} → Deleting d.named (Some its) ≡ Finalize info rs made → ⊥
       not_final e = cc
 
   plan_law : v.settled ≡ false → v.term ≡ w.term → (uuids : List ℕ) (plan : Option Swap) → v.work ≡ Deleting uuids plan → DeleteLaw w.root w.ops w.deletes v plan

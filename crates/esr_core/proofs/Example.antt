@@ -195,7 +195,7 @@ module _ (f : Formats) (size : ℕ) (name : Bytes) (moment : ℕ) (can : CanWrit
         present = refl;
         info = info_of op [];
         results = [];
-        made = shelved_of f op;
+        made = Create (shelved_of f op);
         work = refl;
       }) refl)
       (λ j. record (settled_of f w7 1 (got w6.tickets t7 j)) { blobs = w7.blobs })

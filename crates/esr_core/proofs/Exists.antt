@@ -3,7 +3,7 @@ use Rattle.std.proofs.Common.{◌≡◌, ◌⊎◌, ℕ, ◌<◌, List, [], ◌�
 use Rattle.std.specs.FinMap as fin
 use Rattle.esr_model.specs.Names.{BlobName, Root, Snap, IndexMeta, ShardIndex}
 use Rattle.esr_model.specs.Values.{Bytes, Has, SnapInfo, ShardResult, Formats}
-use Rattle.esr_model.specs.Shelf.{Shelved}
+use Rattle.esr_model.specs.Shelf.{Shelved, Command}
 use Rattle.esr_model.specs.Image.{IsStored, Blobs, At}
 use Rattle.esr_model.specs.Kept.{IdsBelow}
 use Rattle.esr_core.specs.World.{World, Op, ShardWork, Pending, Out, Done, Work, Shard, Finalize, Deleting, Drop, Ticket, Swap, swap, swap_of, AllDone, info_of, metadata, marked, HeldIn, ledger_of}
@@ -64,7 +64,7 @@ index_meta u i s g (inl e) = cc
 index_meta u i s g (inr (inl e)) = cc
 index_meta u i s g (inr (inr e)) = let h = e.1 in cc
 
-final_same : (a b : SnapInfo) (rs qs : List ShardResult) (m n : Shelved) → Finalize a rs m ≡ Finalize b qs n → a ≡ b
+final_same : (a b : SnapInfo) (rs qs : List ShardResult) (m n : Command) → Finalize a rs m ≡ Finalize b qs n → a ≡ b
 final_same a b rs qs m n e = cc
 
 -- the results of an op that is done are one list
@@ -100,7 +100,7 @@ module _ (f : Formats) (blobs : Blobs) (ops : Ops) (tickets : Tickets) (x : Text
   ])
 
   -- a new one, of a unit that is no finalization and has no swap yet
-  pub texted_plain : (k : ℕ) (v : Ticket) → ((info : SnapInfo) (rs : List ShardResult) (made : Shelved) → v.work ≡ Finalize info rs made → ⊥)
+  pub texted_plain : (k : ℕ) (v : Ticket) → ((info : SnapInfo) (rs : List ShardResult) (made : Command) → v.work ≡ Finalize info rs made → ⊥)
       → ((uuids : List ℕ) (s : Swap) → v.work ≡ Deleting uuids (Some s) → (name : BlobName) (b : Bytes) → Has s.own (name, b) → (u : ℕ) → IsMetaOf u name → ⊥) → Texted f blobs ops (fin.insert tickets k v)
   texted_plain k v never plan =
       record {
@@ -147,7 +147,7 @@ module _ (f : Formats) (blobs : Blobs) (ops : Ops) (tickets : Tickets) (x : Text
 module _ (f : Formats) (w : World) (shelf : List Shelved) (l : Law f w shelf) (x : Texted f w.blobs w.ops w.tickets) where
   -- a blob that a finalization writes is what its op gives
   final_committed : (name : BlobName) (bytes : Bytes) (valid : IsStored f name) (absent : fin.get w.blobs (f.names.text name) ≡ None) (k : ℕ) (t : Ticket) → fin.get w.tickets k ≡ Some t
-      → (info : SnapInfo) (results : List ShardResult) (made : Shelved) → t.work ≡ Finalize info results made → Has (metadata f info) (name, bytes) → Texted f (fin.insert w.blobs (f.names.text name) bytes) w.ops w.tickets
+      → (info : SnapInfo) (results : List ShardResult) (made : Command) → t.work ≡ Finalize info results made → Has (metadata f info) (name, bytes) → Texted f (fin.insert w.blobs (f.names.text name) bytes) w.ops w.tickets
   final_committed name bytes valid absent k t there info results made work own =
       record {
         swaps = λ j u its rs m e is n b meta at. elim (at_was f w.blobs name bytes valid absent [] n b at) [
@@ -234,13 +234,13 @@ module _ (f : Formats) (w : World) (shelf : List Shelved) (l : Law f w shelf) (x
       v : Ticket
       v = final_ticket f w o op results
 
-      differ : {info : SnapInfo} {rs : List ShardResult} {made : Shelved} {uuids : List ℕ} {plan : Option Swap} → Finalize info rs made ≡ Deleting uuids plan → ⊥
+      differ : {info : SnapInfo} {rs : List ShardResult} {made : Command} {uuids : List ℕ} {plan : Option Swap} → Finalize info rs made ≡ Deleting uuids plan → ⊥
       differ e = cc
 
-      mine : (t : Ticket) (info : SnapInfo) (rs : List ShardResult) (made : Shelved) → final_ticket f w o op results ≡ t → t.work ≡ Finalize info rs made → info_of op results ≡ info
+      mine : (t : Ticket) (info : SnapInfo) (rs : List ShardResult) (made : Command) → final_ticket f w o op results ≡ t → t.work ≡ Finalize info rs made → info_of op results ≡ info
       mine t info rs made e is = final_same _ _ _ _ _ _ (ap (λ (y : Ticket). y.work) e ∙ is)
 
-      agreed : (k : ℕ) (t : Ticket) (info : SnapInfo) (rs : List ShardResult) (made : Shelved) → fin.get w.tickets k ≡ Some t → t.work ≡ Finalize info rs made → info.uuid ≡ op.uuid → info ≡ info_of op results
+      agreed : (k : ℕ) (t : Ticket) (info : SnapInfo) (rs : List ShardResult) (made : Command) → fin.get w.tickets k ≡ Some t → t.work ≡ Finalize info rs made → info.uuid ≡ op.uuid → info ≡ info_of op results
       agreed k t info rs made e is u = let h = x.agree k t info rs made o op e is there u in h.info_is ∙ ap (info_of op) (results_one op.shards h.results results h.done done)
 
       same_op : (p : ℕ) (q : Op) → fin.get w.ops p ≡ Some q → op.uuid ≡ q.uuid → op ≡ q

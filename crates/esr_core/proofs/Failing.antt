@@ -2,7 +2,7 @@
 use Rattle.std.proofs.Common.{◌≡◌, ◌≢◌, ℕ, List, true, false, true≢false, Some, map, refl, sym, ap, ◌∙◌, subst, inl, inr}
 use Rattle.std.specs.FinMap as fin
 use Rattle.esr_model.specs.Values.{SnapInfo, ShardResult, Formats}
-use Rattle.esr_model.specs.Shelf.{Shelved}
+use Rattle.esr_model.specs.Shelf.{Shelved, Command}
 use Rattle.esr_model.specs.Image.{Has}
 use Rattle.esr_core.specs.World.{World, Op, ShardWork, Out, Shard, Finalize, Deleting, Drop, Ticket, AllDone, ledger_of, HeldIn}
 use Rattle.esr_core.specs.Ready.{IsMaster, IsShard, SwapIsOut}
@@ -73,6 +73,7 @@ module _ (f : Formats) (w : World) (shelf : List Shelved) (l : Lawful f w shelf)
               op = now;
               op_there = ap (fin.get ops) same ∙ same_in w.ops o now;
               uuid_is = ap (λ (x : Op). x.uuid) (sym one) ∙ h.uuid_is;
+              source_is = h.source_is ∙ ap (λ (x : Op). x.source) one;
               s = h.s;
               s_there = subst (Has (map g op.shards)) (stays h.s j apart h.state) (Has-map g op.shards h.s there);
               state = h.state;
@@ -81,12 +82,12 @@ module _ (f : Formats) (w : World) (shelf : List Shelved) (l : Lawful f w shelf)
               base = base';
               ids = h.ids;
             }
-        | inr z ↦ record { op = h.op; op_there = other_in w.ops o now u.op z ∙ h.op_there; uuid_is = h.uuid_is; s = h.s; s_there = h.s_there; state = h.state; index_is = h.index_is; shard_is = h.shard_is; base = base'; ids = h.ids }
+        | inr z ↦ record { op = h.op; op_there = other_in w.ops o now u.op z ∙ h.op_there; uuid_is = h.uuid_is; source_is = h.source_is; s = h.s; s_there = h.s_there; state = h.state; index_is = h.index_is; shard_is = h.shard_is; base = base'; ids = h.ids }
       ]
 
   -- no finalization of the op is out but that which fails
   not_final : (j : ℕ) (u : Ticket) → j ≢ k → fin.get w.tickets j ≡ Some u → u.out ≡ true → u.settled ≡ false → u.term ≡ w.term
-      → (info : SnapInfo) (results : List ShardResult) (made : Shelved) → u.work ≡ Finalize info results made → u.op ≢ o
+      → (info : SnapInfo) (results : List ShardResult) (made : Command) → u.work ≡ Finalize info results made → u.op ≢ o
   not_final j u apart e out uns pres info results made is same = elim d.counts [
     | inr m ↦ apart (l.queue.one_swap j k (record { t = u; there = e; out = out; unsettled = uns; present = pres; swaps = subst IsMaster (sym is) tt }) (record { t = d.t; there = d.out.there; out = d.out.out; unsettled = d.unsettled; present = m.0; swaps = m.1 }))
     | inl sh ↦

@@ -1,19 +1,31 @@
 -- What a shard unit found there isn't doomed.
-use Rattle.std.proofs.Common.{◌≡◌, ◌∙◌, ap, ℕ, List, Option, Some, None, refl, sym, subst, inl, inr}
+use Rattle.std.proofs.Common.{◌≡◌, ◌∙◌, ap, ℕ, List, [], ◌∷◌, Option, Some, None, refl, sym, subst, inl, inr}
 use Rattle.esr_model.specs.Parts.{part_names}
 use Rattle.esr_model.specs.Names.{BlobName, ShardSnap, ShardIndex}
 use Rattle.esr_model.specs.Values.{Bytes, FileEntry, ShardFiles, ShardResult, Formats}
 use Rattle.esr_model.specs.Shelf.{Shelved}
 use Rattle.esr_model.specs.Image.{Has, AllPairs, At, Reads, FileStands}
-use Rattle.esr_core.specs.World.{World, HeldIn}
+use Rattle.esr_core.specs.World.{World, Op, HeldIn}
 use Rattle.esr_core.specs.Ready.{IsShard}
 use Rattle.esr_core.specs.Steps.{Drew, DoneShard, ExtendsBase}
 use Rattle.esr_core.specs.Turns.{DoneFound, InBase}
-use Rattle.esr_core.specs.Generations.{ShardLaw, Base}
+use Rattle.esr_core.specs.Generations.{AreFilesOf, ShardLaw, Base}
 use Rattle.esr_core.specs.Ids.{OfId, Law}
 use Rattle.esr_core.proofs.Pieces.{in_parts}
+use Rattle.esr_core.proofs.Copying.{SourceStands, source_stands, source_held, source_stand}
 use Rattle.esr_core.proofs.Reading.{AllPairs-with}
 use Rattle.esr_core.proofs.TurningIds.{pairs_has}
+
+some_same : {A : Type 0} {x y : A} → Some x ≡ Some y → x ≡ y
+some_same e = cc
+
+-- the file of a pair
+file_of : (f : Formats) (has : BlobName → Bytes → Type 0) (index shard : ℕ) (es : List FileEntry) (files : List (Bytes × Bytes))
+    → AllPairs (λ e file. (e.physical ≡ file.0) × FileStands f has index shard e file.1) es files → (e : FileEntry) → Has es e → (bytes : Bytes) × FileStands f has index shard e bytes
+file_of f has index shard [] files h e m = absurd m
+file_of f has index shard (x ∷ xs) [] h e m = absurd h
+file_of f has index shard (x ∷ xs) (y ∷ ys) h e (inl same) = (y.1, subst (λ z. FileStands f has index shard z y.1) same h.0.1)
+file_of f has index shard (x ∷ xs) (y ∷ ys) h e (inr m) = file_of f has index shard xs ys h.1 e m
 
 module _ (f : Formats) (w : World) (shelf : List Shelved) (l : Law f w shelf) (k : ℕ) (r : ShardResult) (new : World) (d : DoneFound f w k r new) where
   law : ShardLaw f (HeldIn f w) w.root w.ops k d.t r.index r.shard
@@ -40,9 +52,6 @@ module _ (f : Formats) (w : World) (shelf : List Shelved) (l : Law f w shelf) (k
       let (bytes, file) = stands.files e (subst (λ (x : ShardFiles). Has x.files e) same has) in
       (pairs_has (HeldIn f w) (part_names r.index r.shard e) file.parts name file.there part).1.1 m
     where
-      some_same : {A : Type 0} {x y : A} → Some x ≡ Some y → x ≡ y
-      some_same e = cc
-
       one_value : (a c : ShardFiles) → Reads (At f w.blobs) (ShardIndex r.index r.shard b) f.shard_index a → Reads (HeldIn f w) (ShardIndex r.index r.shard b) f.shard_index c → a ≡ c
       one_value a c x y = some_same (sym x.reads ∙ ap f.shard_index.read (some_same (sym x.there.0 ∙ y.there.0.0)) ∙ y.reads)
 
@@ -52,6 +61,31 @@ module _ (f : Formats) (w : World) (shelf : List Shelved) (l : Law f w shelf) (k
 
   held_pairs : (names : List BlobName) (parts : List Bytes) → ((name : BlobName) → Has names name → Has w.doomed name → ⊥) → AllPairs (At f w.blobs) names parts → AllPairs (HeldIn f w) names parts
   held_pairs names parts aside h = AllPairs-with (At f w.blobs) (HeldIn f w) names parts (λ name b m at. (at, aside name m)) h
+
+  held_file : (e : FileEntry) → Has d.snap.files e → (bytes : Bytes) → FileStands f (At f w.blobs) r.index r.shard e bytes → FileStands f (HeldIn f w) r.index r.shard e bytes
+  held_file e m bytes h =
+      record {
+        parts = h.parts;
+        there = held_pairs (part_names r.index r.shard e) h.parts (λ name part. elim (d.reused e m) [ inl drew ↦ part_aside e drew name part | inr base ↦ base_aside d.t.base law.base e base name part ]) h.there;
+        full = h.full;
+        joined = h.joined;
+        len = h.len;
+        digest = h.digest;
+      }
+
+  -- what a clone's shard copies stands
+  source_at : (u : ℕ) → d.op.source ≡ Some u → SourceStands f w d.t r.index r.shard u
+  source_at u copies = source_stands f w shelf l k d.t d.out r.index r.shard d.is u (law.source_is ∙ ap (λ (x : Op). x.source) (some_same (sym law.op_there ∙ d.op_there)) ∙ copies)
+
+  files_held : (source : Option ℕ) → d.op.source ≡ source → AreFilesOf f (At f w.blobs) source r.index r.shard d.s d.snap.files → AreFilesOf f (HeldIn f w) source r.index r.shard d.s d.snap.files
+  files_held None copies h =
+      AllPairs-with (λ e file. (e.physical ≡ file.0) × FileStands f (At f w.blobs) r.index r.shard e file.1) (λ e file. (e.physical ≡ file.0) × FileStands f (HeldIn f w) r.index r.shard e file.1) d.snap.files (f.told d.s.place d.s.ref.name d.s.number)
+      (λ e file m p. (p.0, held_file e m file.1 p.1)) h
+  files_held (Some u) copies (was, reads, same) = (was, source_held f w d.t r.index r.shard u (source_at u copies) was reads, same)
+
+  files_stand : (source : Option ℕ) → d.op.source ≡ source → AreFilesOf f (At f w.blobs) source r.index r.shard d.s d.snap.files → (e : FileEntry) → Has d.snap.files e → (bytes : Bytes) × FileStands f (HeldIn f w) r.index r.shard e bytes
+  files_stand None copies h e m = let (bytes, file) = file_of f (At f w.blobs) r.index r.shard d.snap.files (f.told d.s.place d.s.ref.name d.s.number) h e m in (bytes, held_file e m bytes file)
+  files_stand (Some u) copies (was, reads, same) e m = source_stand f w d.t r.index r.shard u (source_at u copies) was reads e (subst (λ (xs : List FileEntry). Has xs e) (sym same) m)
 
   pub found : DoneShard f w k r new
   found =
@@ -70,17 +104,7 @@ module _ (f : Formats) (w : World) (shelf : List Shelved) (l : Law f w shelf) (k
         s = d.s;
         s_there = d.s_there;
         state = d.state;
-        files = AllPairs-with (λ e file. (e.physical ≡ file.0) × FileStands f (At f w.blobs) r.index r.shard e file.1) (λ e file. (e.physical ≡ file.0) × FileStands f (HeldIn f w) r.index r.shard e file.1) d.snap.files (f.told d.s.place d.s.ref.name d.s.number)
-            (λ e file m h. (
-              h.0,
-              record {
-                parts = h.1.parts;
-                there = held_pairs (part_names r.index r.shard e) h.1.parts (λ name part. elim (d.reused e m) [ inl drew ↦ part_aside e drew name part | inr base ↦ base_aside d.t.base law.base e base name part ]) h.1.there;
-                full = h.1.full;
-                joined = h.1.joined;
-                len = h.1.len;
-                digest = h.1.digest;
-              },
-            )) d.files;
+        files = files_held d.op.source refl d.files;
+        stand = files_stand d.op.source refl d.files;
         new_is = d.new_is;
       }

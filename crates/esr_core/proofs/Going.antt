@@ -12,8 +12,8 @@ use Rattle.esr_core.specs.World.{World, Op, ShardWork, Drop, Swap, Ticket, swap,
 use Rattle.esr_core.specs.Steps.{noting, with_ticket, shard_ticket, final_ticket}
 use Rattle.esr_core.specs.Turns.{plain_ticket}
 use Rattle.esr_core.specs.Pruning.{planned, dooms}
-use Rattle.esr_core.specs.Entry.{Snapshot, Restore, Given, GivenShard, GivenFinalize, GivenDrop, GivenRestore, Step, AskStep, TakeStep, DrawStep, BeginStep, CommitStep, LatestStep, FetchStep, RaiseStep, SettleStep, DoneStep, FailedStep, FinishStep, DroppedStep, ElectStep, ReadStep, DepotFault, Reply, Gave, WasDone, WasThere, WasFetched, HasEnded, Refused, Clone, DeleteSnapshots, Cleanup, GivenDelete, Prune, FetchShard, PlanShards, SettlePruned, RemoveDoomed, EndDelete, DeleteFails, PruneStep}
-use Rattle.esr_core.specs.After.{asked_op, taken_shard, taken_by, shard_of, with_given, committing, told_blob, fetching, settled_by, settled_of, done_by, done_of, is_stale, failed_by, failed_of, dropped_of, done_step, has_text, fallen, is_latest, tried, faulted, answered, delete_settled_by, delete_settled, delete_failed_by, delete_failed, prune_step}
+use Rattle.esr_core.specs.Entry.{CloneOf, Snapshot, Restore, Given, GivenShard, GivenClone, GivenFinalize, GivenDrop, GivenRestore, Step, AskStep, TakeStep, DrawStep, BeginStep, CommitStep, LatestStep, FetchStep, RaiseStep, SettleStep, DoneStep, FailedStep, FinishStep, DroppedStep, ElectStep, ReadStep, DepotFault, Reply, Gave, WasDone, WasThere, WasFetched, HasEnded, Refused, Clone, DeleteSnapshots, Cleanup, GivenDelete, Prune, FetchShard, PlanShards, SettlePruned, RemoveDoomed, EndDelete, DeleteFails, PruneStep}
+use Rattle.esr_core.specs.After.{asked, asked_op, cloned_op, taken_shard, taken_by, shard_of, with_given, committing, told_blob, fetching, settled_by, settled_of, done_by, done_of, is_stale, failed_by, failed_of, dropped_of, done_step, has_text, fallen, is_latest, tried, faulted, answered, delete_settled_by, delete_settled, delete_failed_by, delete_failed, prune_step}
 use Rattle.esr_core.specs.Deletes.{named_uuids, waiting_delete, running_delete, aborted_ops, delete_merged, delete_by, asked_delete}
 use Rattle.esr_core.proofs.AskedDeletes.{aborts}
 use Rattle.esr_core.proofs.Queues.{was_in, left_in}
@@ -93,6 +93,8 @@ IsOld step reply = Unit {0}
 goes_taken : (f : Formats) (w : World) (o : ℕ) (unit : Given) (op : Option Op) → IsOldUnit unit → fin.get w.ops o ≡ op → Goes w (taken_by f w o unit op)
 goes_taken f w o (GivenShard index number base) (Some op) old is = goes_shard w o op base (shard_of op.shards index number) is
 goes_taken f w o (GivenShard index number base) None old is = goes_same w
+goes_taken f w o (GivenClone index number source base) (Some op) old is = goes_shard w o op base (shard_of op.shards index number) is
+goes_taken f w o (GivenClone index number source base) None old is = goes_same w
 goes_taken f w o (GivenFinalize info results) (Some op) old is = goes_new w (final_ticket f w o op results) w.ops (as_was w.ops w.next_op)
 goes_taken f w o (GivenFinalize info results) None old is = goes_same w
 goes_taken f w o GivenDrop op old is = goes_new w (plain_ticket w o Drop) w.ops (as_was w.ops w.next_op)
@@ -189,11 +191,17 @@ goes_delete_by w names None None =
 goes_delete : (w : World) (names : List Bytes) → Goes w (asked_delete w names)
 goes_delete w names = goes_delete_by w names (waiting_delete w) (running_delete w (named_uuids w names))
 
+goes_clone : (w : World) (source name : Bytes) (names : List Bytes) (moment : ℕ) (taken : Option CloneOf) → Goes w (asked w (Clone source name names moment taken))
+goes_clone w source name names moment None = goes_same w
+goes_clone w source name names moment (Some t) =
+    record { restores = refl; readers = refl; caller = refl; doomed = λ name m. m; next_op = omega arith; next_ticket = omega arith; next_id = omega arith; ops = more w.ops w.next_op (cloned_op w name moment t); deletes = as_was w.deletes w.next_op; tickets = as_was w.tickets w.next_ticket }
+
 -- ---- all steps
 
 goes_step : (f : Formats) (w : World) (room : w.next_id ≤ first_id (suc w.term)) (k : ℕ) (step : Step) (reply : Reply) (image : Option Image) → IsOld step reply → Goes w (done_step f w k step reply image)
 goes_step f w room k (AskStep (Snapshot name indices moment)) reply image old =
     record { restores = refl; readers = refl; caller = refl; doomed = λ name m. m; next_op = omega arith; next_ticket = omega arith; next_id = omega arith; ops = more w.ops w.next_op (asked_op w name indices moment); deletes = as_was w.deletes w.next_op; tickets = as_was w.tickets w.next_ticket }
+goes_step f w room k (AskStep (Clone source name indices moment taken)) reply image old = goes_clone w source name indices moment taken
 goes_step f w room k (AskStep (DeleteSnapshots names)) reply image old = goes_delete w names
 goes_step f w room k (AskStep (Restore name place)) reply image old = absurd old
 goes_step f w room k TakeStep (Gave ticket op unit) image old = goes_taken f w op unit (fin.get w.ops op) old refl
@@ -223,7 +231,7 @@ goes_fault : (f : Formats) (w : World) (room : w.next_id ≤ first_id (suc w.ter
 goes_fault f w room k LatestStep image old = goes_change w k (λ t. record t { tried_latest = true }) (fin.get w.tickets k) refl
 goes_fault f w room k (BeginStep name) image old = goes_either w (tried w k) w (is_latest name) (goes_change w k (λ t. record t { tried_latest = true }) (fin.get w.tickets k) refl) (goes_same w)
 goes_fault f w room k (AskStep (Snapshot name indices moment)) image old = goes_fallen f w _ image (goes_step f w room k (AskStep (Snapshot name indices moment)) HasEnded image tt)
-goes_fault f w room k (AskStep (Clone source name indices moment)) image old = goes_fallen f w w image (goes_same w)
+goes_fault f w room k (AskStep (Clone source name indices moment taken)) image old = goes_fallen f w _ image (goes_clone w source name indices moment taken)
 goes_fault f w room k (AskStep (DeleteSnapshots names)) image old = goes_fallen f w _ image (goes_delete w names)
 goes_fault f w room k (AskStep Cleanup) image old = goes_fallen f w w image (goes_same w)
 goes_fault f w room k RaiseStep image old = goes_fallen f w _ image (goes_step f w room k RaiseStep HasEnded image tt)

@@ -3,11 +3,11 @@ use Rattle.std.proofs.Common.{◌≡◌, ℕ, zero, suc, List, [], ◌∷◌, Op
 use Rattle.std.specs.FinMap.{FinMap}
 use Rattle.esr_model.specs.Places.{shelf_places}
 use Rattle.esr_model.specs.Names.{BlobName, Root, Snap, ShardIndex}
-use Rattle.esr_model.specs.Values.{Bytes, RootSnap, RootData, SnapInfo, ShardFiles, ShardResult, Formats}
+use Rattle.esr_model.specs.Values.{Bytes, IndexRef, RootSnap, RootData, SnapInfo, FileEntry, ShardFiles, ShardResult, Formats}
 use Rattle.esr_model.specs.Image.{Has, AllPairs, IsOne, Picked, ListsAs, SnapStands, RootStands}
 use Rattle.esr_model.specs.Shelf.{Shelved}
 use Rattle.esr_core.specs.World.{Op, ShardWork, Ticket}
-use Rattle.esr_core.specs.Generations.{IsOfShard, ListsOwn, Carries, DoneStands, OpLaw, Base, ShardLaw, Carried}
+use Rattle.esr_core.specs.Generations.{IsOfShard, ListsOwn, Carries, AreFilesOf, DoneStands, AreIndicesBy, OpLaw, Base, ShardLaw, Carried}
 use Rattle.esr_model.specs.Image.{RootIs}
 use Rattle.esr_core.proofs.Frames.{reads_kept, index_kept, file_kept, AllPairs-map}
 use Rattle.esr_core.proofs.Reading.{reads_one, safe_root_stands}
@@ -47,18 +47,25 @@ module _ (f : Formats) (has now : BlobName → Bytes → Type 0) (func : IsOne n
         listed = λ above snap m is. lists_kept index shard g snap.uuid (c.listed above snap m (of_shard_was root shelf s snap m index shard is));
       }
 
-  done_kept : (uuid : ℕ) (s : ShardWork) (r : ShardResult) → DoneStands f has uuid s r → DoneStands f now uuid s r
-  done_kept uuid s r d =
+  files_kept : (source : Option ℕ) (index shard : ℕ) (s : ShardWork) (files : List FileEntry) → AreFilesOf f has source index shard s files → AreFilesOf f now source index shard s files
+  files_kept None index shard s files h = AllPairs-map (λ e file p. (p.0, file_kept f has now keeps index shard e file.1 p.1)) files (f.told s.place s.ref.name s.number) h
+  files_kept (Some u) index shard s files (was, reads, same) = (was, reads_kept f has now keeps _ _ _ reads, same)
+
+  done_kept : (source : Option ℕ) (uuid : ℕ) (s : ShardWork) (r : ShardResult) → DoneStands f has source uuid s r → DoneStands f now source uuid s r
+  done_kept source uuid s r d =
       record {
         index_is = d.index_is;
         shard_is = d.shard_is;
         snap = d.snap;
         snap_reads = reads_kept f has now keeps _ _ _ d.snap_reads;
-        files = AllPairs-map (λ e file h. (h.0, file_kept f has now keeps s.ref.id s.number e file.1 h.1)) d.snap.files (f.told s.place s.ref.name s.number) d.files;
+        files = files_kept source s.ref.id s.number s d.snap.files d.files;
       }
 
+  indices_kept : (u : ℕ) (indices : List IndexRef) → AreIndicesBy f has u indices → AreIndicesBy f now u indices
+  indices_kept u indices c = record { info = c.info; info_reads = reads_kept f has now keeps _ _ _ c.info_reads; apart = c.apart; named_once = c.named_once; among = c.among; once = c.once }
+
   pub op_kept : (root : RootData) (op : Op) → OpLaw f has root op → OpLaw f now root op
-  op_kept root op l = record { places = l.places; done = λ s r m e. done_kept op.uuid s r (l.done s r m e); texts = l.texts; unlisted = l.unlisted; unused = l.unused; one_id = l.one_id; distinct = l.distinct; same_name = l.same_name }
+  op_kept root op l = record { places = l.places; done = λ s r m e. done_kept op.source op.uuid s r (l.done s r m e); copies = λ u e. let c = l.copies u e in record { listed = c.listed; by_info = indices_kept u op.indices c.by_info }; texts = l.texts; unlisted = l.unlisted; unused = l.unused; one_id = l.one_id; distinct = l.distinct; same_name = l.same_name }
 
   pub base_kept : (root : RootData) (shelf : List Shelved) → RootStands f has root shelf → (ops : FinMap nat_cmp Op) (index shard : ℕ) (base : Option ℕ) → Base f has root ops index shard base → Base f now root ops index shard base
   base_kept root shelf s ops index shard None h = h
@@ -66,7 +73,7 @@ module _ (f : Formats) (has now : BlobName → Bytes → Type 0) (func : IsOne n
 
   pub shard_law_kept : (root : RootData) (shelf : List Shelved) → RootStands f has root shelf → (ops : FinMap nat_cmp Op) (k : ℕ) (t : Ticket) (index shard : ℕ) → ShardLaw f has root ops k t index shard → ShardLaw f now root ops k t index shard
   shard_law_kept root shelf s ops k t index shard l =
-      record { op = l.op; op_there = l.op_there; uuid_is = l.uuid_is; s = l.s; s_there = l.s_there; state = l.state; index_is = l.index_is; shard_is = l.shard_is; base = base_kept root shelf s ops index shard t.base l.base; ids = l.ids }
+      record { op = l.op; op_there = l.op_there; uuid_is = l.uuid_is; source_is = l.source_is; s = l.s; s_there = l.s_there; state = l.state; index_is = l.index_is; shard_is = l.shard_is; base = base_kept root shelf s ops index shard t.base l.base; ids = l.ids }
 
   pub carried_kept : (safe term : ℕ) (root : RootData) (shelf : List Shelved) → Picked f has safe shelf → (ops : FinMap nat_cmp Op) (tickets : FinMap nat_cmp Ticket)
       → Carried f has safe term root ops tickets → Carried f now safe term root ops tickets

@@ -1,17 +1,18 @@
 -- Over a legal history the law holds, for the shelf with the commands that count.
-use Rattle.std.proofs.Common.{◌≡◌, ◌⊎◌, ℕ, suc, ◌≤◌, List, [], ◌∷◌, ◌++◌, true, false, true≢false, Option, Some, None, refl, sym, ap, ◌∙◌, subst, inl, inr, arith}
+use Rattle.std.proofs.Common.{◌≡◌, ◌⊎◌, ℕ, suc, ◌≤◌, List, [], ◌∷◌, ◌++◌, true, false, true≢false, Option, Some, None, map, refl, sym, ap, ◌∙◌, subst, inl, inr, arith}
+use Rattle.std.specs.FinMap as fin
 use Rattle.esr_model.specs.Values.{ReadsBack, ShardResult, Formats}
 use Rattle.esr_model.specs.Shelf.{Shelved, Command, shelf_after}
 use Rattle.esr_model.specs.Image.{Image}
 use Rattle.esr_model.specs.Kept.{Kept}
-use Rattle.esr_core.specs.World.{World, Ticket, Swap, record_of, image_of}
-use Rattle.esr_core.specs.Steps.{MaySettle}
+use Rattle.esr_core.specs.World.{World, Done, Ticket, Swap, marked, record_of, image_of}
+use Rattle.esr_core.specs.Steps.{MaySettle, completing}
 use Rattle.esr_core.specs.Ids.{Law}
 use Rattle.esr_core.specs.Entry.{DoneStep, HasEnded, Refused, StaleTerm, Moment, DeposedAt}
 use Rattle.esr_core.specs.After.{answered, done_of, done_by, blobs_in, after}
-use Rattle.esr_core.specs.Allowed.{Allows, Allowed, IsDeposed, SameBlobs, Dones as DonesBy}
-use Rattle.esr_core.specs.History.{world_from, IsLegal, AllKnown, AreTold, AreHonest, IsHonest, commands_at, committed, Lasts}
-use Rattle.esr_core.specs.Turns.{Turn, Stays, Commits, CommitFails, Finds, Raises, Latests, Fetches, SettlesFinal, SettlesDelete, Elects, TakesShard, TakesFinal, TakesDrop, TakesDelete, TakesCleanup, AsksCleanup, CleanDrops, DrawsShard, DrawsPlan, Dones, Ending, Fails, FailsDelete, Drops, AsksCreate, AsksDelete, Merges, Removing, Deposes, commands_of, Besides, Tests, TestTurn, DrawsTest, AddsTest, RemovesTests}
+use Rattle.esr_core.specs.Allowed.{Allows, Allowed, IsDeposed, SameBlobs, DoneAs, Dones as DonesBy}
+use Rattle.esr_core.specs.History.{world_from, IsLegal, TellsShards, TellsHandedOut, AreTold, AreHonest, IsHonest, commands_at, committed, Lasts}
+use Rattle.esr_core.specs.Turns.{DoneFound, Turn, Stays, Commits, CommitFails, Finds, Raises, Latests, Fetches, SettlesFinal, SettlesDelete, Elects, TakesShard, TakesFinal, TakesDrop, TakesDelete, TakesCleanup, AsksCleanup, CleanDrops, DrawsShard, DrawsPlan, Dones, Ending, Fails, FailsDelete, Drops, AsksCreate, AsksDelete, Merges, Removing, Deposes, commands_of, Besides, Tests, TestTurn, DrawsTest, AddsTest, RemovesTests}
 use Rattle.esr_core.proofs.Besides.{aside_of}
 use Rattle.esr_core.proofs.Heard.{unheard_stays}
 use Rattle.esr_core.proofs.Reading.{some_same, none_some}
@@ -20,6 +21,7 @@ use Rattle.esr_core.proofs.Moments.{Turned, plain, turn_by}
 use Rattle.esr_core.proofs.Accepting.{accepted}
 use Rattle.esr_core.proofs.PruneTurns.{prune_turn}
 use Rattle.esr_core.proofs.Storing.{done_found}
+use Rattle.esr_core.proofs.Cloning.{cloned_found}
 use Rattle.esr_core.proofs.Laws.{kept_of}
 use Rattle.esr_core.proofs.Lists.{shelf_after-append}
 
@@ -90,16 +92,20 @@ pub record Stepped (f : Formats) (w : World) (shelf : List Shelved) (m : Moment)
   pub made : ((w.deposed ≡ false) × ((t : Turn f w new) × (commands ≡ commands_of f w new t))) ⊎ ((new ≡ w) × (commands ≡ []))
 
 -- each step in a world that isn't deposed is a turn
-step_turn : (f : Formats) (size : ℕ) (w : World) (shelf : List Shelved) → AllKnown f → Law f w shelf → IsHonest f w.blobs → (m : Moment) (i : Image) → m.image ≡ Some i → Allows f size w m.entry.who m.entry.step m.entry.reply m.image → Turned f w m.entry.who m.entry.step m.entry.reply (after f w m)
+step_turn : (f : Formats) (size : ℕ) (w : World) (shelf : List Shelved) → TellsShards f w → Law f w shelf → IsHonest f w.blobs → (m : Moment) (i : Image) → m.image ≡ Some i → Allows f size w m.entry.who m.entry.step m.entry.reply m.image → Turned f w m.entry.who m.entry.step m.entry.reply (after f w m)
 step_turn f size w shelf known l honest m i told alive = turn_by f size w shelf l i doing (accepted f w shelf l) (prune_turn f w shelf l i) m.entry.who m.entry.step m.entry.reply m.image told alive
   where
     doing : (k : ℕ) (r : ShardResult) → DonesBy f size w k r (Some i) → i.blobs ≡ w.blobs → Turned f w k (DoneStep r) HasEnded (after f w (record { entry = record { who = k; step = DoneStep r; reply = HasEnded }; image = Some i }))
     doing k r d same =
         plain f w k (DoneStep r) HasEnded _
-        (Dones _ k r (done_found f size w shelf l honest k d.t d.out r d.is d.op d.op_there d.s d.s_there d.state d.place_is d.name_is d.done (d.done.told (known d.t.place d.t.name r.shard)) _
-        ((λ j. record (done_of w k r (d.out.there j)) { blobs = i.blobs }) ∙ (λ j. record (done_by w k r d.t (d.op_there j)) { blobs = same j })))) refl refl
+        (Dones _ k r (by_source d.t.source refl d.done _ ((λ j. record (done_of w k r (d.out.there j)) { blobs = i.blobs }) ∙ (λ j. record (done_by w k r d.t (d.op_there j)) { blobs = same j })))) refl refl
+      where
+        by_source : (o : Option ℕ) → d.t.source ≡ o → DoneAs f size d.t r o → (new : World) → new ≡ record w { ops = fin.insert w.ops d.t.op (record d.op { shards = map (marked k (Done r)) d.op.shards }); tickets = fin.insert w.tickets k (record d.t { out = false }); completed = completing w.completed d.t.op (map (marked k (Done r)) d.op.shards) }
+            → DoneFound f w k r new
+        by_source None at b = done_found f size w shelf l honest k d.t d.out r d.is d.op d.op_there d.s d.s_there d.state d.place_is d.name_is (d.source_is ∙ at) b (b.told (known k d.t r.index r.shard d.out.there d.out.out d.is at))
+        by_source (Some source) at b = cloned_found f w shelf l k d.t d.out r d.is source at b d.op d.op_there (d.source_is ∙ at) d.s d.s_there d.state
 
-pub step_law : (f : Formats) (size : ℕ) (w : World) (shelf : List Shelved) → AllKnown f → Law f w shelf → IsHonest f w.blobs → (m : Moment) (i : Image) → m.image ≡ Some i → Allowed f size w m → Stepped f w shelf m (after f w m)
+pub step_law : (f : Formats) (size : ℕ) (w : World) (shelf : List Shelved) → TellsShards f w → Law f w shelf → IsHonest f w.blobs → (m : Moment) (i : Image) → m.image ≡ Some i → Allowed f size w m → Stepped f w shelf m (after f w m)
 step_law f size w shelf known l honest m i told a = elim a.answered [
   | inl alive ↦
       let t : Turned f w m.entry.who m.entry.step m.entry.reply (after f w m) = step_turn f size w shelf known l honest m i told alive.1 in
@@ -126,26 +132,26 @@ step_law f size w shelf known l honest m i told a = elim a.answered [
 ]
 
 -- what a list of moments leaves
-pub lasts : (f : Formats) (size : ℕ) (log : List Moment) (w : World) (shelf : List Shelved) → AllKnown f → Law f w shelf → IsLegal f size w log → AreTold log → AreHonest f w log → Lasts f w (world_from f w log)
+pub lasts : (f : Formats) (size : ℕ) (log : List Moment) (w : World) (shelf : List Shelved) → TellsHandedOut f w log → Law f w shelf → IsLegal f size w log → AreTold log → AreHonest f w log → Lasts f w (world_from f w log)
 lasts f size [] w shelf known l legal told honest = record { rises = omega arith; alone = λ e. refl }
 lasts f size (m ∷ log) w shelf known l legal told honest =
-    let s = step_law f size w shelf known l honest.0 m told.0.0 told.0.1 legal.0 in
-    let rest = lasts f size log (after f w m) (shelf_after shelf s.commands) known s.law legal.1 told.1 honest.1 in
+    let s = step_law f size w shelf known.0 l honest.0 m told.0.0 told.0.1 legal.0 in
+    let rest = lasts f size log (after f w m) (shelf_after shelf s.commands) known.1 s.law legal.1 told.1 honest.1 in
     record {
       rises = omega (arith, s.rises, rest.rises);
       alone = λ e. let h = s.alone e in rest.alone h.0 ∙ h.1;
     }
 
 -- the law over a legal history
-pub legal_law : (f : Formats) (size : ℕ) (log : List Moment) (w : World) (shelf : List Shelved) → AllKnown f → Law f w shelf → IsLegal f size w log → AreTold log → AreHonest f w log
+pub legal_law : (f : Formats) (size : ℕ) (log : List Moment) (w : World) (shelf : List Shelved) → TellsHandedOut f w log → Law f w shelf → IsLegal f size w log → AreTold log → AreHonest f w log
     → Law f (world_from f w log) (shelf_after shelf (committed f (world_from f w log).safe w log))
 legal_law f size [] w shelf known l legal told honest = l
 legal_law f size (m ∷ log) w shelf known l legal told honest =
-    let s = step_law f size w shelf known l honest.0 m told.0.0 told.0.1 legal.0 in
-    let rest = lasts f size log (after f w m) (shelf_after shelf s.commands) known s.law legal.1 told.1 honest.1 in
+    let s = step_law f size w shelf known.0 l honest.0 m told.0.0 told.0.1 legal.0 in
+    let rest = lasts f size log (after f w m) (shelf_after shelf s.commands) known.1 s.law legal.1 told.1 honest.1 in
     let last : World = world_from f (after f w m) log in
     let mine : commands_at f last.safe w m.entry.who m.entry.step m.entry.reply ≡ s.commands = s.counted last.safe rest.rises rest.alone in
-    let law : Law f last (shelf_after (shelf_after shelf s.commands) (committed f last.safe (after f w m) log)) = legal_law f size log (after f w m) (shelf_after shelf s.commands) known s.law legal.1 told.1 honest.1 in
+    let law : Law f last (shelf_after (shelf_after shelf s.commands) (committed f last.safe (after f w m) log)) = legal_law f size log (after f w m) (shelf_after shelf s.commands) known.1 s.law legal.1 told.1 honest.1 in
     subst (Law f last) (sym (shelf_after-append shelf s.commands (committed f last.safe (after f w m) log)) ∙ ap (λ cs. shelf_after shelf (cs ++ committed f last.safe (after f w m) log)) (sym mine)) law
 
 -- the image after a moment is that of the world
@@ -165,7 +171,7 @@ last_allowed f size [] w m legal = legal.0
 last_allowed f size (x ∷ log) w m legal = last_allowed f size log (after f w x) m legal.1
 
 -- the image after the last moment is kept for the commands that count in it
-pub image_kept : (f : Formats) (size : ℕ) (log : List Moment) (w : World) (shelf : List Shelved) (m : Moment) (i : Image) → AllKnown f → Law f w shelf → m.image ≡ Some i → IsLegal f size w (log ++ m ∷ []) → AreTold (log ++ m ∷ []) → AreHonest f w (log ++ m ∷ [])
+pub image_kept : (f : Formats) (size : ℕ) (log : List Moment) (w : World) (shelf : List Shelved) (m : Moment) (i : Image) → TellsHandedOut f w (log ++ m ∷ []) → Law f w shelf → m.image ≡ Some i → IsLegal f size w (log ++ m ∷ []) → AreTold (log ++ m ∷ []) → AreHonest f w (log ++ m ∷ [])
     → Kept f i (shelf_after shelf (committed f (world_from f w (log ++ m ∷ [])).safe w (log ++ m ∷ [])))
 image_kept f size log w shelf m i known l image legal told honest =
     let all : List Moment = log ++ m ∷ [] in
@@ -194,6 +200,14 @@ pub honest_parts : (f : Formats) (xs ys : List Moment) (w : World) → AreHonest
 honest_parts f [] ys w h = (honest_here f w ys h, h)
 honest_parts f (x ∷ xs) ys w h = let r = honest_parts f xs ys (after f w x) h.1 in ((h.0, r.0), r.1)
 
+known_here : (f : Formats) (w : World) (ys : List Moment) → TellsHandedOut f w ys → TellsShards f w
+known_here f w [] h = h
+known_here f w (y ∷ ys) h = h.0
+
+pub known_parts : (f : Formats) (xs ys : List Moment) (w : World) → TellsHandedOut f w (xs ++ ys) → TellsHandedOut f w xs × TellsHandedOut f (world_from f w xs) ys
+known_parts f [] ys w h = (known_here f w ys h, h)
+known_parts f (x ∷ xs) ys w h = let r = known_parts f xs ys (after f w x) h.1 in ((h.0, r.0), r.1)
+
 committed_parts : (f : Formats) (safe : ℕ) (xs ys : List Moment) (w : World) → committed f safe w (xs ++ ys) ≡ committed f safe w xs ++ committed f safe (world_from f w xs) ys
 committed_parts f safe [] ys w = refl
 committed_parts f safe (x ∷ xs) ys w = ap (λ cs. commands_at f safe w x.entry.who x.entry.step x.entry.reply ++ cs) (committed_parts f safe xs ys (after f w x)) ∙ sym (append_assoc (commands_at f safe w x.entry.who x.entry.step x.entry.reply) _ _)
@@ -203,18 +217,18 @@ committed_parts f safe (x ∷ xs) ys w = ap (λ cs. commands_at f safe w x.entry
     append_assoc (x ∷ xs) ys zs = ap (λ ds. x ∷ ds) (append_assoc xs ys zs)
 
 -- no later command counts in an image
-pub later_none : (f : Formats) (size : ℕ) (log : List Moment) (w : World) (shelf : List Shelved) (safe : ℕ) → AllKnown f → Law f w shelf → safe ≤ w.safe → IsLegal f size w log → AreTold log → AreHonest f w log → committed f safe w log ≡ []
+pub later_none : (f : Formats) (size : ℕ) (log : List Moment) (w : World) (shelf : List Shelved) (safe : ℕ) → TellsHandedOut f w log → Law f w shelf → safe ≤ w.safe → IsLegal f size w log → AreTold log → AreHonest f w log → committed f safe w log ≡ []
 later_none f size [] w shelf safe known l below legal told honest = refl
 later_none f size (m ∷ log) w shelf safe known l below legal told honest =
-    let s = step_law f size w shelf known l honest.0 m told.0.0 told.0.1 legal.0 in
-    (λ j. s.early safe below j ++ later_none f size log (after f w m) (shelf_after shelf s.commands) safe known s.law (omega (arith, below, s.rises)) legal.1 told.1 honest.1 j)
+    let s = step_law f size w shelf known.0 l honest.0 m told.0.0 told.0.1 legal.0 in
+    (λ j. s.early safe below j ++ later_none f size log (after f w m) (shelf_after shelf s.commands) safe known.1 s.law (omega (arith, below, s.rises)) legal.1 told.1 honest.1 j)
 
 append_one : (log : List Moment) (m : Moment) (rest : List Moment) → (log ++ m ∷ []) ++ rest ≡ log ++ m ∷ rest
 append_one [] m rest = refl
 append_one (x ∷ log) m rest = ap (λ ms. x ∷ ms) (append_one log m rest)
 
 -- each image of a history is kept for the commands of all of it that count in the image
-pub each_image : (f : Formats) (size : ℕ) (log rest : List Moment) (w : World) (shelf : List Shelved) (m : Moment) (i : Image) → AllKnown f → Law f w shelf → m.image ≡ Some i → IsLegal f size w (log ++ m ∷ rest) → AreTold (log ++ m ∷ rest) → AreHonest f w (log ++ m ∷ rest)
+pub each_image : (f : Formats) (size : ℕ) (log rest : List Moment) (w : World) (shelf : List Shelved) (m : Moment) (i : Image) → TellsHandedOut f w (log ++ m ∷ rest) → Law f w shelf → m.image ≡ Some i → IsLegal f size w (log ++ m ∷ rest) → AreTold (log ++ m ∷ rest) → AreHonest f w (log ++ m ∷ rest)
     → Kept f i (shelf_after shelf (committed f (world_from f w (log ++ m ∷ [])).safe w (log ++ m ∷ rest)))
 each_image f size log rest w shelf m i known l image legal told honest =
     let all : List Moment = log ++ m ∷ [] in
@@ -223,9 +237,10 @@ each_image f size log rest w shelf m i known l image legal told honest =
     let tolds = told_parts all rest (subst AreTold (sym same) told) in
     let honests = honest_parts f all rest w (subst (AreHonest f w) (sym same) honest) in
     let safe : ℕ = (world_from f w all).safe in
-    let kept = image_kept f size log w shelf m i known l image legals.0 tolds.0 honests.0 in
-    let law = legal_law f size all w shelf known l legals.0 tolds.0 honests.0 in
-    let none : committed f safe (world_from f w all) rest ≡ [] = later_none f size rest (world_from f w all) _ safe known law (omega arith) legals.1 tolds.1 honests.1 in
+    let knowns = known_parts f all rest w (subst (TellsHandedOut f w) (sym same) known) in
+    let kept = image_kept f size log w shelf m i knowns.0 l image legals.0 tolds.0 honests.0 in
+    let law = legal_law f size all w shelf knowns.0 l legals.0 tolds.0 honests.0 in
+    let none : committed f safe (world_from f w all) rest ≡ [] = later_none f size rest (world_from f w all) _ safe knowns.1 law (omega arith) legals.1 tolds.1 honests.1 in
     let mine : committed f safe w (log ++ m ∷ rest) ≡ committed f safe w all = ap (committed f safe w) (sym same) ∙ committed_parts f safe all rest w ∙ ap (λ cs. committed f safe w all ++ cs) none ∙ nil (committed f safe w all) in
     subst (λ cs. Kept f i (shelf_after shelf cs)) (sym mine) kept
   where

@@ -6,7 +6,7 @@ use Rattle.std.specs.FinMap as fin
 use Rattle.esr_model.specs.Names.{BlobName}
 use Rattle.esr_model.specs.Values.{Bytes, Formats, ShardResult, SnapInfo}
 use Rattle.esr_core.specs.Ready.{IsShard}
-use Rattle.esr_model.specs.Shelf.{Shelved, shelf_after}
+use Rattle.esr_model.specs.Shelf.{Shelved, Command, shelf_after}
 use Rattle.esr_core.specs.World.{World, Op, Ticket, Finalize, Swap, ledger_of, HeldIn, Safely}
 use Rattle.esr_core.specs.Steps.{CommitDone, CommitFault, Raise, Elect, DoneShard, TriesLatest, FetchFound, reading, Ends, TakeFinalize, settled, with_ticket, noting, writing, MaySettle}
 use Rattle.esr_core.specs.Swaps.{TicketLaw, IsUnsettled}
@@ -40,7 +40,7 @@ noting_same t name =
       out = λ e. e;
       holds = λ i n e o. o;
       settled = λ e. e;
-      shard = λ f b r o k i n l. record { op = l.op; op_there = l.op_there; uuid_is = l.uuid_is; s = l.s; s_there = l.s_there; state = l.state; index_is = l.index_is; shard_is = l.shard_is; base = l.base; ids = l.ids };
+      shard = λ f b r o k i n l. record { op = l.op; op_there = l.op_there; uuid_is = l.uuid_is; source_is = l.source_is; s = l.s; s_there = l.s_there; state = l.state; index_is = l.index_is; shard_is = l.shard_is; base = l.base; ids = l.ids };
       final = λ f r o i rs m l. record { op = l.op; op_there = l.op_there; done = l.done; info_is = l.info_is; made_is = l.made_is; root_is = l.root_is };
     }
 
@@ -53,7 +53,7 @@ writing_same t name bytes =
       out = λ e. e;
       holds = λ i n e o. o;
       settled = λ e. e;
-      shard = λ f b r o k i n l. record { op = l.op; op_there = l.op_there; uuid_is = l.uuid_is; s = l.s; s_there = l.s_there; state = l.state; index_is = l.index_is; shard_is = l.shard_is; base = l.base; ids = l.ids };
+      shard = λ f b r o k i n l. record { op = l.op; op_there = l.op_there; uuid_is = l.uuid_is; source_is = l.source_is; s = l.s; s_there = l.s_there; state = l.state; index_is = l.index_is; shard_is = l.shard_is; base = l.base; ids = l.ids };
       final = λ f r o i rs m l. record { op = l.op; op_there = l.op_there; done = l.done; info_is = l.info_is; made_is = l.made_is; root_is = l.root_is };
     }
 
@@ -66,7 +66,7 @@ raised_same t r =
       out = λ e. e;
       holds = λ i n e o. o;
       settled = λ e. e;
-      shard = λ f b r o k i n l. record { op = l.op; op_there = l.op_there; uuid_is = l.uuid_is; s = l.s; s_there = l.s_there; state = l.state; index_is = l.index_is; shard_is = l.shard_is; base = l.base; ids = l.ids };
+      shard = λ f b r o k i n l. record { op = l.op; op_there = l.op_there; uuid_is = l.uuid_is; source_is = l.source_is; s = l.s; s_there = l.s_there; state = l.state; index_is = l.index_is; shard_is = l.shard_is; base = l.base; ids = l.ids };
       final = λ f r o i rs m l. record { op = l.op; op_there = l.op_there; done = l.done; info_is = l.info_is; made_is = l.made_is; root_is = l.root_is };
     }
 
@@ -79,7 +79,7 @@ tried_same t =
       out = λ e. e;
       holds = λ i n e o. o;
       settled = λ e. e;
-      shard = λ f b r o k i n l. record { op = l.op; op_there = l.op_there; uuid_is = l.uuid_is; s = l.s; s_there = l.s_there; state = l.state; index_is = l.index_is; shard_is = l.shard_is; base = l.base; ids = l.ids };
+      shard = λ f b r o k i n l. record { op = l.op; op_there = l.op_there; uuid_is = l.uuid_is; source_is = l.source_is; s = l.s; s_there = l.s_there; state = l.state; index_is = l.index_is; shard_is = l.shard_is; base = l.base; ids = l.ids };
       final = λ f r o i rs m l. record { op = l.op; op_there = l.op_there; done = l.done; info_is = l.info_is; made_is = l.made_is; root_is = l.root_is };
     }
 
@@ -92,7 +92,7 @@ reading_same t name bytes =
       out = λ e. e;
       holds = λ i n e o. o;
       settled = λ e. e;
-      shard = λ f b r o k i n l. record { op = l.op; op_there = l.op_there; uuid_is = l.uuid_is; s = l.s; s_there = l.s_there; state = l.state; index_is = l.index_is; shard_is = l.shard_is; base = l.base; ids = l.ids };
+      shard = λ f b r o k i n l. record { op = l.op; op_there = l.op_there; uuid_is = l.uuid_is; source_is = l.source_is; s = l.s; s_there = l.s_there; state = l.state; index_is = l.index_is; shard_is = l.shard_is; base = l.base; ids = l.ids };
       final = λ f r o i rs m l. record { op = l.op; op_there = l.op_there; done = l.done; info_is = l.info_is; made_is = l.made_is; root_is = l.root_is };
     }
 
@@ -106,7 +106,7 @@ ended_same t not =
       out = λ e. absurd (true≢false (sym e));
       settled = λ e. e;
       holds = λ i n e o. absurd (not (subst IsShard (sym e) tt));
-      shard = λ f b r o k i n l. record { op = l.op; op_there = l.op_there; uuid_is = l.uuid_is; s = l.s; s_there = l.s_there; state = l.state; index_is = l.index_is; shard_is = l.shard_is; base = l.base; ids = l.ids };
+      shard = λ f b r o k i n l. record { op = l.op; op_there = l.op_there; uuid_is = l.uuid_is; source_is = l.source_is; s = l.s; s_there = l.s_there; state = l.state; index_is = l.index_is; shard_is = l.shard_is; base = l.base; ids = l.ids };
       final = λ f r o i rs m l. record { op = l.op; op_there = l.op_there; done = l.done; info_is = l.info_is; made_is = l.made_is; root_is = l.root_is };
     }
 
@@ -206,7 +206,7 @@ module _ (f : Formats) (w : World) (shelf : List Shelved) (l : Sound f w shelf) 
         ]);
   }
 
-  pub settle_law : (k n : ℕ) (t : Ticket) (s : Swap) → MaySettle f w k n t s → t.term ≡ w.term → (info : SnapInfo) (results : List ShardResult) (made : Shelved) → t.work ≡ Finalize info results made → Sound f (settled w k t n s.root) (shelf_after shelf s.commands)
+  pub settle_law : (k n : ℕ) (t : Ticket) (s : Swap) → MaySettle f w k n t s → t.term ≡ w.term → (info : SnapInfo) (results : List ShardResult) (made : Command) → t.work ≡ Finalize info results made → Sound f (settled w k t n s.root) (shelf_after shelf s.commands)
   settle_law k n t s may present info results made work = record {
     rooted = settles f w shelf k n t s l.rooted may present;
     carried = settles_shards f w shelf k n t s l.rooted l.carried may present info results made work;

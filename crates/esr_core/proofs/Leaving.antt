@@ -44,6 +44,7 @@ module _ (f : Formats) (has : BlobName → Bytes → Type 0) (root : RootData) (
           op = l.op;
           op_there = stays_in ops o u.op (λ same. idle j (record { t = u; there = e; out = out; op_is = same; counts = inl (subst IsShard (sym is) tt) })) ∙ l.op_there;
           uuid_is = l.uuid_is;
+          source_is = l.source_is;
           s = l.s;
           s_there = l.s_there;
           state = l.state;

@@ -14,33 +14,33 @@ use Rattle.esr_core.specs.After.{asked, raised, with_given, settled_of, dropped_
 use Rattle.esr_core.specs.Entry as entry
 use Rattle.esr_core.specs.Allowed as allowed
 use Rattle.esr_core.specs.Allowed.{Settles, SettlesDeletion, PruneAllows, Allows, Allowed, IsDeposed}
-use Rattle.esr_core.specs.History.{world_from, IsLegal, AllKnown, AreTold, AreHonest, counts, is_settle, command_of, commands_at, committed}
+use Rattle.esr_core.specs.History.{world_from, IsLegal, TellsHandedOut, AreTold, AreHonest, counts, is_settle, command_of, commands_at, committed}
 use Rattle.esr_core.specs.Left.{cut_off, Leaves, safe_of, safe_by, safe_in}
 use Rattle.esr_core.proofs.Reading.{some_same}
 use Rattle.esr_core.proofs.AskedDeletes.{delete_leaves}
 use Rattle.esr_core.proofs.Moments.{moment, settled_plain, delete_settled_plain}
 use Rattle.esr_core.proofs.Laws.{kept_of}
 use Rattle.esr_core.proofs.Lists.{shelf_after-append}
-use Rattle.esr_core.proofs.Histories.{settled_above, deposed_stays, step_law, legal_law, image_is, legal_parts, told_parts, honest_parts, later_none}
+use Rattle.esr_core.proofs.Histories.{settled_above, deposed_stays, step_law, image_is, legal_parts, later_none}
 
 -- ---- how many roots there are up to the safe one
 
 safe_reads : (f : Formats) (i : Image) (c : ClusterRecord) → i.text ≡ Some (f.cluster.text c) → ReadsBack f.cluster c → safe_in f i ≡ c.ledger.safe
 safe_reads f i c there back = ap (safe_by f) there ∙ ap safe_of back
 
-safe_now : (f : Formats) (w : World) (i : Image) → ReadsBack f.cluster (record_of w) → i ≡ image_of f w → safe_in f i ≡ w.safe
+pub safe_now : (f : Formats) (w : World) (i : Image) → ReadsBack f.cluster (record_of w) → i ≡ image_of f w → safe_in f i ≡ w.safe
 safe_now f w i back same = safe_reads f i (record_of w) (ap (λ (x : Image). x.text) same) back
 
-safe_cut : (f : Formats) (size : ℕ) (w : World) (m : Moment) (i : Image) → Allowed f size w (cut_off m i) → safe_in f i ≡ (after f w (cut_off m i)).safe
+pub safe_cut : (f : Formats) (size : ℕ) (w : World) (m : Moment) (i : Image) → Allowed f size w (cut_off m i) → safe_in f i ≡ (after f w (cut_off m i)).safe
 safe_cut f size w m i cut = safe_reads f i (record_of (after f w (cut_off m i))) (cut.text i refl) cut.record_back
 
 -- ---- a call that fails and is no settle's leaves the safe root
 
-given_safe : (w : World) (k : ℕ) (g : Ticket → Ticket) (o : Option Ticket) → (with_given w k g o).safe ≡ w.safe
+pub given_safe : (w : World) (k : ℕ) (g : Ticket → Ticket) (o : Option Ticket) → (with_given w k g o).safe ≡ w.safe
 given_safe w k g None = refl
 given_safe w k g (Some t) = refl
 
-dropped_safe : (w : World) (k : ℕ) (o : Option Ticket) → (dropped_of w k o).safe ≡ w.safe
+pub dropped_safe : (w : World) (k : ℕ) (o : Option Ticket) → (dropped_of w k o).safe ≡ w.safe
 dropped_safe w k None = refl
 dropped_safe w k (Some t) = refl
 
@@ -57,10 +57,12 @@ left_safe w name None (Some bytes) = refl
 left_safe w name None None = refl
 left_safe w name (Some was) now = refl
 
-fault_safe : (f : Formats) (w : World) (k : ℕ) (step : Step) (image : Option Image) → is_settle step ≡ false → (faulted f w k step image).safe ≡ w.safe
+pub fault_safe : (f : Formats) (w : World) (k : ℕ) (step : Step) (image : Option Image) → is_settle step ≡ false → (faulted f w k step image).safe ≡ w.safe
 fault_safe f w k (AskStep (Snapshot name indices time)) image e =
     let up : World = asked w (Snapshot name indices time) in either_safe w up (has_text image (f.cluster.text (record_of up))) refl
-fault_safe f w k (AskStep (entry.Clone source name indices time)) image e = either_safe w w (has_text image (f.cluster.text (record_of w))) refl
+fault_safe f w k (AskStep (entry.Clone source name indices time None)) image e = either_safe w w (has_text image (f.cluster.text (record_of w))) refl
+fault_safe f w k (AskStep (entry.Clone source name indices time (Some taken))) image e =
+    let up : World = asked w (entry.Clone source name indices time (Some taken)) in either_safe w up (has_text image (f.cluster.text (record_of up))) refl
 fault_safe f w k (AskStep (entry.DeleteSnapshots names)) image e =
     let up : World = asked w (entry.DeleteSnapshots names) in either_safe w up (has_text image (f.cluster.text (record_of up))) (ap (λ (x : World). x.safe) (delete_leaves w names))
 fault_safe f w k (AskStep entry.Cleanup) image e = either_safe w w (has_text image (f.cluster.text (record_of w))) refl
@@ -111,7 +113,7 @@ settles_alike f size w shelf l who reply image left (allowed.SettleStale k n t s
     absurd (apart (ap (λ (x : Ticket). x.term) one ∙ cut.present))
 settles_alike f size w shelf l who reply image left (allowed.SettleFails k im s same) cut = record { counted = λ safe. refl; ends = inl refl }
 
-allows_pruned : {f : Formats} {size : ℕ} {w : World} {who : ℕ} {prune : Prune} {reply : Reply} {image : Option Image} → Allows f size w who (PruneStep prune) reply image → PruneAllows f w who prune reply image
+pub allows_pruned : {f : Formats} {size : ℕ} {w : World} {who : ℕ} {prune : Prune} {reply : Reply} {image : Option Image} → Allows f size w who (PruneStep prune) reply image → PruneAllows f w who prune reply image
 allows_pruned (allowed.Pruning k prune rep im h) = h
 
 deletes_by_fault : {f : Formats} {w : World} {who : ℕ} {image : Option Image} → PruneAllows f w who SettlePruned (Refused DepotFault) image → (s : SettlesDeletion f w who) × (s.t.term ≡ w.term)
@@ -137,7 +139,7 @@ no_command f safe w who step reply e = ap (λ (x : Bool). if counts reply && x t
     both true = refl
     both false = refl
 
-which : (step : Step) → (step ≡ SettleStep) ⊎ ((step ≡ PruneStep SettlePruned) ⊎ (is_settle step ≡ false))
+pub which : (step : Step) → (step ≡ SettleStep) ⊎ ((step ≡ PruneStep SettlePruned) ⊎ (is_settle step ≡ false))
 which SettleStep = inl refl
 which (PruneStep SettlePruned) = inr (inl refl)
 which step = inr (inr refl)
@@ -166,16 +168,16 @@ pub record LeftLasts (f : Formats) (w : World) (i : Image) : Type 0 where
 lasts_now : (f : Formats) (w : World) (i : Image) → safe_in f i ≡ w.safe → LeftLasts f w i
 lasts_now f w i e = record { rises = omega (arith, e); alone = λ d. e }
 
-pub left_lasts : (f : Formats) (size : ℕ) (log : List Moment) (w : World) (shelf : List Shelved) (i : Image) → AllKnown f → Law f w shelf → ReadsBack f.cluster (record_of w) → IsLegal f size w log → AreTold log → AreHonest f w log → Leaves f size w log i → LeftLasts f w i
+pub left_lasts : (f : Formats) (size : ℕ) (log : List Moment) (w : World) (shelf : List Shelved) (i : Image) → TellsHandedOut f w log → Law f w shelf → ReadsBack f.cluster (record_of w) → IsLegal f size w log → AreTold log → AreHonest f w log → Leaves f size w log i → LeftLasts f w i
 left_lasts f size [] w shelf i known l back legal told honest now = lasts_now f w i (safe_now f w i back now)
 left_lasts f size (m ∷ log) w shelf i known l back legal told honest (inl now) = lasts_now f w i (safe_now f w i back now)
 left_lasts f size (m ∷ log) w shelf i known l back legal told honest (inr (inl cut)) =
-    let s = step_law f size w shelf known l honest.0 (cut_off m i) i refl cut in
+    let s = step_law f size w shelf known.0 l honest.0 (cut_off m i) i refl cut in
     let e : safe_in f i ≡ (after f w (cut_off m i)).safe = safe_cut f size w m i cut in
     record { rises = omega (arith, s.rises, e); alone = λ d. e ∙ (s.alone d).1 }
 left_lasts f size (m ∷ log) w shelf i known l back legal told honest (inr (inr later)) =
-    let s = step_law f size w shelf known l honest.0 m told.0.0 told.0.1 legal.0 in
-    let rest = left_lasts f size log (after f w m) (shelf_after shelf s.commands) i known s.law legal.0.record_back legal.1 told.1 honest.1 later in
+    let s = step_law f size w shelf known.0 l honest.0 m told.0.0 told.0.1 legal.0 in
+    let rest = left_lasts f size log (after f w m) (shelf_after shelf s.commands) i known.1 s.law legal.0.record_back legal.1 told.1 honest.1 later in
     record { rises = omega (arith, s.rises, rest.rises); alone = λ d. let h = s.alone d in rest.alone h.0 ∙ h.1 }
 
 -- ---- what is left is kept
@@ -193,52 +195,52 @@ deposed_none f size (m ∷ log) w safe d legal =
     let rest : committed f safe (after f w m) log ≡ [] = deposed_none f size log (after f w m) safe (ap (λ (x : World). x.deposed) (deposed_stays f w m dead) ∙ d) legal.1 in
     λ j. mine j ++ rest j
 
-now_kept : (f : Formats) (size : ℕ) (log : List Moment) (w : World) (shelf : List Shelved) (i : Image) → AllKnown f → Law f w shelf → ReadsBack f.cluster (record_of w) → IsLegal f size w log → AreTold log → AreHonest f w log → i ≡ image_of f w
+now_kept : (f : Formats) (size : ℕ) (log : List Moment) (w : World) (shelf : List Shelved) (i : Image) → TellsHandedOut f w log → Law f w shelf → ReadsBack f.cluster (record_of w) → IsLegal f size w log → AreTold log → AreHonest f w log → i ≡ image_of f w
     → Kept f i (shelf_after shelf (committed f (safe_in f i) w log))
 now_kept f size log w shelf i known l back legal told honest now =
     let e : safe_in f i ≡ w.safe = safe_now f w i back now in
     let none : committed f (safe_in f i) w log ≡ [] = later_none f size log w shelf (safe_in f i) known l (omega (arith, e)) legal told honest in
     subst (λ x. Kept f x (shelf_after shelf (committed f (safe_in f i) w log))) (sym now) (subst (λ cs. Kept f (image_of f w) (shelf_after shelf cs)) (sym none) (kept_of f w shelf l back))
 
-cut_kept : (f : Formats) (size : ℕ) (m : Moment) (log : List Moment) (w : World) (shelf : List Shelved) (i : Image) → AllKnown f → Law f w shelf → IsLegal f size w (m ∷ log) → AreTold (m ∷ log) → AreHonest f w (m ∷ log) → Allowed f size w (cut_off m i)
+cut_kept : (f : Formats) (size : ℕ) (m : Moment) (log : List Moment) (w : World) (shelf : List Shelved) (i : Image) → TellsHandedOut f w (m ∷ log) → Law f w shelf → IsLegal f size w (m ∷ log) → AreTold (m ∷ log) → AreHonest f w (m ∷ log) → Allowed f size w (cut_off m i)
     → Kept f i (shelf_after shelf (committed f (safe_in f i) w (m ∷ log)))
 cut_kept f size m log w shelf i known l legal told honest cut =
     let safe : ℕ = safe_in f i in
     let fallen : World = after f w (cut_off m i) in
     let e : safe ≡ fallen.safe = safe_cut f size w m i cut in
-    let c = step_law f size w shelf known l honest.0 (cut_off m i) i refl cut in
-    let s = step_law f size w shelf known l honest.0 m told.0.0 told.0.1 legal.0 in
+    let c = step_law f size w shelf known.0 l honest.0 (cut_off m i) i refl cut in
+    let s = step_law f size w shelf known.0 l honest.0 m told.0.0 told.0.1 legal.0 in
     let alive = cut_alive f size w m i cut in
     let a = alike_by f size w shelf l m.entry.who m.entry.step m.entry.reply m.image (Some i) s.rises (allows_alive f size w m alive.0 legal.0) alive.1 in
     let mine : commands_at f safe w m.entry.who m.entry.step m.entry.reply ≡ c.commands = a.counted safe ∙ c.counted safe (omega (arith, e)) (λ d. e) in
     let rest : committed f safe (after f w m) log ≡ [] = elim a.ends [
       | inl d ↦ deposed_none f size log (after f w m) safe d legal.1
-      | inr below ↦ let b : fallen.safe ≤ (after f w m).safe = below in later_none f size log (after f w m) (shelf_after shelf s.commands) safe known s.law (omega (arith, e, b)) legal.1 told.1 honest.1
+      | inr below ↦ let b : fallen.safe ≤ (after f w m).safe = below in later_none f size log (after f w m) (shelf_after shelf s.commands) safe known.1 s.law (omega (arith, e, b)) legal.1 told.1 honest.1
     ] in
     let all : committed f safe w (m ∷ log) ≡ c.commands = (λ j. mine j ++ rest j) ∙ nil c.commands in
     subst (λ x. Kept f x (shelf_after shelf (committed f safe w (m ∷ log)))) (sym (image_is f size w (cut_off m i) i refl cut))
     (subst (λ cs. Kept f (image_of f fallen) (shelf_after shelf cs)) (sym all) (kept_of f fallen (shelf_after shelf c.commands) c.law cut.record_back))
 
-pub left_kept : (f : Formats) (size : ℕ) (log : List Moment) (w : World) (shelf : List Shelved) (i : Image) → AllKnown f → Law f w shelf → ReadsBack f.cluster (record_of w) → IsLegal f size w log → AreTold log → AreHonest f w log → Leaves f size w log i
+pub left_kept : (f : Formats) (size : ℕ) (log : List Moment) (w : World) (shelf : List Shelved) (i : Image) → TellsHandedOut f w log → Law f w shelf → ReadsBack f.cluster (record_of w) → IsLegal f size w log → AreTold log → AreHonest f w log → Leaves f size w log i
     → Kept f i (shelf_after shelf (committed f (safe_in f i) w log))
 left_kept f size [] w shelf i known l back legal told honest now = now_kept f size [] w shelf i known l back legal told honest now
 left_kept f size (m ∷ log) w shelf i known l back legal told honest (inl now) = now_kept f size (m ∷ log) w shelf i known l back legal told honest now
 left_kept f size (m ∷ log) w shelf i known l back legal told honest (inr (inl cut)) = cut_kept f size m log w shelf i known l legal told honest cut
 left_kept f size (m ∷ log) w shelf i known l back legal told honest (inr (inr later)) =
-    let s = step_law f size w shelf known l honest.0 m told.0.0 told.0.1 legal.0 in
-    let lasts = left_lasts f size log (after f w m) (shelf_after shelf s.commands) i known s.law legal.0.record_back legal.1 told.1 honest.1 later in
+    let s = step_law f size w shelf known.0 l honest.0 m told.0.0 told.0.1 legal.0 in
+    let lasts = left_lasts f size log (after f w m) (shelf_after shelf s.commands) i known.1 s.law legal.0.record_back legal.1 told.1 honest.1 later in
     let cs : List Command = committed f (safe_in f i) (after f w m) log in
     let mine : commands_at f (safe_in f i) w m.entry.who m.entry.step m.entry.reply ≡ s.commands = s.counted (safe_in f i) lasts.rises lasts.alone in
-    let kept : Kept f i (shelf_after (shelf_after shelf s.commands) cs) = left_kept f size log (after f w m) (shelf_after shelf s.commands) i known s.law legal.0.record_back legal.1 told.1 honest.1 later in
+    let kept : Kept f i (shelf_after (shelf_after shelf s.commands) cs) = left_kept f size log (after f w m) (shelf_after shelf s.commands) i known.1 s.law legal.0.record_back legal.1 told.1 honest.1 later in
     subst (Kept f i) (sym (shelf_after-append shelf s.commands cs) ∙ ap (λ ds. shelf_after shelf (ds ++ cs)) (sym mine)) kept
 
 -- ---- a settle that was answered
 
-no_answer : (reply : Reply) (place : ℕ) → reply ≡ WasSettled → reply ≡ Refused (DeposedAt place) → ⊥
+pub no_answer : (reply : Reply) (place : ℕ) → reply ≡ WasSettled → reply ≡ Refused (DeposedAt place) → ⊥
 no_answer reply place a b = cc
 
 -- its root is the safe one
-settled_safe : (f : Formats) (size : ℕ) (w : World) (m : Moment) (t : Ticket) (n : ℕ) → Allowed f size w m → m.entry.step ≡ SettleStep → m.entry.reply ≡ WasSettled → fin.get w.tickets m.entry.who ≡ Some t → t.raised ≡ Some n → (after f w m).safe ≡ suc n
+pub settled_safe : (f : Formats) (size : ℕ) (w : World) (m : Moment) (t : Ticket) (n : ℕ) → Allowed f size w m → m.entry.step ≡ SettleStep → m.entry.reply ≡ WasSettled → fin.get w.tickets m.entry.who ≡ Some t → t.raised ≡ Some n → (after f w m).safe ≡ suc n
 settled_safe f size w m t n a step reply there raised =
     let who : ℕ = m.entry.who in
     let allows : Allows f size w who m.entry.step m.entry.reply m.image = elim a.answered [ inl h ↦ h.1 | inr dead ↦ absurd (no_answer m.entry.reply dead.place reply dead.refused) ] in
@@ -249,20 +251,6 @@ settled_safe f size w m t n a step reply there raised =
     ∙ ap (λ x. (answered f w who SettleStep x m.image).safe) reply
     ∙ ap (λ (x : World). x.safe) (settled_plain f w who s)
     ∙ ap suc same
-
-pub settle_left : (f : Formats) (size : ℕ) (before rest : List Moment) (w : World) (shelf : List Shelved) (m : Moment) (t : Ticket) (n : ℕ) (i : Image) → AllKnown f → Law f w shelf → IsLegal f size w (before ++ m ∷ rest) → AreTold (before ++ m ∷ rest) → AreHonest f w (before ++ m ∷ rest)
-    → m.entry.step ≡ SettleStep → m.entry.reply ≡ WasSettled → fin.get (world_from f w before).tickets m.entry.who ≡ Some t → t.raised ≡ Some n → Leaves f size (after f (world_from f w before) m) rest i → suc n ≤ safe_in f i
-settle_left f size before rest w shelf m t n i known l legal told honest step reply there raised left =
-    let here : World = world_from f w before in
-    let legals = legal_parts f size before (m ∷ rest) w legal in
-    let tolds = told_parts before (m ∷ rest) told in
-    let honests = honest_parts f before (m ∷ rest) w honest in
-    let mid : List Shelved = shelf_after shelf (committed f here.safe w before) in
-    let law : Law f here mid = legal_law f size before w shelf known l legals.0 tolds.0 honests.0 in
-    let s = step_law f size here mid known law honests.1.0 m tolds.1.0.0 tolds.1.0.1 legals.1.0 in
-    let lasts = left_lasts f size rest (after f here m) (shelf_after mid s.commands) i known s.law legals.1.0.record_back legals.1.1 tolds.1.1 honests.1.1 left in
-    let e : (after f here m).safe ≡ suc n = settled_safe f size here m t n legals.1.0 step reply there raised in
-    omega (arith, e, lasts.rises)
 
 -- ---- over a longer history a crash may leave the same
 

@@ -9,6 +9,7 @@ pub mod Owning
 pub mod Staging
 pub mod Finalizing
 pub mod Marked
+pub mod SafeRoots
 pub mod Same
 pub mod SettleShards
 pub mod Adds
@@ -54,6 +55,10 @@ pub mod Exists
 pub mod Determined
 pub mod Storing
 pub mod Accepting
+pub mod Chosen
+pub mod Copying
+pub mod Cloning
+pub mod AskedClones
 pub mod AskedDeletes
 pub mod ListedInfo
 pub mod PrunedShards
@@ -65,6 +70,7 @@ pub mod DoomedNames
 pub mod PruneTurns
 pub mod PruneFrames
 pub mod NoDeletes
+pub mod NoClones
 pub mod Moments
 pub mod Histories
 pub mod Left

@@ -1,6 +1,5 @@
 -- What stands of a listed snapshot, and its info. The info of one that a finalization made is the one that is there.
-use Rattle.std.proofs.Common.{◌≡◌, ℕ, List, [], ◌∷◌, Some, map, refl, sym, ap, ◌∙◌, subst, inl, inr}
-use Rattle.std.specs.FinMap as fin
+use Rattle.std.proofs.Common.{◌≡◌, ℕ, List, [], ◌∷◌, map, refl, sym, ap, ◌∙◌, subst, inl, inr}
 use Rattle.esr_model.specs.Names.{BlobName, Snap, Meta, IndexMeta}
 use Rattle.esr_model.specs.Values.{Bytes, Has, IndexRef, RootSnap, SnapInfo, Formats}
 use Rattle.esr_model.specs.Shelf.{Shelved}

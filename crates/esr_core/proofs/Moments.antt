@@ -17,16 +17,17 @@ use Rattle.esr_core.specs.Steps.{IsOut, PutsLatest, Raise, with_ticket, noting, 
 use Rattle.esr_core.specs.Pruning.{dooms}
 use Rattle.esr_core.specs.Ids.{Law}
 use Rattle.esr_core.specs.Queue.{Lists}
-use Rattle.esr_core.specs.Entry.{Asked, Snapshot, DeleteSnapshots, Given, GivenShard, GivenFinalize, GivenDrop, Why, Step, AskStep, TakeStep, DrawStep, BeginStep, CommitStep, LatestStep, FetchStep, ListStep, RaiseStep, SettleStep, DoneStep, FailedStep, FinishStep, DroppedStep, ElectStep, LookStep, Refusal, DepotFault, Reply, WasSettled, HasEnded, Refused, Entry, Moment, Restore, Read, ReadBlob, RestoredShard, CheckedAll, ReadFails, ReadStep, AcceptedRestore, GivenRestore, DrawTest, BeginTest, CommitTest, RemoveTests, VerifiedAll, GivenClone, GivenDelete, GivenCleanup, Prune, PruneStep}
-use Rattle.esr_core.specs.After.{asked, asked_op, taken_by, taken_shard, with_given, change, committing, fetching, told_blob, settled_of, settled_by, failed_of, failed_by, is_stale, dropped_of, is_latest, tried, blobs_in, after, stepped, caller_after, read_told, read_over, shard_over, taken_restore, taken_restore_shard, test_left, delete_settled, delete_settled_by}
+use Rattle.esr_core.specs.Entry.{CloneOf, Asked, Snapshot, DeleteSnapshots, Given, GivenShard, GivenFinalize, GivenDrop, Why, Step, AskStep, TakeStep, DrawStep, BeginStep, CommitStep, LatestStep, FetchStep, ListStep, RaiseStep, SettleStep, DoneStep, FailedStep, FinishStep, DroppedStep, ElectStep, LookStep, Refusal, DepotFault, Reply, WasSettled, HasEnded, Refused, Entry, Moment, Restore, Read, ReadBlob, RestoredShard, CheckedAll, ReadFails, ReadStep, AcceptedRestore, GivenRestore, DrawTest, BeginTest, CommitTest, RemoveTests, VerifiedAll, GivenClone, GivenDelete, GivenCleanup, Prune, PruneStep}
+use Rattle.esr_core.specs.After.{asked, asked_op, cloned_op, clone_opened, taken_by, taken_shard, with_given, change, committing, fetching, told_blob, settled_of, settled_by, failed_of, failed_by, is_stale, dropped_of, is_latest, tried, blobs_in, after, stepped, caller_after, read_told, read_over, shard_over, taken_restore, taken_restore_shard, test_left, delete_settled, delete_settled_by}
 use Rattle.esr_core.specs.Allowed as allowed
-use Rattle.esr_core.specs.Allowed.{PruneAllows, latest_text, Told, SameBlobs, Adds, Accepts, Gives, GivesShard, GivesFinalize, Draws, Commits, Refinds, Puts, Raises, Settles, Fails, Finishes, Drops, Dones, Allows, MayRead, Fetcher, ByReader, ByCheck, MayDelete, DeleteAllows, GoingInto, NotNamed, CloneStands, RestoreStands, FullOfOps, DeleteFault, RestoreAllows, OpeningRestore, NotListed, NamedByDelete, FullOfRestores, ReadAllows, ReadFound, ReadMissing, ReadFault, RestoringShard, ReaderFailing, CheckingAll, CheckFailing, ByVerify, IsOwnTest, MayRemoveTests, VerifyAllows, DrawingTest, TestSpent, BeginningTest, BeginTestFails, CommittingTest, TestTaken, CommitTestFails, RemovingTests, RemoveTestsFails, VerifyingAll, VerifyFailing}
+use Rattle.esr_core.specs.Allowed.{PruneAllows, latest_text, Told, SameBlobs, Adds, Accepts, Gives, GivesShard, GivesFinalize, Draws, Commits, Refinds, Puts, Raises, Settles, Fails, Finishes, Drops, Dones, Allows, MayRead, Fetcher, ByReader, ByCheck, MayDelete, DeleteAllows, GoingInto, NotNamed, CloneStands, RestoreStands, FullOfOps, DeleteFault, RestoreAllows, OpeningRestore, NotListed, NamedByDelete, FullOfRestores, AcceptsClone, CloneAllows, OpeningClone, CloneUsed, SourceNotListed, SourceDeleted, IndexMissing, FullOfClones, CloneSpent, CloneFault, ReadAllows, ReadFound, ReadMissing, ReadFault, RestoringShard, ReaderFailing, CheckingAll, CheckFailing, ByVerify, IsOwnTest, MayRemoveTests, VerifyAllows, DrawingTest, TestSpent, BeginningTest, BeginTestFails, CommittingTest, TestTaken, CommitTestFails, RemovingTests, RemoveTestsFails, VerifyingAll, VerifyFailing}
 use Rattle.esr_core.specs.History.{counts, is_settle, command_of, command_by, commands_at}
 use Rattle.esr_core.specs.Turns.{AskCreate, AsksCreate, plain_ticket, SettleFinal, Failed, Dropped, Turn, Stays, Latests, Fetches, Raises as RaisesTurn, Finds, SettlesFinal, Elects, TakesShard, TakesFinal, TakesDrop, DrawsShard, Ending, Fails as FailsTurn, Drops as DropsTurn, Deposes, commands_of, Besides, OpensRestore, HandsShard, ReadsMore, EndsShard, Calls, Tests, DrawsTest, AddsTest, RemovesTests, TakesDelete}
 use Rattle.esr_core.specs.Turns as turns
 use Rattle.esr_core.specs.Entry as entry
 use Rattle.esr_core.specs.Deletes.{delete_number, asked_delete}
 use Rattle.esr_core.proofs.AskedDeletes.{delete_leaves, delete_turn}
+use Rattle.esr_core.proofs.AskedClones.{accepted_clone}
 use Rattle.esr_core.proofs.Maps.{get_same, texts_same}
 use Rattle.esr_core.proofs.Reading.{some_same}
 use Rattle.esr_core.proofs.ListedInfo.{made_info}
@@ -120,7 +121,13 @@ module _ (f : Formats) (w : World) where
         root_back = g.root_back;
         new_is = λ j. record (taken_by f w o (GivenFinalize info results) (g.ready.op_there j)) { blobs = blobs_same w image same j };
       })) refl refl
-  gives_turn k o (GivenClone index number source base) image g same = absurd g
+  gives_turn k o (GivenClone index number source base) image g same =
+      plain f w 0 TakeStep (entry.Gave k o (GivenClone index number source base)) _
+      (TakesShard _ o g.op g.s base (record {
+        ready = g.ready;
+        largest = g.largest;
+        new_is = (λ j. record (taken_by f w o (GivenClone index number source base) (g.ready.op_there j)) { blobs = blobs_in image w.blobs }) ∙ (λ j. record (taken_shard w o g.op base (g.found j)) { blobs = blobs_same w image same j });
+      })) refl refl
   gives_turn k o (GivenDelete uuids) image g same =
       plain f w 0 TakeStep (entry.Gave k o (GivenDelete uuids)) _ (TakesDelete _ o g.0 (record { ready = g.1; new_is = deleting (fin.get w.ops o) })) refl refl
     where
@@ -343,6 +350,33 @@ module _ (f : Formats) (size : ℕ) (w : World) (shelf : List Shelved) (l : Law 
   ask_fails name indices time image acc same =
       falls_plain f w 0 (AskStep (Snapshot name indices time)) (asked w (Snapshot name indices time)) (asked w (Snapshot name indices time)) (AsksCreate _ (asked_op w name indices time) (asking name indices time w.next_op acc)) _ image same refl refl refl refl
 
+  -- ---- a clone that is asked
+
+  -- the indices of its source are those of the info that is there
+  clone_info : (source name : Bytes) (names : List Bytes) (time o : ℕ) (taken : CloneOf) (image : Option Image) → image ≡ Some i → (acc : AcceptsClone f w source name names time o taken image) → allowed.IsInInfo f w taken.source acc.all
+  clone_info source name names time o taken image told acc =
+      let listed : Lists w.root taken.source = (acc.may.copies.listed.0, acc.may.copies.listed.1, acc.may.copies.listed.3) in
+      elim acc.all_of.told [
+        | inl made ↦ made_info f w shelf l taken.source acc.all listed made
+        | inr there ↦ of_told i image (λ blobs. allowed.IsInInfo f w taken.source acc.all) told there
+      ]
+
+  clone_asked : (source name : Bytes) (names : List Bytes) (time o : ℕ) (taken : CloneOf) (image : Option Image) → image ≡ Some i → AcceptsClone f w source name names time o taken image → AskCreate f w (cloned_op w name time taken) (clone_opened w name time taken)
+  clone_asked source name names time o taken image told acc = accepted_clone f w source name names time o taken image acc shelf l (clone_info source name names time o taken image told acc)
+
+  asks_clone : (source name : Bytes) (names : List Bytes) (time : ℕ) (taken : Option CloneOf) (reply : Reply) (image : Option Image) → image ≡ Some i → CloneAllows f w source name names time taken reply image → SameBlobs w image
+      → Turned f w 0 (AskStep (entry.Clone source name names time taken)) reply (stepped f w (moment 0 (AskStep (entry.Clone source name names time taken)) reply image))
+  asks_clone source name names time taken reply image told (OpeningClone t o im acc) same =
+      plain f w 0 _ _ _ (AsksCreate _ (cloned_op w name time t) (subst (AskCreate f w (cloned_op w name time t)) (λ j. record (clone_opened w name time t) { blobs = sym (blobs_same w im same) j }) (clone_asked source name names time o t im told acc))) refl refl
+  asks_clone source name names time taken reply image told (CloneUsed uuid im clear is) same = stays f w 0 (AskStep (entry.Clone source name names time None)) _ im same refl
+  asks_clone source name names time taken reply image told (SourceNotListed im may none) same = stays f w 0 (AskStep (entry.Clone source name names time None)) _ im same refl
+  asks_clone source name names time taken reply image told (SourceDeleted uuid d im may listed named) same = stays f w 0 (AskStep (entry.Clone source name names time None)) _ im same refl
+  asks_clone source name names time taken reply image told (IndexMissing uuid place im may missing) same = stays f w 0 (AskStep (entry.Clone source name names time None)) _ im same refl
+  asks_clone source name names time taken reply image told (FullOfClones uuid im may full) same = stays f w 0 (AskStep (entry.Clone source name names time None)) _ im same refl
+  asks_clone source name names time taken reply image told (CloneSpent uuid im may room spent) same = stays f w 0 (AskStep (entry.Clone source name names time None)) _ im same refl
+  asks_clone source name names time taken reply image told (CloneFault t im acc) same =
+      falls_plain f w 0 (AskStep (entry.Clone source name names time (Some t))) (clone_opened w name time t) (clone_opened w name time t) (AsksCreate _ (cloned_op w name time t) (clone_asked source name names time w.next_op t im told acc)) _ im same refl refl refl refl
+
   -- ---- a delete that is asked
 
   going_into : (names : List Bytes) (image : Option Image) → MayDelete w names → SameBlobs w image → Turned f w 0 (AskStep (DeleteSnapshots names)) (entry.Accepted (delete_number w names)) (stepped f w (moment 0 (AskStep (DeleteSnapshots names)) (entry.Accepted (delete_number w names)) image))
@@ -519,7 +553,7 @@ module _ (f : Formats) (size : ℕ) (w : World) (shelf : List Shelved) (l : Law 
       latest_turn f w k LatestStep entry.WasReplaced im c refl (blobs_in im w.blobs) (inr (latest_text c.n, blobs_told w i im told ∙ here, named))
   turn_of who step reply image told (allowed.Fetching k name im g found) =
       let here = of_told i im (λ blobs. (bytes : Bytes) × (fin.get w.blobs (f.names.text name) ≡ Some bytes) × (blobs ≡ w.blobs)) told found in
-      subst (λ x. Turned f w k (FetchStep name) entry.WasFetched (stepped f w (moment k (FetchStep name) entry.WasFetched x))) (sym told) (fetch_turn f w k name i g.t g.out (subst IsShard (sym g.work) tt) here.0 (here.1, g.stored) here.2)
+      subst (λ x. Turned f w k (FetchStep name) entry.WasFetched (stepped f w (moment k (FetchStep name) entry.WasFetched x))) (sym told) (fetch_turn f w k name i g.t g.out (subst IsShard (sym g.to_fetch.2) tt) here.0 (here.1, g.stored) here.2)
   turn_of who step reply image told (allowed.Missing k name im g found) =
       let here = of_told i im (λ blobs. (fin.get w.blobs (f.names.text name) ≡ None) × (blobs ≡ w.blobs)) told found in
       stays f w k (FetchStep name) entry.WasAbsent im (subst (SameBlobs w) (sym told) here.1) refl
@@ -536,6 +570,7 @@ module _ (f : Formats) (size : ℕ) (w : World) (shelf : List Shelved) (l : Law 
   turn_of who step reply image told (allowed.Electing im room same) = plain f w 0 ElectStep _ _ (Elects _ (record { new_is = λ j. record w { term = suc w.term; next_id = first_id (suc w.term); blobs = blobs_same w im same j } })) refl refl
   turn_of who step reply image told (allowed.Looking im same) = stays f w 0 LookStep _ im same refl
   turn_of who step reply image told (allowed.AskingRestore name place rep im h same) = asks_restore name place rep im told h same
+  turn_of who step reply image told (allowed.AskingClone source name names time taken rep im h same) = asks_clone source name names time taken rep im told h same
   turn_of who step reply image told (allowed.AskingDelete names rep im h same) = asks_delete names rep im h same
   turn_of who step reply image told (allowed.Reading k read rep im h same) = reads k read rep im told h same
   turn_of who step reply image told (allowed.Verifying read rep im h) = verifies read rep im told h

@@ -1,15 +1,16 @@
 -- The names and ids of a root and of the open ops, after each kind of change.
-use Rattle.std.proofs.Common.{◌≡◌, ◌≢◌, ◌⊎◌, ℕ, suc, ◌+◌, ◌<◌, ◌≤◌, List, [], ◌∷◌, Some, None, map, refl, sym, ap, ◌∙◌, subst, inl, inr, arith}
+use Rattle.std.proofs.Common.{◌≡◌, ◌≢◌, ◌⊎◌, ℕ, suc, ◌+◌, ◌<◌, ◌≤◌, List, [], ◌∷◌, Option, Some, None, map, refl, sym, ap, ◌∙◌, subst, inl, inr, arith}
 use Rattle.std.specs.FinMap as fin
-use Rattle.esr_model.specs.Values.{Bytes, Has, IndexRef, RootSnap, RootIndex, RootData, ShardResult}
+use Rattle.esr_model.specs.Values.{Bytes, Has, IndexRef, RootSnap, RootIndex, RootData, ShardResult, Formats}
 use Rattle.esr_model.specs.Places.{places}
 use Rattle.esr_model.specs.Kept.{RootIds}
+use Rattle.esr_model.specs.Image.{Image}
 use Rattle.esr_model.specs.Finalize.{Finalizes, done_at, finalized_root}
-use Rattle.esr_core.specs.World.{World, Op, ShardWork, Done, AllDone, info_of}
+use Rattle.esr_core.specs.World.{World, Op, ShardWork, Pending, Done, AllDone, info_of}
 use Rattle.esr_core.specs.Ids.{OpIds}
-use Rattle.esr_core.specs.Entry.{AskedIndex}
-use Rattle.esr_core.specs.After.{known_id, refs_from, new_names, all_pending, asked_op}
-use Rattle.esr_core.specs.Allowed.{AreDistinct, IsUnused}
+use Rattle.esr_core.specs.Entry.{AskedIndex, CloneOf}
+use Rattle.esr_core.specs.After.{known_id, refs_from, new_names, all_pending, asked_op, cloned_op}
+use Rattle.esr_core.specs.Allowed.{AreDistinct, IsUnused, AcceptsClone}
 use Rattle.esr_core.specs.Tracked.{IsOneIndex, IsWithin, Named}
 use Rattle.esr_core.proofs.Reading.{Has-append, Has-mapped}
 use Rattle.esr_core.proofs.Results.{found_done}
@@ -20,6 +21,7 @@ use Rattle.esr_core.proofs.Queues.{Ops, was_in, left_in}
 use Rattle.esr_core.proofs.Evolving.{pending_done}
 use Rattle.esr_core.proofs.Below.{root_up}
 use Rattle.esr_core.proofs.Accepting.{IsKnownId, ref_known, ref_ids, one_name, one_new, all_places, in_all, pending_one, unknown_root, unknown_open}
+use Rattle.esr_core.proofs.AskedClones.{clone_root, clone_named, copied_pending, copied_places, copied_one}
 
 one_sym : (a b : Bytes) (i j : ℕ) → IsOneIndex a i b j → IsOneIndex b j a i
 one_sym a b i j h = record { one_name = λ e. sym (h.one_name (sym e)); one_id = λ e. sym (h.one_id (sym e)) }
@@ -219,7 +221,84 @@ module _ (root : RootData) (ops : Ops) (next : ℕ) (n : Named root ops next) (o
         root_below = root_ids;
       }
 
--- ---- an op that is accepted
+-- ---- an op that comes
+
+-- one that is new, with the next id after it
+pub record IsNewOp (w : World) (op : Op) (next : ℕ) : Type 0 where
+  pub unused : IsUnused w op.name
+  pub uuid_is : op.uuid ≡ w.next_id
+  pub up : w.next_id ≤ next
+  pub rooted : (r : IndexRef) (x : RootIndex) → Has op.indices r → Has w.root.indices x → IsOneIndex r.name r.id x.name x.id
+  pub opened : (r : IndexRef) (p : ℕ) (q : Op) (z : IndexRef) → Has op.indices r → fin.get w.ops p ≡ Some q → Has q.indices z → IsOneIndex r.name r.id z.name z.id
+  pub one_index : (r q : IndexRef) → Has op.indices r → Has op.indices q → IsOneIndex r.name r.id q.name q.id
+  pub once : (r q : IndexRef) → Has op.indices r → Has op.indices q → r.id ≡ q.id → r ≡ q
+  pub ids : OpIds next op
+  pub shards : map (λ (s : ShardWork). (s.ref, s.number)) op.shards ≡ places op.indices
+  pub distinct : (s z : ShardWork) → Has op.shards s → Has op.shards z → s.ref.id ≡ z.ref.id → s.number ≡ z.number → s ≡ z
+  pub pending : (s : ShardWork) → Has op.shards s → s.state ≡ Pending
+
+module _ (w : World) (n : Named w.root w.ops w.next_id) (op : Op) (next : ℕ) (c : IsNewOp w op next) where
+  open_name : (p : ℕ) (b : Op) → fin.get w.ops p ≡ Some b → b.name ≡ op.name → ⊥
+  open_name p b there q = c.unused b.uuid (inr (p, b, there, q, refl))
+
+  open_uuid : (p : ℕ) (b : Op) → fin.get w.ops p ≡ Some b → b.uuid ≡ op.uuid → ⊥
+  open_uuid p b there q = let h : b.uuid < w.next_id = (n.below p b there).uuid in let e : b.uuid ≡ w.next_id = q ∙ c.uuid_is in omega (arith, h, e)
+
+  pub named_new : Named w.root (fin.insert w.ops w.next_op op) next
+  named_new =
+      let more : Named w.root w.ops next = named_up w.root w.ops w.next_id next c.up n in
+      record {
+        unlisted = λ o a s e m. elim (was_in w.ops w.next_op op o a e) [
+          | inl h ↦ subst (λ (y : Op). (s.name ≢ y.name) × (s.uuid ≢ y.uuid)) h.1 ((λ q. c.unused s.uuid (inl (s, m, q, refl))), (λ q. let b : s.uuid < w.next_id = n.root_below.snapshots s m in let same : s.uuid ≡ w.next_id = q ∙ c.uuid_is in omega (arith, b, same)))
+          | inr h ↦ n.unlisted o a s h.1 m
+        ];
+        apart = λ o p a b e h away. elim (was_in w.ops w.next_op op o a e) [
+          | inl x ↦ elim (was_in w.ops w.next_op op p b h) [
+            | inl y ↦ absurd (away (x.0 ∙ sym y.0))
+            | inr y ↦ subst (λ (z : Op). (z.name ≢ b.name) × (z.uuid ≢ b.uuid)) x.1 ((λ q. open_name p b y.1 (sym q)), (λ q. open_uuid p b y.1 (sym q)))
+          ]
+          | inr x ↦ elim (was_in w.ops w.next_op op p b h) [
+            | inl y ↦ subst (λ (z : Op). (a.name ≢ z.name) × (a.uuid ≢ z.uuid)) y.1 (open_name o a x.1, open_uuid o a x.1)
+            | inr y ↦ n.apart o p a b x.1 y.1 away
+          ]
+        ];
+        unused = λ o a x e m has. elim (was_in w.ops w.next_op op o a e) [
+          | inl h ↦ let b : w.next_id < w.next_id = n.root_below.uuids x w.next_id m (subst (Has x.snapshots) (ap (λ (y : Op). y.uuid) (sym h.1) ∙ c.uuid_is) has) in omega (arith, b)
+          | inr h ↦ n.unused o a x h.1 m has
+        ];
+        indices = λ o p a b r q e h rm qm. elim (was_in w.ops w.next_op op o a e) [
+          | inl x ↦ elim (was_in w.ops w.next_op op p b h) [
+            | inl y ↦ c.one_index r q (subst (λ (z : Op). Has z.indices r) (sym x.1) rm) (subst (λ (z : Op). Has z.indices q) (sym y.1) qm)
+            | inr y ↦ c.opened r p b q (subst (λ (z : Op). Has z.indices r) (sym x.1) rm) y.1 qm
+          ]
+          | inr x ↦ elim (was_in w.ops w.next_op op p b h) [
+            | inl y ↦ one_sym q.name r.name q.id r.id (c.opened q o a r (subst (λ (z : Op). Has z.indices q) (sym y.1) qm) x.1 rm)
+            | inr y ↦ n.indices o p a b r q x.1 y.1 rm qm
+          ]
+        ];
+        once = λ o a r q e rm qm same. elim (was_in w.ops w.next_op op o a e) [
+          | inl h ↦ c.once r q (subst (λ (z : Op). Has z.indices r) (sym h.1) rm) (subst (λ (z : Op). Has z.indices q) (sym h.1) qm) same
+          | inr h ↦ n.once o a r q h.1 rm qm same
+        ];
+        rooted = λ o a r x e rm xm. elim (was_in w.ops w.next_op op o a e) [ inl h ↦ c.rooted r x (subst (λ (z : Op). Has z.indices r) (sym h.1) rm) xm | inr h ↦ n.rooted o a r x h.1 rm xm ];
+        root_indices = n.root_indices;
+        shards = λ o a e. elim (was_in w.ops w.next_op op o a e) [
+          | inl h ↦ subst (λ (z : Op). map (λ (s : ShardWork). (s.ref, s.number)) z.shards ≡ places z.indices) h.1 c.shards
+          | inr h ↦ n.shards o a h.1
+        ];
+        distinct = λ o a s z e sm zm i k. elim (was_in w.ops w.next_op op o a e) [
+          | inl h ↦ c.distinct s z (subst (λ (y : Op). Has y.shards s) (sym h.1) sm) (subst (λ (y : Op). Has y.shards z) (sym h.1) zm) i k
+          | inr h ↦ n.distinct o a s z h.1 sm zm i k
+        ];
+        results = λ o a s r e m state. elim (was_in w.ops w.next_op op o a e) [
+          | inl h ↦ absurd (pending_done (sym (c.pending s (subst (λ (y : Op). Has y.shards s) (sym h.1) m)) ∙ state))
+          | inr h ↦ n.results o a s r h.1 m state
+        ];
+        below = λ o a e. elim (was_in w.ops w.next_op op o a e) [ inl h ↦ subst (OpIds next) h.1 c.ids | inr h ↦ more.below o a h.1 ];
+        root_below = more.root_below;
+      }
+
+-- ---- a snapshot that is accepted
 
 module _ (w : World) (n : Named w.root w.ops w.next_id) (name : Bytes) (indices : List AskedIndex) (moment : ℕ) (apart : AreDistinct indices) (unused : IsUnused w name) where
   abbrev op : Op
@@ -278,67 +357,67 @@ module _ (w : World) (n : Named w.root w.ops w.next_id) (name : Bytes) (indices 
         done = λ s r m e. absurd (pending_done (sym (in_all w indices (suc w.next_id) s m).0 ∙ e));
       }
 
-  pub named_asked : Named w.root (fin.insert w.ops w.next_op (asked_op w name indices moment)) (w.next_id + suc (new_names w indices))
-  named_asked =
-      let more : Named w.root w.ops (w.next_id + suc (new_names w indices)) = named_up w.root w.ops w.next_id (w.next_id + suc (new_names w indices)) (omega arith) n in
+  one_shard : (s z : ShardWork) → Has (all_pending indices (refs_from w (suc w.next_id) indices)) s → Has (all_pending indices (refs_from w (suc w.next_id) indices)) z → s.ref.id ≡ z.ref.id → s.number ≡ z.number → s ≡ z
+  one_shard s z sm zm i k =
+      let made : Op = asked_op w name indices moment in
+      pending_one w indices (suc w.next_id) apart s z sm zm (once s.ref z.ref (shard_ref made s sm (all_places w indices (suc w.next_id))) (shard_ref made z zm (all_places w indices (suc w.next_id))) i) k
+
+  pub new_asked : IsNewOp w (asked_op w name indices moment) (w.next_id + suc (new_names w indices))
+  new_asked =
       record {
-        unlisted = λ o a s e m. elim (was_in w.ops w.next_op op o a e) [
-          | inl h ↦ subst (λ (y : Op). (s.name ≢ y.name) × (s.uuid ≢ y.uuid)) h.1 ((λ q. unused s.uuid (inl (s, m, q, refl))), (λ q. let b : s.uuid < w.next_id = n.root_below.snapshots s m in let same : s.uuid ≡ w.next_id = q in omega (arith, b, same)))
-          | inr h ↦ n.unlisted o a s h.1 m
-        ];
-        apart = λ o p a b e h away. elim (was_in w.ops w.next_op op o a e) [
-          | inl x ↦ elim (was_in w.ops w.next_op op p b h) [
-            | inl y ↦ absurd (away (x.0 ∙ sym y.0))
-            | inr y ↦ subst (λ (z : Op). (z.name ≢ b.name) × (z.uuid ≢ b.uuid)) x.1 ((λ q. open_name p b y.1 (sym q)), (λ q. open_uuid p b y.1 (sym q)))
-          ]
-          | inr x ↦ elim (was_in w.ops w.next_op op p b h) [
-            | inl y ↦ subst (λ (z : Op). (a.name ≢ z.name) × (a.uuid ≢ z.uuid)) y.1 (open_name o a x.1, open_uuid o a x.1)
-            | inr y ↦ n.apart o p a b x.1 y.1 away
-          ]
-        ];
-        unused = λ o a x e m has. elim (was_in w.ops w.next_op op o a e) [
-          | inl h ↦ let b : w.next_id < w.next_id = n.root_below.uuids x w.next_id m (subst (λ (y : Op). Has x.snapshots y.uuid) (sym h.1) has) in omega (arith, b)
-          | inr h ↦ n.unused o a x h.1 m has
-        ];
-        indices = λ o p a b r q e h rm qm. elim (was_in w.ops w.next_op op o a e) [
-          | inl x ↦ elim (was_in w.ops w.next_op op p b h) [
-            | inl y ↦ new_new r q (subst (λ (z : Op). Has z.indices r) (sym x.1) rm) (subst (λ (z : Op). Has z.indices q) (sym y.1) qm)
-            | inr y ↦ new_open r p b q (subst (λ (z : Op). Has z.indices r) (sym x.1) rm) y.1 qm
-          ]
-          | inr x ↦ elim (was_in w.ops w.next_op op p b h) [
-            | inl y ↦ one_sym q.name r.name q.id r.id (new_open q o a r (subst (λ (z : Op). Has z.indices q) (sym y.1) qm) x.1 rm)
-            | inr y ↦ n.indices o p a b r q x.1 y.1 rm qm
-          ]
-        ];
-        once = λ o a r q e rm qm same. elim (was_in w.ops w.next_op op o a e) [
-          | inl h ↦ once r q (subst (λ (z : Op). Has z.indices r) (sym h.1) rm) (subst (λ (z : Op). Has z.indices q) (sym h.1) qm) same
-          | inr h ↦ n.once o a r q h.1 rm qm same
-        ];
-        rooted = λ o a r x e rm xm. elim (was_in w.ops w.next_op op o a e) [ inl h ↦ new_root r x (subst (λ (z : Op). Has z.indices r) (sym h.1) rm) xm | inr h ↦ n.rooted o a r x h.1 rm xm ];
-        root_indices = n.root_indices;
-        shards = λ o a e. elim (was_in w.ops w.next_op op o a e) [
-          | inl h ↦ subst (λ (z : Op). map (λ (s : ShardWork). (s.ref, s.number)) z.shards ≡ places z.indices) h.1 (all_places w indices (suc w.next_id))
-          | inr h ↦ n.shards o a h.1
-        ];
-        distinct = λ o a s z e sm zm i k. elim (was_in w.ops w.next_op op o a e) [
-          | inl h ↦ one_shard s z (subst (λ (y : Op). Has y.shards s) (sym h.1) sm) (subst (λ (y : Op). Has y.shards z) (sym h.1) zm) i k
-          | inr h ↦ n.distinct o a s z h.1 sm zm i k
-        ];
-        results = λ o a s r e m state. elim (was_in w.ops w.next_op op o a e) [
-          | inl h ↦ absurd (pending_done (sym (in_all w indices (suc w.next_id) s (subst (λ (y : Op). Has y.shards s) (sym h.1) m)).0 ∙ state))
-          | inr h ↦ n.results o a s r h.1 m state
-        ];
-        below = λ o a e. elim (was_in w.ops w.next_op op o a e) [ inl h ↦ subst (OpIds (w.next_id + suc (new_names w indices))) h.1 mine | inr h ↦ more.below o a h.1 ];
-        root_below = more.root_below;
+        unused = unused;
+        uuid_is = refl;
+        up = omega arith;
+        rooted = new_root;
+        opened = new_open;
+        one_index = new_new;
+        once = once;
+        ids = mine;
+        shards = all_places w indices (suc w.next_id);
+        distinct = one_shard;
+        pending = λ s m. (in_all w indices (suc w.next_id) s m).0;
       }
-    where
-      open_name : (p : ℕ) (b : Op) → fin.get w.ops p ≡ Some b → b.name ≡ name → ⊥
-      open_name p b there q = unused b.uuid (inr (p, b, there, q, refl))
 
-      open_uuid : (p : ℕ) (b : Op) → fin.get w.ops p ≡ Some b → b.uuid ≡ w.next_id → ⊥
-      open_uuid p b there q = let h : b.uuid < w.next_id = (n.below p b there).uuid in omega (arith, h, q)
+-- ---- a clone that is accepted: each of its indices is one of the root
 
-      one_shard : (s z : ShardWork) → Has (all_pending indices (refs_from w (suc w.next_id) indices)) s → Has (all_pending indices (refs_from w (suc w.next_id) indices)) z → s.ref.id ≡ z.ref.id → s.number ≡ z.number → s ≡ z
-      one_shard s z sm zm i k =
-          let made : Op = asked_op w name indices moment in
-          pending_one w indices (suc w.next_id) apart s z sm zm (once s.ref z.ref (shard_ref made s sm (all_places w indices (suc w.next_id))) (shard_ref made z zm (all_places w indices (suc w.next_id))) i) k
+module _ (w : World) (n : Named w.root w.ops w.next_id) (f : Formats) (source name : Bytes) (names : List Bytes) (moment o : ℕ) (taken : CloneOf) (image : Option Image) (a : AcceptsClone f w source name names moment o taken image) where
+  clone_rooted : (r : IndexRef) (x : RootIndex) → Has taken.indices r → Has w.root.indices x → IsOneIndex r.name r.id x.name x.id
+  clone_rooted r x m xm = let (y, ym, yn, yi, has) = clone_root f w source name names moment o taken image a r m in one_at y.name x.name r.name x.name y.id x.id r.id x.id (n.root_indices y x ym xm) yn yi refl refl
+
+  clone_opened_one : (r : IndexRef) (p : ℕ) (q : Op) (z : IndexRef) → Has taken.indices r → fin.get w.ops p ≡ Some q → Has q.indices z → IsOneIndex r.name r.id z.name z.id
+  clone_opened_one r p q z m there zm =
+      let (y, ym, yn, yi, has) = clone_root f w source name names moment o taken image a r m in
+      one_at y.name z.name r.name z.name y.id z.id r.id z.id (one_sym z.name y.name z.id y.id (n.rooted p q z y there zm ym)) yn yi refl refl
+
+  clone_one : (r q : IndexRef) → Has taken.indices r → Has taken.indices q → IsOneIndex r.name r.id q.name q.id
+  clone_one r q m k = let (y, ym, yn, yi, has) = clone_root f w source name names moment o taken image a q k in one_at r.name y.name r.name q.name r.id y.id r.id q.id (clone_rooted r y m ym) refl refl yn yi
+
+  clone_once : (r q : IndexRef) → Has taken.indices r → Has taken.indices q → r.id ≡ q.id → r ≡ q
+  clone_once r q m k e = clone_named f w source name names moment o taken image a r q m k ((clone_one r q m k).one_name e)
+
+  clone_ids : OpIds (suc w.next_id) (cloned_op w name moment taken)
+  clone_ids =
+      record {
+        uuid = omega arith;
+        indices = λ r m. let (y, ym, yn, yi, has) = clone_root f w source name names moment o taken image a r m in let b : y.id < w.next_id = n.root_below.ids y ym in omega (arith, b, yi);
+        done = λ s r m e. absurd (pending_done (sym (copied_pending (places taken.indices) s m) ∙ e));
+      }
+
+  pub new_cloned : IsNewOp w (cloned_op w name moment taken) (suc w.next_id)
+  new_cloned =
+      record {
+        unused = a.may.copies.named.unused;
+        uuid_is = refl;
+        up = omega arith;
+        rooted = clone_rooted;
+        opened = clone_opened_one;
+        one_index = clone_one;
+        once = clone_once;
+        ids = clone_ids;
+        shards = copied_places (places taken.indices);
+        distinct = λ s z sm zm i k.
+            let made : Op = cloned_op w name moment taken in
+            let places_is = copied_places (places taken.indices) in
+            copied_one (places taken.indices) s z sm zm (clone_once s.ref z.ref (shard_ref made s sm places_is) (shard_ref made z zm places_is) i) k;
+        pending = copied_pending (places taken.indices);
+      }

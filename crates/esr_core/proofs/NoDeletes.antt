@@ -7,7 +7,7 @@ use Rattle.esr_model.specs.Values.{Bytes, ShardResult, Formats}
 use Rattle.esr_model.specs.Image.{Image}
 use Rattle.esr_core.specs.World.{World, Op, ShardWork, Swap, Ticket, swap, record_of}
 use Rattle.esr_core.specs.Steps.{noting, with_ticket}
-use Rattle.esr_core.specs.Entry.{Asked, Snapshot, DeleteSnapshots, AsksNoDelete, Restore, Given, GivenShard, GivenFinalize, GivenDrop, GivenRestore, Read, DrawTest, CommitTest, Step, AskStep, TakeStep, DrawStep, BeginStep, CommitStep, LatestStep, FetchStep, RaiseStep, SettleStep, DoneStep, FailedStep, FinishStep, DroppedStep, ElectStep, ReadStep, PruneStep, DepotFault, Reply, Gave, DrawnFrom, WasDone, WasThere, WasFetched, HasEnded, Refused, AcceptedRestore, Moment}
+use Rattle.esr_core.specs.Entry.{Asked, Snapshot, Clone, DeleteSnapshots, AsksNoDelete, Restore, Given, GivenShard, GivenClone, GivenFinalize, GivenDrop, GivenRestore, Read, DrawTest, CommitTest, Step, AskStep, TakeStep, DrawStep, BeginStep, CommitStep, LatestStep, FetchStep, RaiseStep, SettleStep, DoneStep, FailedStep, FinishStep, DroppedStep, ElectStep, ReadStep, PruneStep, DepotFault, Reply, Gave, DrawnFrom, WasDone, WasThere, WasFetched, HasEnded, Refused, AcceptedRestore, Moment}
 use Rattle.esr_core.specs.After.{taken_shard, taken_by, shard_of, with_given, change, committing, told_blob, fetching, settled_by, settled_of, done_by, done_of, is_stale, failed_by, failed_of, dropped_of, read_by, done_step, swaps_record, has_text, fallen, is_latest, tried, test_left, faulted, answered, after}
 use Rattle.esr_core.proofs.Besides.{Aside, aside_taken, aside_step}
 use Rattle.esr_core.proofs.PruneFrames.{none_left, prune_stays, prune_fault_stays}
@@ -32,6 +32,8 @@ taken_shard_deletes w o op base (Some s) = refl
 taken_deletes : (f : Formats) (w : World) (o : ℕ) (unit : Given) (op : Option Op) → (taken_by f w o unit op).deletes ≡ w.deletes
 taken_deletes f w o (GivenShard index number base) (Some op) = taken_shard_deletes w o op base (shard_of op.shards index number)
 taken_deletes f w o (GivenShard index number base) None = refl
+taken_deletes f w o (GivenClone index number source base) (Some op) = taken_shard_deletes w o op base (shard_of op.shards index number)
+taken_deletes f w o (GivenClone index number source base) None = refl
 taken_deletes f w o (GivenFinalize info results) (Some op) = refl
 taken_deletes f w o (GivenFinalize info results) None = refl
 taken_deletes f w o GivenDrop op = refl
@@ -79,6 +81,8 @@ read_deletes f w (suc k) read reply image = aside w _ (aside_step f w (suc k) re
 
 step_none : (f : Formats) (w : World) (k : ℕ) (step : Step) (reply : Reply) (image : Option Image) → AsksNoDelete step → NoneOpen w → NoneOpen (done_step f w k step reply image)
 step_none f w k (AskStep (Snapshot name indices moment)) reply image other e = e
+step_none f w k (AskStep (Clone source name indices moment None)) reply image other e = e
+step_none f w k (AskStep (Clone source name indices moment (Some taken))) reply image other e = e
 step_none f w k (AskStep (DeleteSnapshots names)) reply image other e = absurd (other names refl)
 step_none f w k (AskStep (Restore name place)) (AcceptedRestore o uuid indices) image other e = e
 step_none f w k TakeStep (Gave ticket op unit) image other e = taken_deletes f w op unit (fin.get w.ops op) ∙ e

@@ -68,7 +68,8 @@ module _ (f : Formats) (has : BlobName → Bytes → Type 0) (root : RootData) (
         done = λ z r m state.
             let (x, x_there, same) = Has-mapped g op.shards z m in
             let is : x ≡ z = sym (on.done x r (ap (λ (y : ShardWork). y.state) same ∙ state)) ∙ same in
-            subst (λ (y : ShardWork). DoneStands f has op.uuid y r) is (l.done x r x_there (ap (λ (y : ShardWork). y.state) is ∙ state));
+            subst (λ (y : ShardWork). DoneStands f has op.source op.uuid y r) is (l.done x r x_there (ap (λ (y : ShardWork). y.state) is ∙ state));
+        copies = l.copies;
         texts = l.texts;
         unlisted = l.unlisted;
         unused = l.unused;

@@ -12,10 +12,10 @@ use Rattle.esr_core.specs.Pruning.{planned}
 use Rattle.esr_core.specs.World.{World, Op, Work, Shard, Finalize, Deleting, Drop, Ticket, Swap, swap_of, opened, Deletion}
 use Rattle.esr_core.specs.Ready.{IsMaster}
 use Rattle.esr_core.specs.Steps.{with_ticket}
-use Rattle.esr_core.specs.Entry.{Given, GivenShard, GivenFinalize, GivenDrop, Step, Reply, Moment, GivenRestore, DeleteSnapshots, Restore, AskStep, ReadStep, Read, ReadBlob, RestoredShard, ReadFails, WasFetched, WasAbsent, HasEnded, GivenClone, GivenDelete, GivenCleanup, Prune, PruneStep}
-use Rattle.esr_core.specs.After.{taken_by, taken_shard, with_given, change, committing, fetching, told_blob, done_of, done_by, failed_of, failed_by, is_stale, settled_of, dropped_of, tried, answered, blobs_in, after, test_left, delete_settled, delete_failed, delete_failed_by}
+use Rattle.esr_core.specs.Entry.{CloneOf, Clone, Given, GivenShard, GivenFinalize, GivenDrop, Step, Reply, Moment, GivenRestore, DeleteSnapshots, Restore, AskStep, ReadStep, Read, ReadBlob, RestoredShard, ReadFails, WasFetched, WasAbsent, HasEnded, GivenClone, GivenDelete, GivenCleanup, Prune, PruneStep}
+use Rattle.esr_core.specs.After.{clone_opened, taken_by, taken_shard, with_given, change, committing, fetching, told_blob, done_of, done_by, failed_of, failed_by, is_stale, settled_of, dropped_of, tried, answered, blobs_in, after, test_left, delete_settled, delete_failed, delete_failed_by}
 use Rattle.esr_core.specs.Allowed as allowed
-use Rattle.esr_core.specs.Allowed.{MayPlan, SettlesDeletion, FailsDeletion, PruneAllows, FetchingShard, ShardMissing, FetchShardFails, Planning, PlanSpent, SettlingDelete, SettleDeleteStale, SettleDeleteFails, RemovingDoomed, RemoveDoomedFails, EndingDelete, FailingDelete, Gives, Settles, Fails, Drops, Dones, Allows, Allowed, MayRaise, DeleteAllows, GoingInto, NotNamed, CloneStands, RestoreStands, FullOfOps, DeleteFault, RestoreAllows, OpeningRestore, NotListed, NamedByDelete, FullOfRestores, ReadAllows, ReadFound, ReadMissing, ReadFault, RestoringShard, ReaderFailing, CheckingAll, CheckFailing, VerifyAllows, DrawingTest, TestSpent, BeginningTest, BeginTestFails, CommittingTest, TestTaken, CommitTestFails, RemovingTests, RemoveTestsFails, VerifyingAll, VerifyFailing}
+use Rattle.esr_core.specs.Allowed.{MayPlan, SettlesDeletion, FailsDeletion, PruneAllows, FetchingShard, ShardMissing, FetchShardFails, Planning, PlanSpent, SettlingDelete, SettleDeleteStale, SettleDeleteFails, RemovingDoomed, RemoveDoomedFails, EndingDelete, FailingDelete, Gives, Settles, Fails, Drops, Dones, Allows, Allowed, MayRaise, DeleteAllows, GoingInto, NotNamed, CloneStands, RestoreStands, FullOfOps, DeleteFault, RestoreAllows, OpeningRestore, NotListed, NamedByDelete, FullOfRestores, CloneAllows, OpeningClone, CloneUsed, SourceNotListed, SourceDeleted, IndexMissing, FullOfClones, CloneSpent, CloneFault, ReadAllows, ReadFound, ReadMissing, ReadFault, RestoringShard, ReaderFailing, CheckingAll, CheckFailing, VerifyAllows, DrawingTest, TestSpent, BeginningTest, BeginTestFails, CommittingTest, TestTaken, CommitTestFails, RemovingTests, RemoveTestsFails, VerifyingAll, VerifyFailing}
 use Rattle.esr_core.specs.History.{world_from, IsLegal}
 use Rattle.esr_core.specs.Tracked.{Tracked}
 use Rattle.esr_core.specs.Ranked.{Ranks, Ranked}
@@ -159,7 +159,8 @@ module _ (f : Formats) (size : ℕ) (w : World) (q : Tracked w) (l : Ranked w) w
       (ranks_raise w.safe w.pending w.term w.tickets l k m.t m.out.there (swap_master f m.t.work m.t.root m.s m.is))
 
   gives : (o : ℕ) (unit : Given) → Gives f w o unit → Ranked (taken_by f w o unit (fin.get w.ops o))
-  gives o (GivenClone index number source base) g = absurd g
+  gives o (GivenClone index number source base) g =
+      subst (λ x. Ranked (taken_by f w o (GivenClone index number source base) x)) (sym g.ready.op_there) (subst (λ x. Ranked (taken_shard w o g.op base x)) (sym g.found) (ranks_new w.safe w.pending w.term w.tickets l w.next_ticket _ refl))
   gives o (GivenDelete uuids) g = deleting (fin.get w.ops o)
     where
       deleting : (found : Option Op) → Ranked (taken_by f w o (GivenDelete uuids) found)
@@ -247,6 +248,18 @@ module _ (f : Formats) (size : ℕ) (w : World) (q : Tracked w) (l : Ranked w) w
   elects : Ranks w.safe w.pending (suc w.term) w.tickets
   elects = ranks_elect w.safe w.pending w.term w.tickets l (suc w.term) (λ k t there same. let b : t.term ≤ w.term = (q.tickets k t there).1 in absurd (omega (arith, b, same)))
 
+  -- ---- a clone that is asked
+
+  asks_clone : (source name : Bytes) (names : List Bytes) (time : ℕ) (taken : Option CloneOf) (reply : Reply) (image : Option Image) → CloneAllows f w source name names time taken reply image → Ranked (after f w (moment 0 (AskStep (Clone source name names time taken)) reply image))
+  asks_clone source name names time taken reply image (OpeningClone t o im acc) = l
+  asks_clone source name names time taken reply image (CloneUsed uuid im clear is) = l
+  asks_clone source name names time taken reply image (SourceNotListed im may none) = l
+  asks_clone source name names time taken reply image (SourceDeleted uuid d im may listed named) = l
+  asks_clone source name names time taken reply image (IndexMissing uuid place im may missing) = l
+  asks_clone source name names time taken reply image (FullOfClones uuid im may full) = l
+  asks_clone source name names time taken reply image (CloneSpent uuid im may room spent) = l
+  asks_clone source name names time taken reply image (CloneFault t im acc) = ranks_falls w (clone_opened w name time t) l l _ (blobs_in im w.blobs)
+
   -- ---- a delete that is asked
 
   asks_delete : (names : List Bytes) (reply : Reply) (image : Option Image) → DeleteAllows w names reply → Ranked (after f w (moment 0 (AskStep (DeleteSnapshots names)) reply image))
@@ -316,6 +329,7 @@ module _ (f : Formats) (size : ℕ) (w : World) (q : Tracked w) (l : Ranked w) w
   ranked_by who step reply image (allowed.Electing im room same) = elects
   ranked_by who step reply image (allowed.Looking im same) = l
   ranked_by who step reply image (allowed.AskingRestore name place rep im h same) = asks_restore name place rep im h
+  ranked_by who step reply image (allowed.AskingClone source name names time taken rep im h same) = asks_clone source name names time taken rep im h
   ranked_by who step reply image (allowed.AskingDelete names rep im h same) = asks_delete names rep im h
   ranked_by who step reply image (allowed.Reading k read rep im h same) = reads k read rep im h
   ranked_by who step reply image (allowed.Pruning k prune rep im h) = prunes k prune rep im h

@@ -3,11 +3,11 @@ use Rattle.std.proofs.Common.{◌≡◌, ◌⊎◌, ℕ, List, [], ◌∷◌, Bo
 use Rattle.std.specs.FinMap.{FinMap}
 use Rattle.std.specs.FinMap as fin
 use Rattle.esr_model.specs.Names.{BlobName, Snap, ShardSnap}
-use Rattle.esr_model.specs.Values.{Bytes, Has, IndexRef, RootSnap, RootData, SnapInfo, FileEntry, ShardSnapshot, ClusterRecord, Formats}
+use Rattle.esr_model.specs.Values.{Bytes, Has, IndexRef, RootData, SnapInfo, FileEntry, ShardSnapshot, ClusterRecord, Formats}
 use Rattle.esr_model.specs.Shelf.{Shelved, ShelfShard, shelf_after}
 use Rattle.esr_model.specs.Parts.{part_names}
 use Rattle.esr_model.specs.Places.{places, shelf_places, comes_first}
-use Rattle.esr_model.specs.Image.{Blobs, AllPairs, At, Reads, FileStands, ShardStands, SnapStands, RootStands}
+use Rattle.esr_model.specs.Image.{Blobs, At, Reads, FileStands, ShardStands}
 use Rattle.esr_core.specs.World.{World, Deletion, ReadState, RestoreShard, Restoring, Reader, Caller, HeldIn, opened}
 use Rattle.esr_core.specs.Restores.{WasRead, unread, restore_of, handed, ended, reader_of, read_more}
 use Rattle.esr_core.specs.Queue.{Lists}
@@ -17,7 +17,7 @@ use Rattle.esr_core.specs.ReadTracked.{ReaderTracked, RestoresTracked}
 use Rattle.esr_core.specs.ReadLaw.{RestoreLaw, IsPartOf, ReaderLaw, ReadLaw}
 use Rattle.esr_core.proofs.Reading.{some_same, reads_one, held_one, Has-map}
 use Rattle.esr_core.proofs.Frames.{reads_kept}
-use Rattle.esr_core.proofs.ListedInfo.{pairs_both, IsListedAs, listed_as, listed_info}
+use Rattle.esr_core.proofs.ListedInfo.{pairs_both, listed_as, listed_info}
 use Rattle.esr_core.proofs.Queues.{was_in}
 use Rattle.esr_core.proofs.Ordered.{sorted-Has}
 use Rattle.esr_core.proofs.Opening.{nothing}

@@ -12,7 +12,7 @@ use Rattle.esr_model.specs.Image.{Image}
 use Rattle.esr_core.specs.World.{World, Op, Deletion, ShardWork, Done, Ticket, marked, work_by, work_of, deletion_work, record_ops, ledger_of, record_of}
 use Rattle.esr_core.specs.Steps.{with_ticket, given}
 use Rattle.esr_core.specs.Turns.{fails}
-use Rattle.esr_core.specs.Entry.{Given, GivenShard, GivenFinalize, GivenDrop, Step, AskStep, TakeStep, DrawStep, BeginStep, CommitStep, LatestStep, FetchStep, RaiseStep, SettleStep, DoneStep, FailedStep, FinishStep, DroppedStep, ElectStep, DepotFault, Reply, Gave, WasDone, WasThere, WasFetched, Refused, Moment, Snapshot, Restore, GivenRestore, ReadStep, AcceptedRestore, Read, DrawTest, CommitTest, DrawnFrom, Clone, DeleteSnapshots, Cleanup, GivenDelete, Prune, FetchShard, PlanShards, SettlePruned, RemoveDoomed, EndDelete, DeleteFails, PruneStep}
+use Rattle.esr_core.specs.Entry.{Given, GivenShard, GivenClone, GivenFinalize, GivenDrop, Step, AskStep, TakeStep, DrawStep, BeginStep, CommitStep, LatestStep, FetchStep, RaiseStep, SettleStep, DoneStep, FailedStep, FinishStep, DroppedStep, ElectStep, DepotFault, Reply, Gave, WasDone, WasThere, WasFetched, Refused, Moment, Snapshot, Restore, GivenRestore, ReadStep, AcceptedRestore, Read, DrawTest, CommitTest, DrawnFrom, Clone, DeleteSnapshots, Cleanup, GivenDelete, Prune, FetchShard, PlanShards, SettlePruned, RemoveDoomed, EndDelete, DeleteFails, PruneStep}
 use Rattle.esr_core.specs.After.{or_else, taken_shard, taken_by, shard_of, with_given, committing, told_blob, fetching, done_by, done_of, is_stale, failed_by, failed_of, done_step, swaps_record, is_latest, faulted, answered, after, read_by, test_left, delete_failed_by, delete_failed, prune_step}
 use Rattle.esr_core.proofs.Besides.{Aside, aside_taken, aside_step}
 use Rattle.esr_core.proofs.Maps.{split, get_same, get_other}
@@ -116,6 +116,8 @@ keeps_shard w o op base (Some s) there = record { ledger = refl; deletes = λ q.
 keeps_taken : (f : Formats) (w : World) (o : ℕ) (unit : Given) (op : Option Op) → fin.get w.ops o ≡ op → Keeps w (taken_by f w o unit op)
 keeps_taken f w o (GivenShard index number base) (Some op) there = keeps_shard w o op base (shard_of op.shards index number) there
 keeps_taken f w o (GivenShard index number base) None there = keeps_same w
+keeps_taken f w o (GivenClone index number source base) (Some op) there = keeps_shard w o op base (shard_of op.shards index number) there
+keeps_taken f w o (GivenClone index number source base) None there = keeps_same w
 keeps_taken f w o (GivenFinalize info results) (Some op) there = record { ledger = refl; deletes = λ q. refl; ops = λ q. refl }
 keeps_taken f w o (GivenFinalize info results) None there = keeps_same w
 keeps_taken f w o GivenDrop op there = record { ledger = refl; deletes = λ q. refl; ops = λ q. refl }
@@ -183,6 +185,7 @@ keeps_prune f w k (DeleteFails why) reply image e = keeps_delete_failed w k (fin
 
 keeps_step : (f : Formats) (w : World) (k : ℕ) (step : Step) (reply : Reply) (image : Option Image) → swaps_record step ≡ false → Keeps w (done_step f w k step reply image)
 keeps_step f w k (AskStep (Snapshot name indices moment)) reply image e = absurd (swaps e)
+keeps_step f w k (AskStep (Clone source name indices moment taken)) reply image e = absurd (swaps e)
 keeps_step f w k (AskStep (DeleteSnapshots names)) reply image e = absurd (swaps e)
 keeps_step f w k (AskStep (Restore name place)) (AcceptedRestore o uuid indices) image e = record { ledger = refl; deletes = λ q. refl; ops = λ q. refl }
 keeps_step f w k (ReadStep read) reply image e = keeps_read f w k read reply image
@@ -206,7 +209,7 @@ keeps_fault : (f : Formats) (w : World) (k : ℕ) (step : Step) (image : Option 
 keeps_fault f w k LatestStep image e = keeps_change w k (λ t. record t { tried_latest = true }) (fin.get w.tickets k)
 keeps_fault f w k (BeginStep name) image e = keeps_either w _ w (is_latest name) (keeps_change w k (λ t. record t { tried_latest = true }) (fin.get w.tickets k)) (keeps_same w)
 keeps_fault f w k (AskStep (Snapshot name indices moment)) image e = absurd (swaps e)
-keeps_fault f w k (AskStep (Clone source name indices moment)) image e = absurd (swaps e)
+keeps_fault f w k (AskStep (Clone source name indices moment taken)) image e = absurd (swaps e)
 keeps_fault f w k (AskStep (DeleteSnapshots names)) image e = absurd (swaps e)
 keeps_fault f w k (AskStep Cleanup) image e = absurd (swaps e)
 keeps_fault f w k RaiseStep image e = absurd (swaps e)

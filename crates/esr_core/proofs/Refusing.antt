@@ -8,13 +8,13 @@ use Rattle.esr_model.specs.Image.{Image}
 use Rattle.esr_core.specs.World.{World, Op, ShardWork, ReadState, RestoreShard, Restoring, Reader, Ticket, Swap, swap, Deletion}
 use Rattle.esr_core.specs.Restores.{restore_shard}
 use Rattle.esr_core.specs.Steps.{with_ticket}
-use Rattle.esr_core.specs.Entry.{Asked, Snapshot, DeleteSnapshots, Restore, Given, GivenShard, GivenFinalize, GivenDrop, GivenRestore, Read, ReadBlob, RestoredShard, DrawTest, CommitTest, ReadFails, Step, AskStep, TakeStep, DrawStep, BeginStep, CommitStep, LatestStep, FetchStep, RaiseStep, SettleStep, DoneStep, FailedStep, FinishStep, DroppedStep, ElectStep, ReadStep, Refusal, DepotFault, Reply, Gave, DrawnFrom, WasDone, WasThere, WasFetched, HasEnded, Refused, AcceptedRestore, Moment, Prune, FetchShard, PlanShards, SettlePruned, RemoveDoomed, EndDelete, DeleteFails, PruneStep}
-use Rattle.esr_core.specs.After.{shard_of, taken_shard, taken_restore_shard, taken_restore, taken_by, with_given, change, told_blob, settled_by, settled_of, done_by, done_of, is_stale, failed_by, failed_of, dropped_of, read_told, shard_over, read_over, read_step, read_by, done_step, swaps_record, fallen, is_latest, tried, test_left, faulted, answered, after, delete_settled_by, delete_settled, delete_failed_by, delete_failed, prune_step}
+use Rattle.esr_core.specs.Entry.{CloneOf, Asked, Snapshot, Clone, DeleteSnapshots, Restore, Given, GivenShard, GivenClone, GivenFinalize, GivenDrop, GivenRestore, Read, ReadBlob, RestoredShard, DrawTest, CommitTest, ReadFails, Step, AskStep, TakeStep, DrawStep, BeginStep, CommitStep, LatestStep, FetchStep, RaiseStep, SettleStep, DoneStep, FailedStep, FinishStep, DroppedStep, ElectStep, ReadStep, Refusal, DepotFault, Reply, Gave, DrawnFrom, WasDone, WasThere, WasFetched, HasEnded, Refused, AcceptedRestore, Moment, Prune, FetchShard, PlanShards, SettlePruned, RemoveDoomed, EndDelete, DeleteFails, PruneStep}
+use Rattle.esr_core.specs.After.{asked, shard_of, taken_shard, taken_restore_shard, taken_restore, taken_by, with_given, change, told_blob, settled_by, settled_of, done_by, done_of, is_stale, failed_by, failed_of, dropped_of, read_told, shard_over, read_over, read_step, read_by, done_step, swaps_record, fallen, is_latest, tried, test_left, faulted, answered, after, delete_settled_by, delete_settled, delete_failed_by, delete_failed, prune_step}
 use Rattle.esr_core.specs.Pruning.{planned}
 use Rattle.esr_core.specs.Allowed as allowed
-use Rattle.esr_core.specs.Allowed.{RestoreAllows, DeleteAllows, ReadAllows, VerifyAllows, PruneAllows, Allows, Allowed}
+use Rattle.esr_core.specs.Allowed.{RestoreAllows, CloneAllows, DeleteAllows, ReadAllows, VerifyAllows, PruneAllows, Allows, Allowed}
 use Rattle.esr_core.specs.History.{world_from}
-use Rattle.esr_core.specs.Refusing.{MayRefuse, InCleanup, InUse, InFull, NoIdForAsk, AskFault, NotNamed, CloneStands, RestoreStands, FullOfOps, AskDeleteFault, NotListed, NamedByDelete, FullOfRestores, NoIds, BeginFault, CommitFault, CommitTaken, LatestFault, FetchFault, ListFault, RaiseFault, RaiseStale, RaiseSpent, SettleFault, SettleStale, DropFault, DropStale, ElectFault, NoTerms, ReadFault, NoTestId, BeginTestFault, CommitTestFault, TestTaken, RemoveFault, RefusedSo, SwapFailed, FetchShardFault, NoPlanIds, SettleDeleteFault, SettleDeleteStale, RemoveDoomedFault}
+use Rattle.esr_core.specs.Refusing.{MayRefuse, InCleanup, InUse, InFull, NoIdForAsk, AskFault, CloneInUse, NoSource, SourceInDelete, NoSuchIndex, CloneInFull, NoIdForClone, AskCloneFault, NotNamed, CloneStands, RestoreStands, FullOfOps, AskDeleteFault, NotListed, NamedByDelete, FullOfRestores, NoIds, BeginFault, CommitFault, CommitTaken, LatestFault, FetchFault, ListFault, RaiseFault, RaiseStale, RaiseSpent, SettleFault, SettleStale, DropFault, DropStale, ElectFault, NoTerms, ReadFault, NoTestId, BeginTestFault, CommitTestFault, TestTaken, RemoveFault, RefusedSo, SwapFailed, FetchShardFault, NoPlanIds, SettleDeleteFault, SettleDeleteStale, RemoveDoomedFault}
 use Rattle.esr_core.proofs.AskedDeletes.{delete_leaves}
 
 -- ---- refusals
@@ -24,6 +24,15 @@ module _ (f : Formats) (size : ℕ) (w : World) where
   restore_refused name place refusal image (allowed.NotListed im none) = NotListed name place
   restore_refused name place refusal image (allowed.NamedByDelete uuid d im listed named) = NamedByDelete name place d
   restore_refused name place refusal image (allowed.FullOfRestores uuid im listed spared full) = FullOfRestores name place
+
+  clone_refused : (source name : Bytes) (names : List Bytes) (moment : ℕ) (taken : Option CloneOf) (refusal : Refusal) (image : Option Image) → CloneAllows f w source name names moment taken (Refused refusal) image → MayRefuse (AskStep (Clone source name names moment taken)) refusal
+  clone_refused source name names moment taken refusal image (allowed.CloneUsed uuid im clear is) = CloneInUse source name names moment uuid None
+  clone_refused source name names moment taken refusal image (allowed.SourceNotListed im may none) = NoSource source name names moment None
+  clone_refused source name names moment taken refusal image (allowed.SourceDeleted uuid d im may listed named) = SourceInDelete source name names moment d None
+  clone_refused source name names moment taken refusal image (allowed.IndexMissing uuid place im may missing) = NoSuchIndex source name names moment place None
+  clone_refused source name names moment taken refusal image (allowed.FullOfClones uuid im may full) = CloneInFull source name names moment None
+  clone_refused source name names moment taken refusal image (allowed.CloneSpent uuid im may room spent) = NoIdForClone source name names moment w.next_id None
+  clone_refused source name names moment taken refusal image (allowed.CloneFault t im acc) = AskCloneFault source name names moment (Some t)
 
   delete_refused : (names : List Bytes) (refusal : Refusal) → DeleteAllows w names (Refused refusal) → MayRefuse (AskStep (DeleteSnapshots names)) refusal
   delete_refused names refusal (allowed.NotNamed place clear first) = NotNamed names place
@@ -51,6 +60,7 @@ module _ (f : Formats) (size : ℕ) (w : World) where
 
   refused_by : (who : ℕ) (step : Step) (refusal : Refusal) (image : Option Image) → Allows f size w who step (Refused refusal) image → MayRefuse step refusal
   refused_by who step refusal image (allowed.AskingRestore name place rep im h same) = restore_refused name place refusal image h
+  refused_by who step refusal image (allowed.AskingClone source name names moment taken rep im h same) = clone_refused source name names moment taken refusal image h
   refused_by who step refusal image (allowed.AskingDelete names rep im h same) = delete_refused names refusal h
   refused_by who step refusal image (allowed.Verifying read rep im h) = verify_refused read refusal image h
   refused_by who step refusal image (allowed.Pruning k prune rep im h) = prune_refused k prune refusal image h
@@ -112,6 +122,8 @@ module _ (f : Formats) (w : World) where
   taken_mark : (o : ℕ) (unit : Given) (op : Option Op) → (taken_by f w o unit op).deposed ≡ w.deposed
   taken_mark o (GivenShard index number base) (Some op) = taken_shard_mark o op base (shard_of op.shards index number)
   taken_mark o (GivenShard index number base) None = refl
+  taken_mark o (GivenClone index number source base) (Some op) = taken_shard_mark o op base (shard_of op.shards index number)
+  taken_mark o (GivenClone index number source base) None = refl
   taken_mark o (GivenFinalize info results) (Some op) = refl
   taken_mark o (GivenFinalize info results) None = refl
   taken_mark o GivenDrop op = refl
@@ -206,8 +218,13 @@ module _ (f : Formats) (w : World) where
   prune_mark k EndDelete reply image = change_mark k _
   prune_mark k (DeleteFails why) reply image = delete_failed_mark k (fin.get w.tickets k)
 
+  asked_clone_mark : (source name : Bytes) (names : List Bytes) (moment : ℕ) (taken : Option CloneOf) → (asked w (Clone source name names moment taken)).deposed ≡ w.deposed
+  asked_clone_mark source name names moment None = refl
+  asked_clone_mark source name names moment (Some t) = refl
+
   step_mark : (k : ℕ) (step : Step) (reply : Reply) (image : Option Image) → (done_step f w k step reply image).deposed ≡ w.deposed
   step_mark k (AskStep (Snapshot name indices moment)) reply image = refl
+  step_mark k (AskStep (Clone source name names moment taken)) reply image = asked_clone_mark source name names moment taken
   step_mark k (AskStep (Restore name place)) (AcceptedRestore o uuid indices) image = refl
   step_mark k (AskStep (DeleteSnapshots names)) reply image = ap (λ (x : World). x.deposed) (delete_leaves w names)
   step_mark k (AskStep command) reply image = refl

@@ -5,7 +5,7 @@ use Rattle.std.specs.FinMap.{FinMap, nat_cmp-IsAntisymmetric}
 use Rattle.std.specs.FinMap as fin
 use Rattle.esr_model.specs.Names.{BlobName}
 use Rattle.esr_model.specs.Values.{Bytes, RootData, SnapInfo, ShardResult, Formats}
-use Rattle.esr_model.specs.Shelf.{Shelved}
+use Rattle.esr_model.specs.Shelf.{Command}
 use Rattle.esr_core.specs.World.{Op, Ticket, Shard}
 use Rattle.esr_core.specs.Generations.{ShardLaw, FinalLaw, Carried}
 use Rattle.esr_core.proofs.Maps.{get_was, get_same, get_other, split}
@@ -19,7 +19,7 @@ pub record SameTicket (t v : Ticket) : Type 1 where
   pub holds : (index shard : ℕ) → t.work ≡ Shard index shard → t.out ≡ true → v.out ≡ true
   pub settled : v.settled ≡ false → t.settled ≡ false
   pub shard : (f : Formats) (has : BlobName → Bytes → Type 0) (root : RootData) (ops : FinMap nat_cmp Op) (k index number : ℕ) → ShardLaw f has root ops k t index number → ShardLaw f has root ops k v index number
-  pub final : (f : Formats) (root : RootData) (ops : FinMap nat_cmp Op) (info : SnapInfo) (results : List ShardResult) (made : Shelved) → FinalLaw f root ops t info results made → FinalLaw f root ops v info results made
+  pub final : (f : Formats) (root : RootData) (ops : FinMap nat_cmp Op) (info : SnapInfo) (results : List ShardResult) (made : Command) → FinalLaw f root ops t info results made → FinalLaw f root ops v info results made
 
 pub carried_same : (f : Formats) (has : BlobName → Bytes → Type 0) (safe term : ℕ) (root : RootData) (ops : FinMap nat_cmp Op) (tickets : FinMap nat_cmp Ticket) (k : ℕ) (t v : Ticket)
     → fin.get tickets k ≡ Some t → SameTicket t v → Carried f has safe term root ops tickets → Carried f has safe term root ops (fin.insert tickets k v)

@@ -6,14 +6,14 @@ use Rattle.std.specs.FinMap as fin
 use Rattle.esr_model.specs.Places.{shelf_places}
 use Rattle.esr_model.specs.Names.{BlobName, Snap}
 use Rattle.esr_model.specs.Values.{Bytes, IndexRef, RootSnap, RootData, SnapInfo, ShardResult, Formats}
-use Rattle.esr_model.specs.Shelf.{Shelved, Create}
+use Rattle.esr_model.specs.Shelf.{Command}
 use Rattle.esr_model.specs.Image.{Has, IsOne, Reads, Generation, ListsAs, index_at, at_shard_of}
 use Rattle.esr_model.specs.Finalize.{Finalizes, finalized_root, done_at}
 use Rattle.esr_core.specs.World.{Op, ShardWork, Work, Finalize, Swap, swap_of, Done, AllDone, info_of, metadata}
 use Rattle.esr_core.specs.Generations.{DoneAt, IsLive, IsOfShard, Carries, OpLaw, Together, Base}
 use Rattle.esr_core.proofs.Maps.{get_left}
 use Rattle.esr_core.proofs.Ordered.{in_shelf_places}
-use Rattle.esr_core.proofs.Reading.{some_same, reads_one, Has-append, Has-mapped}
+use Rattle.esr_core.proofs.Reading.{some_same, reads_one, Has-left, Has-append, Has-mapped}
 use Rattle.esr_core.proofs.Results.{done_of, found_done, done_found}
 use Rattle.esr_core.proofs.Owning.{OnWith, own_on, stands_on}
 use Rattle.esr_core.proofs.Staging.{larger_is, larger_old, larger_new}
@@ -75,7 +75,7 @@ module _ (f : Formats) (has : BlobName → Bytes → Type 0) (root new : RootDat
 
 -- the swap of a finalization
 pub of_swap : (f : Formats) (work : Work) (root : RootData) (s : Swap) → swap_of f work root ≡ Some s
-    → (info : SnapInfo) (results : List ShardResult) (made : Shelved) → work ≡ Finalize info results made → record { root = finalized_root root info results; own = metadata f info; commands = Create made ∷ [] } ≡ s
+    → (info : SnapInfo) (results : List ShardResult) (made : Command) → work ≡ Finalize info results made → record { root = finalized_root root info results; own = metadata f info; commands = made ∷ [] } ≡ s
 of_swap f work root s e info results made is = some_same _ _ (ap (λ x. swap_of f x root) (sym is) ∙ e)
 
 -- the law of an open op, in the new root
@@ -85,6 +85,7 @@ op_law f has root new op results other fins t l =
     record {
       places = l.places;
       done = l.done;
+      copies = λ u e. let c = l.copies u e in let (z, m, uuid) = c.listed in record { listed = (z, subst (λ xs. Has xs z) (sym fins.snapshots) (Has-left root.snapshots _ z m), uuid); by_info = c.by_info };
       texts = l.texts;
       one_id = l.one_id;
       distinct = l.distinct;

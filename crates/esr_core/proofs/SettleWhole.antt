@@ -5,7 +5,7 @@ use Rattle.std.specs.FinMap.{nat_cmp-IsAntisymmetric}
 use Rattle.std.specs.FinMap as fin
 use Rattle.esr_model.specs.Names.{Snap}
 use Rattle.esr_model.specs.Values.{RootData, SnapInfo, ShardResult, Formats}
-use Rattle.esr_model.specs.Shelf.{Shelved, Create}
+use Rattle.esr_model.specs.Shelf.{Shelved, Command}
 use Rattle.esr_model.specs.Image.{Has, Reads}
 use Rattle.esr_model.specs.Finalize.{Finalizes, finalized_root}
 use Rattle.esr_core.specs.World.{World, Op, Work, Shard, Finalize, Ticket, Swap, swap_of, info_of, metadata, HeldIn}
@@ -23,9 +23,9 @@ abbrev pub CarriedIn : Formats → World → Type 0
 CarriedIn f w = Carried f (HeldIn f w) w.safe w.term w.root w.ops w.tickets
 
 pub settles_shards : (f : Formats) (w : World) (shelf : List Shelved) (k n : ℕ) (t : Ticket) (s : Swap) → Rooted f w shelf → CarriedIn f w → MaySettle f w k n t s → t.term ≡ w.term
-    → (info : SnapInfo) (results : List ShardResult) (made : Shelved) → t.work ≡ Finalize info results made → CarriedIn f (settled w k t n s.root)
+    → (info : SnapInfo) (results : List ShardResult) (made : Command) → t.work ≡ Finalize info results made → CarriedIn f (settled w k t n s.root)
 settles_shards f w shelf k n t s l c may present info results made work =
-    let same : record { root = finalized_root t.root info results; own = metadata f info; commands = Create made ∷ [] } ≡ s = of_swap f t.work t.root s may.is info results made work in
+    let same : record { root = finalized_root t.root info results; own = metadata f info; commands = made ∷ [] } ≡ s = of_swap f t.work t.root s may.is info results made work in
     let law : FinalLaw f w.root w.ops t info results made = c.finals k t may.out.there may.out.out may.unsettled present info results made work in
     let op_law_of : OpLaw f (HeldIn f w) w.root law.op = c.ops t.op law.op law.op_there in
     let unsettled : IsUnsettled f t s = record { is = may.is; out = may.out.out; unsettled = may.unsettled } in
@@ -58,13 +58,13 @@ settles_shards f w shelf k n t s l c may present info results made work =
       finals = λ j u e out uns pres info' results' made' is. absurd (elim (get_was nat_cmp_total nat_cmp-IsAntisymmetric w.tickets k _ j u e) [
         | inl h ↦ true≢false (ap (λ (x : Ticket). x.settled) h.1 ∙ uns)
         | inr h ↦ h.0 (l.single j k
-            (record { t = u; there = h.1; s = record { root = finalized_root u.root info' results'; own = metadata f info'; commands = Create made' ∷ [] }; is = record { is = ap (λ x. swap_of f x u.root) is; out = out; unsettled = uns }; present = pres })
+            (record { t = u; there = h.1; s = record { root = finalized_root u.root info' results'; own = metadata f info'; commands = made' ∷ [] }; is = record { is = ap (λ x. swap_of f x u.root) is; out = out; unsettled = uns }; present = pres })
             (record { t = t; there = may.out.there; s = s; is = unsettled; present = present }))
       ]);
     }
   where
     -- a shard ticket is another than the one that settles
-    other : (work : Work) (info : SnapInfo) (results : List ShardResult) (made : Shelved) → t.work ≡ Finalize info results made
+    other : (work : Work) (info : SnapInfo) (results : List ShardResult) (made : Command) → t.work ≡ Finalize info results made
         → (j : ℕ) (u : Ticket) → fin.get (fin.insert w.tickets k (record t { settled = true })) j ≡ Some u → (index shard : ℕ) → u.work ≡ Shard index shard
         → (j ≢ k) × (fin.get w.tickets j ≡ Some u)
     other work info results made is j u e index shard its = elim (get_was nat_cmp_total nat_cmp-IsAntisymmetric w.tickets k _ j u e) [
@@ -75,7 +75,7 @@ settles_shards f w shelf k n t s l c may present info results made work =
         differ : Finalize info results made ≡ Shard index shard → ⊥
         differ e = cc
 
-    stays : (work : Work) (info : SnapInfo) (results : List ShardResult) (made : Shelved) → t.work ≡ Finalize info results made
+    stays : (work : Work) (info : SnapInfo) (results : List ShardResult) (made : Command) → t.work ≡ Finalize info results made
         → (j : ℕ) (u : Ticket) → fin.get w.tickets j ≡ Some u → (index shard : ℕ) → u.work ≡ Shard index shard → fin.get (fin.insert w.tickets k (record t { settled = true })) j ≡ Some u
     stays work info results made is j u e index shard its = get_other nat_cmp_total nat_cmp-IsAntisymmetric w.tickets k _ j apart ∙ e
       where
@@ -85,7 +85,7 @@ settles_shards f w shelf k n t s l c may present info results made work =
         apart : j ≢ k
         apart same = differ (sym is ∙ ap (λ (x : Ticket). x.work) (some_same _ _ (sym may.out.there ∙ ap (fin.get w.tickets) (sym same) ∙ e)) ∙ its)
 
-    shard_law : {info : SnapInfo} {results : List ShardResult} {made : Shelved} {new : RootData} (j : ℕ) (u : Ticket) → fin.get w.tickets j ≡ Some u → u.out ≡ true → (index shard : ℕ) → u.work ≡ Shard index shard
+    shard_law : {info : SnapInfo} {results : List ShardResult} {made : Command} {new : RootData} (j : ℕ) (u : Ticket) → fin.get w.tickets j ≡ Some u → u.out ≡ true → (index shard : ℕ) → u.work ≡ Shard index shard
         → ShardLaw f (HeldIn f w) w.root w.ops j u index shard → (law : FinalLaw f w.root w.ops t info results made) → OpLaw f (HeldIn f w) w.root law.op
         → Finalizes w.root (info_of law.op results) results new → Reads (HeldIn f w) (Snap law.op.uuid) f.info (info_of law.op results)
         → ShardLaw f (HeldIn f w) new (fin.remove w.ops t.op) j u index shard
@@ -94,6 +94,7 @@ settles_shards f w shelf k n t s l c may present info results made work =
           op = old.op;
           op_there = get_stays nat_cmp_total nat_cmp-IsAntisymmetric w.ops t.op u.op apart ∙ old.op_there;
           uuid_is = old.uuid_is;
+          source_is = old.source_is;
           s = old.s;
           s_there = old.s_there;
           state = old.state;

@@ -8,7 +8,7 @@ use Rattle.esr_model.specs.Parts.{part_names}
 use Rattle.esr_model.specs.Names.{BlobName, Root, ShardIndex, File, Part}
 use Rattle.esr_model.specs.Reach.{Reached, ReachSnap, ReachMeta, ReachIndexMeta, ReachIndex, ReachShardSnap, ReachPart}
 use Rattle.esr_model.specs.Values.{RootSnap, RootData, SnapInfo, FileEntry, ShardFiles, ShardResult, Formats}
-use Rattle.esr_model.specs.Shelf.{Shelved, shelf_after, names_uuid}
+use Rattle.esr_model.specs.Shelf.{Shelved, Command, shelf_after, names_uuid}
 use Rattle.esr_model.specs.Image.{Has, Generation, RootStands}
 use Rattle.esr_core.specs.World.{World, Op, Deletion, ShardWork, Out, Work, Shard, Finalize, Deleting, Drop, Ticket, Swap, swap_of, ledger_of, info_of, HeldIn}
 use Rattle.esr_core.specs.Ready.{Idle, IsMaster, SwapIsOut}
@@ -90,7 +90,7 @@ settle_final_lawful f w shelf l k n t s new h =
     listed : (o : ℕ) (op : Op) (u : ℕ) → fin.get w.ops o ≡ Some op → op.source ≡ Some u → Lists s.root u
     listed o op u e is = let (z, m, uuid) = (l.queue.sources o op u e is).0 in (z, final_keeps f w shelf l k n t s new h z m, uuid)
 
-    differ : {info : SnapInfo} {rs : List ShardResult} {made : Shelved} → Finalize info rs made ≡ Drop → ⊥
+    differ : {info : SnapInfo} {rs : List ShardResult} {made : Command} → Finalize info rs made ≡ Drop → ⊥
     differ e = cc
 
     no_drop : (j : ℕ) (u : Ticket) → fin.get w.tickets j ≡ Some u → u.out ≡ true → u.term ≡ w.term → u.work ≡ Drop → u.op ≢ t.op
@@ -170,12 +170,21 @@ module _ (f : Formats) (w : World) (shelf : List Shelved) (l : Lawful f w shelf)
         lists_on w.ops (fin.remove w.ops t.op) on_with i x held (subst (λ (v : ShardFiles). ListsOwn w.ops i x v) same y.lists)
   ]
 
+  -- what it doesn't name stays listed
+  pub delete_keeps : (u : ℕ) → ((d : ℕ) (x : Deletion) → fin.get w.deletes d ≡ Some x → names_uuid x.uuids u ≡ false) → Lists w.root u → Lists s.root u
+  delete_keeps u spared was = let (z, m, uuid) = was in (z, law.keeps s refl z m (ap (names_uuid law.deletion.uuids) uuid ∙ spared t.op law.deletion law.there), uuid)
+
+  -- the source of a clone stays listed
+  listed : (o : ℕ) (op : Op) (u : ℕ) → fin.get w.ops o ≡ Some op → op.source ≡ Some u → Lists s.root u
+  listed o op u e is = let was = l.queue.sources o op u e is in delete_keeps u was.1 was.0
+
   carried : CarriedIn f now
   carried =
       record {
         root_is = root_is;
         ops = λ o op e. let old = l.sound.carried.ops o op (left_in w.ops t.op o op e).1 in record {
           places = old.places;
+          copies = λ u is. record { listed = listed o op u (left_in w.ops t.op o op e).1 is; by_info = (old.copies u is).by_info };
           texts = old.texts;
           done = old.done;
           one_id = old.one_id;
@@ -253,14 +262,6 @@ module _ (f : Formats) (w : World) (shelf : List Shelved) (l : Lawful f w shelf)
 
   doomed : Sound f (record now { doomed = d.names ++ w.doomed }) after
   doomed = dooming_sound f now (record now { doomed = d.names ++ w.doomed }) after d.names it dooms
-
-  -- what it doesn't name stays listed
-  pub delete_keeps : (u : ℕ) → ((d : ℕ) (x : Deletion) → fin.get w.deletes d ≡ Some x → names_uuid x.uuids u ≡ false) → Lists w.root u → Lists s.root u
-  delete_keeps u spared was = let (z, m, uuid) = was in (z, law.keeps s refl z m (ap (names_uuid law.deletion.uuids) uuid ∙ spared t.op law.deletion law.there), uuid)
-
-  -- the source of a clone stays listed
-  listed : (o : ℕ) (op : Op) (u : ℕ) → fin.get w.ops o ≡ Some op → op.source ≡ Some u → Lists s.root u
-  listed o op u e is = let was = l.queue.sources o op u e is in delete_keeps u was.1 was.0
 
   -- the queue where the op leaves, and where it stays, a cleanup's
   queue_left : (b : Bool) → d.cleans ≡ b → Queue w.term s.root (fin.remove w.ops t.op) (if b then w.deletes else fin.remove w.deletes t.op) w.completed w.next_op (fin.insert w.tickets k (record t { settled = true }))

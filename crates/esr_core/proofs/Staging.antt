@@ -2,22 +2,26 @@
 use Rattle.std.proofs.Common.{◌≡◌, ◌≢◌, ◌⊎◌, ℕ, ◌<◌, max, List, [], ◌∷◌, ◌++◌, Option, Some, None, map, refl, sym, ap, ◌∙◌, subst, inl, inr, arith, nat_cmp}
 use Rattle.std.specs.FinMap.{FinMap}
 use Rattle.std.specs.FinMap as fin
+use Rattle.std.specs.List.{list_any}
+use Rattle.std.proofs.lemmas.Bool.Decides.{eqb_tells}
 use Rattle.esr_model.specs.Places.{shelf_places}
 use Rattle.esr_model.specs.Names.{BlobName, Snap, Meta, IndexMeta, ShardSnap}
-use Rattle.esr_model.specs.Values.{Bytes, IndexRef, RootSnap, RootData, SnapInfo, ShardSnapshot, ShardResult, Kind, ReadsBack, Formats}
-use Rattle.esr_model.specs.Shelf.{Shelved, ShelfShard}
+use Rattle.esr_model.specs.Values.{Bytes, IndexRef, RootSnap, RootData, SnapInfo, FileEntry, ShardSnapshot, ShardResult, Kind, ReadsBack, Formats}
+use Rattle.esr_model.specs.Shelf.{Shelved, ShelfShard, is_of_one, shelved_at}
+use Rattle.esr_model.specs.Uploads.{same_bytes}
 use Rattle.esr_model.specs.Image.{Has, AllPairs, IsOne, Reads, index_at, at_shard_of, ListsAs, FileStands, ShardStands, SnapStands, RootStands, global_of}
 use Rattle.esr_model.specs.Finalize.{Finalizes, larger, done_at}
-use Rattle.std.specs.Prelude.{sum_by, min, ◌-◌, ◌^◌, ◌≤◌}
+use Rattle.std.specs.Prelude.{sum_by, min, filter, ◌-◌, ◌^◌, ◌≤◌, ◌==◌}
 use Rattle.esr_model.specs.Places.{comes_first, sorted_by}
-use Rattle.esr_core.specs.World.{Op, ShardWork, Done, AllDone, info_of, comes_first_of, shelved_shard, shelved_of, metadata}
-use Rattle.esr_core.specs.Generations.{DoneAt, IsLive, Carries, DoneStands, OpTexts, OpLaw}
+use Rattle.esr_core.specs.World.{Op, ShardWork, Done, AllDone, info_of, comes_first_of, shelved_shard, shelved_of, index_names, metadata}
+use Rattle.esr_core.specs.Generations.{DoneAt, IsLive, Carries, AreFilesOf, DoneStands, AreIndicesBy, OpTexts, OpLaw}
 use Rattle.esr_core.specs.Swaps.{OrOwn}
 use Rattle.esr_core.proofs.Frames.{reads_kept, file_kept, index_kept, AllPairs-map}
-use Rattle.esr_core.proofs.Results.{done_of}
+use Rattle.esr_core.proofs.Results.{choose_true, choose_false, done_of}
 use Rattle.esr_core.proofs.Owning.{stands_on}
-use Rattle.esr_core.proofs.Ordered.{Has-sorted, map-sorted}
-use Rattle.esr_core.proofs.Reading.{some_same, reads_one, AllPairs-snoc, AllPairs-with, Has-map}
+use Rattle.esr_core.proofs.Ordered.{Has-sorted, map-sorted, in_shelf_places}
+use Rattle.esr_core.proofs.Reading.{some_same, reads_one, AllPairs-snoc, AllPairs-with, Has-map, Has-mapped}
+use Rattle.esr_core.proofs.Chosen.{apart-once, chosen_places, filter_pairs}
 
 -- the larger of two is one of them, and not below either
 pub larger_is : (a b : Option ℕ) (g : ℕ) → larger a b ≡ Some g → (a ≡ Some g) ⊎ (b ≡ Some g)
@@ -103,13 +107,14 @@ module _ (f : Formats) (has : BlobName → Bytes → Type 0) (func : IsOne has) 
             (λ place shard m h. old_shard root new ops info results fin carries snap there s.info s.info_reads place shard m h) s.shards;
       }
 
-  -- a shard of the new one
+  -- a shard of the new one, with these files
   new_shard : (root new : RootData) (ops : FinMap nat_cmp Op) (info : SnapInfo) (results : List ShardResult) (fin : Finalizes root info results new)
       → (op : Op) → ((index shard g : ℕ) → IsLive root ops index shard g → Carries f has root ops index shard g)
       → (s : ShardWork) (r : ShardResult) → DoneAt ops op.uuid s.ref.id s.number r.generation → done_at results s.ref.id s.number ≡ Some r.generation
-      → DoneStands f has op.uuid s r
-      → ShardStands f Then new op.uuid (s.ref, s.number) (record { index = s.ref.name; number = s.number; files = f.told s.place s.ref.name s.number })
-  new_shard root new ops info results fin op carries s r done at_results d =
+      → (d : DoneStands f has op.source op.uuid s r) → (shard : ShelfShard) → shard.index ≡ s.ref.name → shard.number ≡ s.number
+      → AllPairs (λ e file. (e.physical ≡ file.0) × FileStands f has s.ref.id s.number e file.1) d.snap.files shard.files
+      → ShardStands f Then new op.uuid (s.ref, s.number) shard
+  new_shard root new ops info results fin op carries s r done at_results d shard index_is number_is files =
       let now = larger_new (at_shard_of (index_at root.indices s.ref.id) s.number) _ r.generation at_results in
       let serves : ListsAs f has s.ref.id s.number now.0 op.uuid = elim now.2 [
         | inl e ↦ (carries s.ref.id s.number now.0 (inr (op.uuid, subst (DoneAt ops op.uuid s.ref.id s.number) (sym e) done))).done op.uuid r.generation done (omega (arith, e))
@@ -117,8 +122,8 @@ module _ (f : Formats) (has : BlobName → Bytes → Type 0) (func : IsOne has) 
       ] in
       let same : serves.snap ≡ d.snap = reads_one has func (ShardSnap s.ref.id s.number op.uuid) f.shard_snap serves.snap d.snap serves.snap_reads d.snap_reads in
       record {
-        name_is = refl;
-        number_is = refl;
+        name_is = index_is;
+        number_is = number_is;
         generation = now.0;
         in_root = fin.generations s.ref.id s.number ∙ now.1;
         snap = serves.snap;
@@ -126,8 +131,8 @@ module _ (f : Formats) (has : BlobName → Bytes → Type 0) (func : IsOne has) 
         index = serves.held;
         index_reads = reads_kept f has Then lift _ _ _ serves.held_reads;
         lists = serves.lists;
-        files = subst (λ (x : ShardSnapshot). AllPairs (λ e file. (e.physical ≡ file.0) × FileStands f Then s.ref.id s.number e file.1) x.files (f.told s.place s.ref.name s.number)) (sym same)
-            (AllPairs-map (λ e file h. (h.0, file_kept f has Then lift s.ref.id s.number e file.1 h.1)) d.snap.files (f.told s.place s.ref.name s.number) d.files);
+        files = subst (λ (x : ShardSnapshot). AllPairs (λ e file. (e.physical ≡ file.0) × FileStands f Then s.ref.id s.number e file.1) x.files shard.files) (sym same)
+            (AllPairs-map (λ e file h. (h.0, file_kept f has Then lift s.ref.id s.number e file.1 h.1)) d.snap.files shard.files files);
       }
 
 -- pair by pair over two maps of one list
@@ -145,61 +150,127 @@ info_back f op results texts = texts.info _ _ (capped (sum_by (λ (r : ShardResu
     capped : (n : ℕ) → min n (2 ^ 63 - 1) < 2 ^ 63
     capped n = let h : min n (2 ^ 63 - 1) ≤ 2 ^ 63 - 1 = grind arith in omega (arith, h)
 
--- the new snapshot
-new_snap : (f : Formats) (has : BlobName → Bytes → Type 0) (func : IsOne has) (root new : RootData) (ops : FinMap nat_cmp Op) (o : ℕ) (op : Op) (results : List ShardResult)
-    → fin.get ops o ≡ Some op → OpLaw f has root op → ((index shard g : ℕ) → IsLive root ops index shard g → Carries f has root ops index shard g)
-    → AllDone op.shards results
-    → ((s : ShardWork) (r : ShardResult) → Has op.shards s → s.state ≡ Done r → done_at results s.ref.id s.number ≡ Some r.generation)
-    → Finalizes root (info_of op results) results new
-    → SnapStands f (OrOwn has (metadata f (info_of op results))) new (record { name = op.name; uuid = op.uuid; state = 1 }) (shelved_of f op)
-new_snap f has func root new ops o op results there law carries done at_results fin =
-    let info : SnapInfo = info_of op results in
-    let own : List (BlobName × Bytes) = metadata f info in
-    record {
-      name_is = refl;
-      uuid_is = refl;
-      info = info;
-      info_reads = own_reads f has func own (Snap op.uuid) f.info info (info_back f op results law.texts) (inl refl);
-      info_name = refl;
-      info_uuid = refl;
-      info_state = refl;
-      global_reads = own_reads f has func own (Meta op.uuid) f.global (global_of info) law.texts.global (inr (inl refl));
-      metas = λ r h. own_reads f has func own (IndexMeta r.id op.uuid) f.index_meta (record { index = r; uuid = op.uuid }) (law.texts.index r h)
-          (inr (inr (Has-map (λ (q : IndexRef). (IndexMeta q.id info.uuid, f.index_meta.text (record { index = q; uuid = info.uuid }))) info.indices r h)));
-      listed = fin.made;
-      exact = λ y h has. elim (fin.from y h op.uuid has) [
-        | inl e ↦ e.1
-        | inr e ↦ let (x, x_there, name, id, was) = e in absurd (law.unused x x_there was)
-      ];
-      shards = subst (λ list. AllPairs (ShardStands f (OrOwn has own) new op.uuid) list (shelved_of f op).shards) (map-sorted place_of comes_first op.shards ∙ ap (sorted_by comes_first) law.places)
-          (AllPairs-maps (ShardStands f (OrOwn has own) new op.uuid) place_of (shelved_shard f) (sorted_by comes_first_of op.shards)
-          (λ s in_order. let m = Has-sorted comes_first_of op.shards s in_order in
-          let (r, state, r_there) = done_of op.shards results done s m in
-          new_shard f has func own root new ops info results fin op carries s r
-          (record { number = o; op = op; there = there; uuid_is = refl; s = s; s_there = m; r = r; state = state; index_is = refl; shard_is = refl; generation_is = refl })
-          (at_results s r m state) (law.done s r m state)));
-    }
+-- the first snapshot of the shelf with this uuid, which is that of a listed one
+pub record IsShelved (f : Formats) (has : BlobName → Bytes → Type 0) (root : RootData) (shelf : List Shelved) (u : ℕ) : Type 0 where
+  pub shelved : Shelved
+  pub found : shelved_at shelf u ≡ Some shelved
+  pub snap : RootSnap
+  pub uuid_is : snap.uuid ≡ u
+  pub stands : SnapStands f has root snap shelved
 
-pub stage : (f : Formats) (has : BlobName → Bytes → Type 0) (func : IsOne has) (root new : RootData) (ops : FinMap nat_cmp Op) (shelf : List Shelved) (o : ℕ) (op : Op) (results : List ShardResult)
-    → fin.get ops o ≡ Some op → OpLaw f has root op → ((index shard g : ℕ) → IsLive root ops index shard g → Carries f has root ops index shard g)
-    → AllDone op.shards results
-    → ((s : ShardWork) (r : ShardResult) → Has op.shards s → s.state ≡ Done r → done_at results s.ref.id s.number ≡ Some r.generation)
-    → ((index shard g : ℕ) → done_at results index shard ≡ Some g → DoneAt ops op.uuid index shard g)
-    → RootStands f has root shelf → Finalizes root (info_of op results) results new
-    → RootStands f (OrOwn has (metadata f (info_of op results))) new (shelf ++ shelved_of f op ∷ [])
-stage f has func root new ops shelf o op results there law carries done at_results done_at_op stands fin =
-    let info : SnapInfo = info_of op results in
-    let own : List (BlobName × Bytes) = metadata f info in
-    record {
-      snapshots = subst (λ xs. AllPairs (SnapStands f (Then f has func own) new) xs (shelf ++ shelved_of f op ∷ [])) (sym fin.snapshots)
-          (AllPairs-snoc (SnapStands f (Then f has func own) new) root.snapshots shelf _ (shelved_of f op)
-          (AllPairs-with (SnapStands f has root) (SnapStands f (Then f has func own) new) root.snapshots shelf
-          (λ snap shelved m h. old_snap f has func own root new ops info results fin (λ i s g e. carries i s g (inr (op.uuid, done_at_op i s g e))) snap m (law.unlisted snap m) shelved h) stands.snapshots)
-          (new_snap f has func root new ops o op results there law carries done at_results fin));
-      indices = λ index shard g is.
-          let live : IsLive root ops index shard g = elim (larger_is _ (done_at results index shard) g (sym (fin.generations index shard) ∙ is)) [
-            | inl e ↦ inl e
-            | inr e ↦ inr (op.uuid, done_at_op index shard g e)
-          ] in
-          index_kept f has (Then f has func own) (lift f has func own) new index shard g (stands_on f has root new ops o op results there law done fin index shard g (carries index shard g live));
-    }
+pub listed_shelved : (f : Formats) (has : BlobName → Bytes → Type 0) (root : RootData) (snaps : List RootSnap) (shelf : List Shelved) → AllPairs (SnapStands f has root) snaps shelf
+    → (z : RootSnap) → Has snaps z → (u : ℕ) → z.uuid ≡ u → IsShelved f has root shelf u
+listed_shelved f has root [] shelf h z m u is = absurd m
+listed_shelved f has root (s ∷ snaps) [] h z m u is = absurd h
+listed_shelved f has root (s ∷ snaps) (y ∷ shelf) h z m u is = elim (eqb_tells y.uuid u) [
+  | inl t ↦ record { shelved = y; found = choose_true (y.uuid == u) (Some y) (shelved_at shelf u) t.0; snap = s; uuid_is = sym h.0.uuid_is ∙ t.1; stands = h.0 }
+  | inr t ↦
+      let x : IsShelved f has root shelf u = later t.1 m (λ n. listed_shelved f has root snaps shelf h.1 z n u is) in
+      record { shelved = x.shelved; found = choose_false (y.uuid == u) (Some y) (shelved_at shelf u) t.0 ∙ x.found; snap = x.snap; uuid_is = x.uuid_is; stands = x.stands }
+]
+  where
+    later : (y.uuid ≡ u → ⊥) → Has (s ∷ snaps) z → (Has snaps z → IsShelved f has root shelf u) → IsShelved f has root shelf u
+    later other (inl e) rest = absurd (other (h.0.uuid_is ∙ ap (λ (q : RootSnap). q.uuid) e ∙ is))
+    later other (inr n) rest = rest n
+
+-- what the finalization of an op stages
+module _ (f : Formats) (has : BlobName → Bytes → Type 0) (func : IsOne has) (root new : RootData) (ops : FinMap nat_cmp Op) (o : ℕ) (op : Op) (results : List ShardResult)
+    (there : fin.get ops o ≡ Some op) (law : OpLaw f has root op) (carries : (index shard g : ℕ) → IsLive root ops index shard g → Carries f has root ops index shard g)
+    (done : AllDone op.shards results)
+    (at_results : (s : ShardWork) (r : ShardResult) → Has op.shards s → s.state ≡ Done r → done_at results s.ref.id s.number ≡ Some r.generation)
+    (fins : Finalizes root (info_of op results) results new) where
+  abbrev info : SnapInfo
+  info = info_of op results
+
+  abbrev own : List (BlobName × Bytes)
+  own = metadata f (info_of op results)
+
+  -- a shard of it, with these files
+  its_shard : (s : ShardWork) → Has op.shards s → (shard : ShelfShard) → shard.index ≡ s.ref.name → shard.number ≡ s.number
+      → ((r : ShardResult) (d : DoneStands f has op.source op.uuid s r) → AllPairs (λ e file. (e.physical ≡ file.0) × FileStands f has s.ref.id s.number e file.1) d.snap.files shard.files)
+      → ShardStands f (OrOwn has own) new op.uuid (s.ref, s.number) shard
+  its_shard s m shard index_is number_is files =
+      let (r, state, r_there) = done_of op.shards results done s m in
+      let d : DoneStands f has op.source op.uuid s r = law.done s r m state in
+      new_shard f has func own root new ops info results fins op carries s r
+      (record { number = o; op = op; there = there; uuid_is = refl; s = s; s_there = m; r = r; state = state; index_is = refl; shard_is = refl; generation_is = refl })
+      (at_results s r m state) d shard index_is number_is (files r d)
+
+  -- its shards, of files that the sources tell
+  pub told_shards : op.source ≡ None → AllPairs (ShardStands f (OrOwn has own) new op.uuid) (shelf_places op.indices) (shelved_of f op).shards
+  told_shards none =
+      subst (λ list. AllPairs (ShardStands f (OrOwn has own) new op.uuid) list (shelved_of f op).shards) (map-sorted place_of comes_first op.shards ∙ ap (sorted_by comes_first) law.places)
+      (AllPairs-maps (ShardStands f (OrOwn has own) new op.uuid) place_of (shelved_shard f) (sorted_by comes_first_of op.shards)
+      (λ s in_order. its_shard s (Has-sorted comes_first_of op.shards s in_order) (shelved_shard f s) refl refl
+      (λ r d. subst (λ source. AreFilesOf f has source s.ref.id s.number s d.snap.files) none d.files)))
+
+  -- and of a clone, of what a listed snapshot has of its indices
+  pub copied_shards : (u : ℕ) → op.source ≡ Some u → (snap : RootSnap) → snap.uuid ≡ u → (x : Shelved) → SnapStands f has root snap x
+      → AllPairs (ShardStands f (OrOwn has own) new op.uuid) (shelf_places op.indices) (filter (is_of_one (index_names op.indices)) x.shards)
+  copied_shards u copies snap uuid x stands =
+      AllPairs-with (ShardStands f has root snap.uuid) (ShardStands f (OrOwn has own) new op.uuid) (shelf_places op.indices) (filter (is_of_one (index_names op.indices)) x.shards) one were
+    where
+      by : AreIndicesBy f has u op.indices
+      by = (law.copies u copies).by_info
+
+      info_same : stands.info ≡ by.info
+      info_same = reads_one has func (Snap u) f.info stands.info by.info (subst (λ n. Reads has (Snap n) f.info stands.info) uuid stands.info_reads) by.info_reads
+
+      were : AllPairs (ShardStands f has root snap.uuid) (shelf_places op.indices) (filter (is_of_one (index_names op.indices)) x.shards)
+      were =
+          subst (λ list. AllPairs (ShardStands f has root snap.uuid) list (filter (is_of_one (index_names op.indices)) x.shards))
+          (sym (chosen_places by.info.indices op.indices by.among by.named_once (apart-once by.info.indices by.apart) by.once))
+          (filter_pairs (ShardStands f has root snap.uuid) (λ (p : IndexRef × ℕ). list_any (same_bytes p.0.name) (index_names op.indices)) (is_of_one (index_names op.indices))
+          (λ place shard h. ap (λ (name : Bytes). list_any (same_bytes name) (index_names op.indices)) (sym h.name_is))
+          (shelf_places by.info.indices) x.shards (subst (λ (i : SnapInfo). AllPairs (ShardStands f has root snap.uuid) (shelf_places i.indices) x.shards) info_same stands.shards))
+
+      one : (place : IndexRef × ℕ) (shard : ShelfShard) → Has (shelf_places op.indices) place → ShardStands f has root snap.uuid place shard → ShardStands f (OrOwn has own) new op.uuid place shard
+      one place shard m h =
+          let (s, s_there, e) = Has-mapped place_of op.shards place (subst (λ list. Has list place) (sym law.places) (in_shelf_places op.indices place m)) in
+          let g : ShardStands f has root u (s.ref, s.number) shard = subst (λ n. ShardStands f has root n (s.ref, s.number) shard) uuid (subst (λ (p : IndexRef × ℕ). ShardStands f has root snap.uuid p shard) (sym e) h) in
+          subst (λ (p : IndexRef × ℕ). ShardStands f (OrOwn has own) new op.uuid p shard) e
+          (its_shard s s_there shard g.name_is g.number_is (λ r d.
+          let q : (was : ShardSnapshot) × Reads has (ShardSnap s.ref.id s.number u) f.shard_snap was × (was.files ≡ d.snap.files) = subst (λ source. AreFilesOf f has source s.ref.id s.number s d.snap.files) copies d.files in
+          let it : q.0 ≡ g.snap = reads_one has func (ShardSnap s.ref.id s.number u) f.shard_snap q.0 g.snap q.1 g.snap_reads in
+          subst (λ (es : List FileEntry). AllPairs (λ e file. (e.physical ≡ file.0) × FileStands f has s.ref.id s.number e file.1) es shard.files) (ap (λ (v : ShardSnapshot). v.files) (sym it) ∙ q.2) g.files))
+
+  -- the new snapshot
+  new_snap : (made : Shelved) → made.name ≡ op.name → made.uuid ≡ op.uuid → AllPairs (ShardStands f (OrOwn has own) new op.uuid) (shelf_places op.indices) made.shards
+      → SnapStands f (OrOwn has own) new (record { name = op.name; uuid = op.uuid; state = 1 }) made
+  new_snap made name uuid shards =
+      record {
+        name_is = name;
+        uuid_is = uuid;
+        info = info;
+        info_reads = own_reads f has func own (Snap op.uuid) f.info info (info_back f op results law.texts) (inl refl);
+        info_name = refl;
+        info_uuid = refl;
+        info_state = refl;
+        global_reads = own_reads f has func own (Meta op.uuid) f.global (global_of info) law.texts.global (inr (inl refl));
+        metas = λ r h. own_reads f has func own (IndexMeta r.id op.uuid) f.index_meta (record { index = r; uuid = op.uuid }) (law.texts.index r h)
+            (inr (inr (Has-map (λ (q : IndexRef). (IndexMeta q.id info.uuid, f.index_meta.text (record { index = q; uuid = info.uuid }))) info.indices r h)));
+        listed = fins.made;
+        exact = λ y h has. elim (fins.from y h op.uuid has) [
+          | inl e ↦ e.1
+          | inr e ↦ let (x, x_there, name, id, was) = e in absurd (law.unused x x_there was)
+        ];
+        shards = shards;
+      }
+
+  pub stage : (shelf : List Shelved) → ((index shard g : ℕ) → done_at results index shard ≡ Some g → DoneAt ops op.uuid index shard g) → RootStands f has root shelf
+      → (made : Shelved) → made.name ≡ op.name → made.uuid ≡ op.uuid → AllPairs (ShardStands f (OrOwn has own) new op.uuid) (shelf_places op.indices) made.shards
+      → RootStands f (OrOwn has own) new (shelf ++ made ∷ [])
+  stage shelf done_at_op stands made name uuid shards =
+      record {
+        snapshots = subst (λ xs. AllPairs (SnapStands f (Then f has func own) new) xs (shelf ++ made ∷ [])) (sym fins.snapshots)
+            (AllPairs-snoc (SnapStands f (Then f has func own) new) root.snapshots shelf _ made
+            (AllPairs-with (SnapStands f has root) (SnapStands f (Then f has func own) new) root.snapshots shelf
+            (λ snap shelved m h. old_snap f has func own root new ops info results fins (λ i s g e. carries i s g (inr (op.uuid, done_at_op i s g e))) snap m (law.unlisted snap m) shelved h) stands.snapshots)
+            (new_snap made name uuid shards));
+        indices = λ index shard g is.
+            let live : IsLive root ops index shard g = elim (larger_is _ (done_at results index shard) g (sym (fins.generations index shard) ∙ is)) [
+              | inl e ↦ inl e
+              | inr e ↦ inr (op.uuid, done_at_op index shard g e)
+            ] in
+            index_kept f has (Then f has func own) (lift f has func own) new index shard g (stands_on f has root new ops o op results there law done fins index shard g (carries index shard g live));
+      }

@@ -15,7 +15,7 @@ use Rattle.esr_model.specs.Places.{put_by}
 use Rattle.esr_model.specs.Image.{AllPairs, At, Reads, FileStands, concat}
 use Rattle.esr_model.specs.Uploads.{same_bytes, matches, reused, reused_file, entry_by, next_by, entries_from, id_after, pieces, pairs, file_blobs, blobs_by, new_blobs, has_entry, id_first, with_entries, with_snap, no_files, shard_blobs}
 use Rattle.esr_core.specs.World.{World, Op, ShardWork, Out, Done, Shard, Ticket, HeldIn, marked}
-use Rattle.esr_core.specs.Generations.{Base}
+use Rattle.esr_core.specs.Generations.{AreFilesOf, Base}
 use Rattle.esr_core.specs.Ready.{IsShard}
 use Rattle.esr_core.specs.Steps.{IsOut, Drew, Extends, ExtendsBase, completing}
 use Rattle.esr_core.specs.Turns.{InBase, DoneFound}
@@ -241,10 +241,8 @@ entries_there f size base (file ∷ files) next have keeps below e m =
             (λ x h. elim (more_from have b x h) [ inl same ↦ subst (λ (y : FileEntry). y.name < next) same (below b (keeps b (reused_is base.files file.0 (length file.1) (f.digest file.1) b is).0)) | inr was ↦ below x was ]) e later
 
 -- the index with a snapshot more has what the base had, and the snapshot
-pub extended : (f : Formats) (size : ℕ) (base : ShardFiles) (uuid first : ℕ) (files : List (Bytes × Bytes)) → ((x : FileEntry) → Has base.files x → x.name < first)
-    → Extends base (with_snap base uuid (entries_from f size base first files)) uuid (entries_from f size base first files)
-extended f size base uuid first files below =
-    let entries : List FileEntry = entries_from f size base first files in
+extended_by : (base : ShardFiles) (uuid : ℕ) (entries : List FileEntry) → ((e : FileEntry) → Has entries e → Has (with_entries base.files entries) e) → Extends base (with_snap base uuid entries) uuid entries
+extended_by base uuid entries have =
     let list : SnapList = record { uuid = uuid; files = map (λ (e : FileEntry). e.name) entries } in
     record {
       keeps = λ u fs h. record { list = h.list; there = Has-left base.snapshots (list ∷ []) h.list h.there; uuid_is = h.uuid_is; entries = AllPairs-map (λ id e p. (p.0, entries_keep entries base.files e p.1)) h.list.files fs h.entries };
@@ -252,20 +250,28 @@ extended f size base uuid first files below =
         list = list;
         there = Has-right base.snapshots (list ∷ []) list (inl refl);
         uuid_is = refl;
-        entries = named entries (λ e m. entries_there f size base files first base.files (λ x h. h) below e m);
+        entries = named entries have;
       };
       files_from = λ e m. entries_source entries base.files e m;
       lists_from = λ l m. elim (Has-either base.snapshots (list ∷ []) l m) [ inl h ↦ inl h | inr h ↦ inr (only l h) ];
     }
   where
-    named : (es : List FileEntry) → ((e : FileEntry) → Has es e → Has (with_entries base.files (entries_from f size base first files)) e)
-        → AllPairs (λ (id : ℕ) (e : FileEntry). (e.name ≡ id) × Has (with_entries base.files (entries_from f size base first files)) e) (map (λ (e : FileEntry). e.name) es) es
+    named : (es : List FileEntry) → ((e : FileEntry) → Has es e → Has (with_entries base.files entries) e)
+        → AllPairs (λ (id : ℕ) (e : FileEntry). (e.name ≡ id) × Has (with_entries base.files entries) e) (map (λ (e : FileEntry). e.name) es) es
     named [] all = tt
     named (e ∷ es) all = ((refl, all e (inl refl)), named es (λ x m. all x (inr m)))
 
-    only : (l : SnapList) → Has (record { uuid = uuid; files = map (λ (e : FileEntry). e.name) (entries_from f size base first files) } ∷ []) l → l.uuid ≡ uuid
+    only : (l : SnapList) → Has (record { uuid = uuid; files = map (λ (e : FileEntry). e.name) entries } ∷ []) l → l.uuid ≡ uuid
     only l (inl e) = ap (λ (x : SnapList). x.uuid) (sym e)
     only l (inr h) = absurd h
+
+pub extended : (f : Formats) (size : ℕ) (base : ShardFiles) (uuid first : ℕ) (files : List (Bytes × Bytes)) → ((x : FileEntry) → Has base.files x → x.name < first)
+    → Extends base (with_snap base uuid (entries_from f size base first files)) uuid (entries_from f size base first files)
+extended f size base uuid first files below = extended_by base uuid (entries_from f size base first files) (λ e m. entries_there f size base files first base.files (λ x h. h) below e m)
+
+-- so has that with a snapshot of files that are there
+pub extended_old : (base : ShardFiles) (uuid : ℕ) (files : List FileEntry) → ((e : FileEntry) → Has files e → Has base.files e) → Extends base (with_snap base uuid files) uuid files
+extended_old base uuid files old = extended_by base uuid files (λ e m. entries_keep files base.files e (old e m))
 
 -- each file stands: a new one by its blobs, a reused one in the base
 pub files_stand : (f : Formats) (has : BlobName → Bytes → Type 0) (i k size : ℕ) → 0 < size → (base : ShardFiles)
@@ -288,7 +294,7 @@ files_stand f has i k size some base (file ∷ files) old next there =
         subst (λ o. ((entry_by f size next file o).physical ≡ file.0) × FileStands f has i k (entry_by f size next file o) file.1) (sym is) (physical, old e file (inl refl) m len digest)
 
 module _ (f : Formats) (size : ℕ) (w : World) (shelf : List Shelved) (l : Law f w shelf) (honest : IsHonest f w.blobs) (k : ℕ) (t : Ticket) (out : IsOut w k t) (r : ShardResult) (is : t.work ≡ Shard r.index r.shard)
-    (op : Op) (op_there : fin.get w.ops t.op ≡ Some op) (s : ShardWork) (s_there : Has op.shards s) (state : s.state ≡ Out k) (place_is : s.place ≡ t.place) (name_is : s.ref.name ≡ t.name) (b : DoneBy f size t r) (told_is : b.files ≡ f.told t.place t.name r.shard) where
+    (op : Op) (op_there : fin.get w.ops t.op ≡ Some op) (s : ShardWork) (s_there : Has op.shards s) (state : s.state ≡ Out k) (place_is : s.place ≡ t.place) (name_is : s.ref.name ≡ t.name) (no_source : op.source ≡ None) (b : DoneBy f size t r) (told_is : b.files ≡ f.told t.place t.name r.shard) where
   abbrev files : List (Bytes × Bytes)
   files = b.files
 
@@ -390,7 +396,8 @@ module _ (f : Formats) (size : ℕ) (w : World) (shelf : List Shelved) (l : Law 
         s = s;
         s_there = s_there;
         state = state;
-        files = subst (λ fs. AllPairs (λ (e : FileEntry) (file : Bytes × Bytes). (e.physical ≡ file.0) × FileStands f (At f w.blobs) r.index r.shard e file.1) entries fs) files_told
-            (files_stand f (At f w.blobs) r.index r.shard size b.size b.base files old_file t.first (λ name bytes m. there name bytes (Has-left blobs _ (name, bytes) m)));
+        files = subst (λ o. AreFilesOf f (At f w.blobs) o r.index r.shard s entries) (sym no_source)
+            (subst (λ fs. AllPairs (λ (e : FileEntry) (file : Bytes × Bytes). (e.physical ≡ file.0) × FileStands f (At f w.blobs) r.index r.shard e file.1) entries fs) files_told
+            (files_stand f (At f w.blobs) r.index r.shard size b.size b.base files old_file t.first (λ name bytes m. there name bytes (Has-left blobs _ (name, bytes) m))));
         new_is = e;
       }

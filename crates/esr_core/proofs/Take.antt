@@ -1,22 +1,23 @@
 -- A finalization that is taken keeps the law: what it stages stands.
-use Rattle.std.proofs.Common.{◌≡◌, ◌≢◌, ℕ, suc, ◌<◌, List, [], ◌∷◌, ◌++◌, Option, Some, refl, sym, ap, ◌∙◌, subst, inl, inr, arith, le_refl}
+use Rattle.std.proofs.Common.{◌≡◌, ◌≢◌, ℕ, suc, ◌<◌, filter, List, [], ◌∷◌, ◌++◌, Option, Some, None, refl, sym, ap, ◌∙◌, subst, inl, inr, arith, le_refl}
 use Rattle.std.specs.Cmp.{nat_cmp_total}
 use Rattle.std.specs.FinMap.{nat_cmp-IsAntisymmetric}
 use Rattle.std.specs.FinMap as fin
 use Rattle.esr_model.specs.Names.{BlobName, Root, Snap, Meta, IndexMeta}
 use Rattle.esr_model.specs.Values.{Bytes, IndexRef, RootData, SnapInfo, ShardResult, ReadsBack, Formats}
-use Rattle.esr_model.specs.Shelf.{Shelved, Create}
-use Rattle.esr_model.specs.Image.{Has, RootStands, global_of}
-use Rattle.esr_model.specs.Finalize.{finalized_root}
-use Rattle.esr_core.specs.World.{World, Op, ShardWork, Shard, Finalize, Deleting, Ticket, Swap, Done, AllDone, info_of, shelved_of, metadata, ledger_of, HeldIn}
+use Rattle.esr_model.specs.Shelf.{Shelved, Command, apply, shelf_after, is_of_one, copied_snap}
+use Rattle.esr_model.specs.Places.{shelf_places}
+use Rattle.esr_model.specs.Image.{Has, AllPairs, ShardStands, RootStands, global_of}
+use Rattle.esr_model.specs.Finalize.{Finalizes, finalized_root, done_at}
+use Rattle.esr_core.specs.World.{World, Op, ShardWork, Shard, Finalize, Deleting, Ticket, Swap, Done, AllDone, info_of, shelved_of, index_names, made_from, made_of, metadata, ledger_of, HeldIn}
 use Rattle.esr_core.specs.Steps.{TakeFinalize, final_ticket}
 use Rattle.esr_core.specs.Restores.{IsTestOf}
 use Rattle.esr_core.specs.Swaps.{Rooted, IsSwapping, SwapLaw, SwapShape, TicketLaw, OrOwn}
-use Rattle.esr_core.specs.Generations.{Carried}
+use Rattle.esr_core.specs.Generations.{DoneAt, OpLaw, Carried}
 use Rattle.esr_core.proofs.Maps.{get_was, get_other}
 use Rattle.esr_core.proofs.Reading.{some_same, held_one, safe_root_stands, Has-mapped}
 use Rattle.esr_core.proofs.Results.{found_done, done_found}
-use Rattle.esr_core.proofs.Staging.{stage}
+use Rattle.esr_core.proofs.Staging.{listed_shelved, told_shards, copied_shards, stage}
 use Rattle.esr_core.proofs.Finalizing.{finalizes, root_one_each}
 use Rattle.esr_core.proofs.Tickets.{each_ticket, swapping_new}
 
@@ -48,7 +49,7 @@ one_kind f info one name a b (IsIndex r l n t) (IsIndex q m e u) =
 
 -- the metadata of a snapshot are no roots, and each has one text
 pub metadata_shape : (f : Formats) (info : SnapInfo) → ((r q : IndexRef) → Has info.indices r → Has info.indices q → r.id ≡ q.id → r ≡ q)
-    → (root : RootData) (made : Shelved) → ReadsBack f.root root → SwapShape f (record { root = root; own = metadata f info; commands = Create made ∷ [] })
+    → (root : RootData) (made : Command) → ReadsBack f.root root → SwapShape f (record { root = root; own = metadata f info; commands = made ∷ [] })
 metadata_shape f info one root made back =
     record {
       root_back = back;
@@ -81,18 +82,49 @@ module _ (f : Formats) (w : World) (shelf : List Shelved) (o : ℕ) (op : Op) (r
   v = final_ticket f w o op results
 
   abbrev its : Swap
-  its = record { root = finalized_root w.root (info_of op results) results; own = metadata f (info_of op results); commands = Create (shelved_of f op) ∷ [] }
+  its = record { root = finalized_root w.root (info_of op results) results; own = metadata f (info_of op results); commands = made_of f op ∷ [] }
 
-  staged : RootStands f (OrOwn (HeldIn f w) (metadata f (info_of op results))) (finalized_root w.root (info_of op results) results) (shelf ++ shelved_of f op ∷ [])
-  staged =
-      let law = c.ops o op d.op_there in
-      let ids : (s : ShardWork) (r : ShardResult) → Has op.shards s → s.state ≡ Done r → (r.index ≡ s.ref.id) × (r.shard ≡ s.number) = λ s r m e. let x = law.done s r m e in (x.index_is, x.shard_is) in
-      stage f (HeldIn f w) (held_one f w) w.root (finalized_root w.root (info_of op results) results) w.ops shelf o op results d.op_there law c.carries d.done
-      (λ s r m e. done_found op.shards results d.done ids law.distinct s r m e)
-      (λ i n g e. let (s, m, (r, state, is, ns, gen)) = found_done op.shards results d.done ids i n g e in
-      record { number = o; op = op; there = d.op_there; uuid_is = refl; s = s; s_there = m; r = r; state = state; index_is = is; shard_is = ns; generation_is = gen })
-      (safe_root_stands f (HeldIn f w) (held_one f w) w.safe w.root shelf l.kept.picked c.root_is)
-      (finalizes f (HeldIn f w) w.root op results law (root_one_each f (HeldIn f w) w.safe w.root c.root_is) d.done)
+  abbrev root_now : RootData
+  root_now = finalized_root w.root (info_of op results) results
+
+  abbrev Then : BlobName → Bytes → Type 0
+  Then = OrOwn (HeldIn f w) (metadata f (info_of op results))
+
+  law : OpLaw f (HeldIn f w) w.root op
+  law = c.ops o op d.op_there
+
+  ids : (s : ShardWork) (r : ShardResult) → Has op.shards s → s.state ≡ Done r → (r.index ≡ s.ref.id) × (r.shard ≡ s.number)
+  ids s r m e = let x = law.done s r m e in (x.index_is, x.shard_is)
+
+  at_results : (s : ShardWork) (r : ShardResult) → Has op.shards s → s.state ≡ Done r → done_at results s.ref.id s.number ≡ Some r.generation
+  at_results s r m e = done_found op.shards results d.done ids law.distinct s r m e
+
+  result_done : (index shard g : ℕ) → done_at results index shard ≡ Some g → DoneAt w.ops op.uuid index shard g
+  result_done i n g e =
+      let (s, m, (r, state, is, ns, gen)) = found_done op.shards results d.done ids i n g e in
+      record { number = o; op = op; there = d.op_there; uuid_is = refl; s = s; s_there = m; r = r; state = state; index_is = is; shard_is = ns; generation_is = gen }
+
+  fins : Finalizes w.root (info_of op results) results root_now
+  fins = finalizes f (HeldIn f w) w.root op results law (root_one_each f (HeldIn f w) w.safe w.root c.root_is) d.done
+
+  stands : RootStands f (HeldIn f w) w.root shelf
+  stands = safe_root_stands f (HeldIn f w) (held_one f w) w.safe w.root shelf l.kept.picked c.root_is
+
+  staged_as : (made : Shelved) → made.name ≡ op.name → made.uuid ≡ op.uuid → AllPairs (ShardStands f Then root_now op.uuid) (shelf_places op.indices) made.shards → RootStands f Then root_now (shelf ++ made ∷ [])
+  staged_as = stage f (HeldIn f w) (held_one f w) w.root root_now w.ops o op results d.op_there law c.carries d.done at_results fins shelf result_done stands
+
+  -- of the files that the sources tell, or of what a clone copies
+  staged_by : (source : Option ℕ) → op.source ≡ source → RootStands f Then root_now (apply shelf (made_from f op source))
+  staged_by None none = staged_as (shelved_of f op) refl refl (told_shards f (HeldIn f w) (held_one f w) w.root root_now w.ops o op results d.op_there law c.carries d.done at_results fins none)
+  staged_by (Some u) copies =
+      let (z, m, is) = (law.copies u copies).listed in
+      let x = listed_shelved f (HeldIn f w) w.root w.root.snapshots shelf stands.snapshots z m u is in
+      subst (λ (y : Option Shelved). RootStands f Then root_now (shelf ++ copied_snap op.name op.uuid (index_names op.indices) y)) (sym x.found)
+      (staged_as (record { name = op.name; uuid = op.uuid; shards = filter (is_of_one (index_names op.indices)) x.shelved.shards }) refl refl
+      (copied_shards f (HeldIn f w) (held_one f w) w.root root_now w.ops o op results d.op_there law c.carries d.done at_results fins u copies x.snap x.uuid_is x.shelved x.stands))
+
+  staged : RootStands f Then root_now (shelf_after shelf (made_of f op ∷ []))
+  staged = staged_by op.source refl
 
   idle : (j : ℕ) → IsSwapping f w.tickets w.term j → ⊥
   idle j h = d.idle j h.t h.s h.there h.is.is h.is.out h.is.unsettled h.present
@@ -105,7 +137,7 @@ module _ (f : Formats) (w : World) (shelf : List Shelved) (o : ℕ) (op : Op) (r
         last = λ s i p n e. absurd (cc);
         clean = λ s i c name b own. d.clean name b (subst (λ (x : Swap). Has x.own (name, b)) (sym (some_same _ _ i.is)) own);
         clean_root = λ n e le. absurd (cc);
-        shape = λ s e. subst (SwapShape f) (some_same _ _ e) (metadata_shape f (info_of op results) (c.ops o op d.op_there).one_id its.root (shelved_of f op) d.root_back);
+        shape = λ s e. subst (SwapShape f) (some_same _ _ e) (metadata_shape f (info_of op results) (c.ops o op d.op_there).one_id its.root (made_of f op) d.root_back);
         swaps = λ s i counts. subst (SwapLaw f (HeldIn f w) shelf []) (some_same _ _ i.is) (record { staged = staged; noted = λ name b m h. absurd h; root_noted = λ n h. absurd h });
       }
 
@@ -131,7 +163,7 @@ module _ (f : Formats) (w : World) (shelf : List Shelved) (o : ℕ) (op : Op) (r
     | inr h ↦ h.1
   ]
     where
-      differ : {info : SnapInfo} {rs : List ShardResult} {made : Shelved} {i n : ℕ} → Finalize info rs made ≡ Shard i n → ⊥
+      differ : {info : SnapInfo} {rs : List ShardResult} {made : Command} {i n : ℕ} → Finalize info rs made ≡ Shard i n → ⊥
       differ e = cc
 
   pub taken_carried : Carried f (HeldIn f w) w.safe w.term w.root w.ops (fin.insert w.tickets w.next_ticket v)
@@ -156,8 +188,8 @@ module _ (f : Formats) (w : World) (shelf : List Shelved) (o : ℕ) (op : Op) (r
         ];
       }
     where
-      no_plan : {info : SnapInfo} {rs : List ShardResult} {made : Shelved} {us : List ℕ} {p : Option Swap} → Finalize info rs made ≡ Deleting us p → ⊥
+      no_plan : {info : SnapInfo} {rs : List ShardResult} {made : Command} {us : List ℕ} {p : Option Swap} → Finalize info rs made ≡ Deleting us p → ⊥
       no_plan e = cc
 
-      parts : (a b : SnapInfo) (rs qs : List ShardResult) (m n : Shelved) → Finalize a rs m ≡ Finalize b qs n → (a ≡ b) × (rs ≡ qs) × (m ≡ n)
+      parts : (a b : SnapInfo) (rs qs : List ShardResult) (m n : Command) → Finalize a rs m ≡ Finalize b qs n → (a ≡ b) × (rs ≡ qs) × (m ≡ n)
       parts a b rs qs m n e = (cc, cc, cc)

@@ -5,7 +5,7 @@ use Rattle.std.specs.FinMap.{FinMap, nat_cmp-IsAntisymmetric}
 use Rattle.std.specs.FinMap as fin
 use Rattle.std.proofs.lemmas.Bool.Decides.{eqb_tells}
 use Rattle.esr_model.specs.Values.{IndexRef, SnapInfo, ShardResult, Formats}
-use Rattle.esr_model.specs.Shelf.{Shelved}
+use Rattle.esr_model.specs.Shelf.{Command}
 use Rattle.esr_model.specs.Image.{Has}
 use Rattle.esr_core.specs.World.{World, Op, ShardWork, Pending, Out, Done, Shard, Finalize, Deleting, Ticket, Swap, HeldIn}
 use Rattle.esr_core.specs.Steps.{TakeShard, given, Largest, shard_ticket}
@@ -85,6 +85,7 @@ module _ (f : Formats) (w : World) (o : ℕ) (op : Op) (s : ShardWork) (base : O
         op = now;
         op_there = get_same nat_cmp_total nat_cmp-IsAntisymmetric w.ops o now;
         uuid_is = refl;
+        source_is = refl;
         s = g s;
         s_there = Has-map g op.shards s d.s_there;
         state = elim (given_is k s.ref.id s.number s) [ inl h ↦ ap (λ (x : ShardWork). x.state) h.2 | inr h ↦ absurd (h.0 refl refl) ];
@@ -105,6 +106,7 @@ module _ (f : Formats) (w : World) (o : ℕ) (op : Op) (s : ShardWork) (base : O
               op = now;
               op_there = ap (fin.get ops) same ∙ get_same nat_cmp_total nat_cmp-IsAntisymmetric w.ops o now;
               uuid_is = ap (λ (x : Op). x.uuid) (sym one) ∙ l.uuid_is;
+              source_is = l.source_is ∙ ap (λ (x : Op). x.source) one;
               s = l.s;
               s_there = subst (Has (map g op.shards)) (stays l.s j there l.state) (Has-map g op.shards l.s there);
               state = l.state;
@@ -113,7 +115,7 @@ module _ (f : Formats) (w : World) (o : ℕ) (op : Op) (s : ShardWork) (base : O
               base = base';
               ids = l.ids;
             }
-        | inr h ↦ record { op = l.op; op_there = get_other nat_cmp_total nat_cmp-IsAntisymmetric w.ops o now u.op h.0 ∙ l.op_there; uuid_is = l.uuid_is; s = l.s; s_there = l.s_there; state = l.state; index_is = l.index_is; shard_is = l.shard_is; base = base'; ids = l.ids }
+        | inr h ↦ record { op = l.op; op_there = get_other nat_cmp_total nat_cmp-IsAntisymmetric w.ops o now u.op h.0 ∙ l.op_there; uuid_is = l.uuid_is; source_is = l.source_is; s = l.s; s_there = l.s_there; state = l.state; index_is = l.index_is; shard_is = l.shard_is; base = base'; ids = l.ids }
       ]
 
   ticket_was : (j : ℕ) (u : Ticket) → fin.get (fin.insert w.tickets k v) j ≡ Some u → ((j ≡ k) × (v ≡ u)) ⊎ ((j ≢ k) × (fin.get w.tickets j ≡ Some u))
@@ -189,5 +191,5 @@ module _ (f : Formats) (w : World) (o : ℕ) (op : Op) (s : ShardWork) (base : O
         ];
       }
     where
-      differ : {i n : ℕ} {info : SnapInfo} {results : List ShardResult} {made : Shelved} → Shard i n ≡ Finalize info results made → ⊥
+      differ : {i n : ℕ} {info : SnapInfo} {results : List ShardResult} {made : Command} → Shard i n ≡ Finalize info results made → ⊥
       differ e = cc

@@ -4,7 +4,7 @@ use Rattle.std.specs.FinMap.{FinMap}
 use Rattle.std.specs.FinMap as fin
 use Rattle.esr_model.specs.Names.{BlobName}
 use Rattle.esr_model.specs.Values.{Bytes, RootData, SnapInfo, ShardResult, Formats}
-use Rattle.esr_model.specs.Shelf.{Shelved}
+use Rattle.esr_model.specs.Shelf.{Shelved, Command}
 use Rattle.esr_model.specs.Image.{Has}
 use Rattle.esr_core.specs.World.{World, Op, Deletion, ShardWork, Pending, Out, Done, Work, Shard, Finalize, Deleting, Drop, Ticket, Swap, swap, swap_of, AllDone, ledger_of, HeldIn, metadata, info_of}
 use Rattle.esr_core.specs.Ready.{Goes, Waits, Barrier, IsMaster}
@@ -61,7 +61,7 @@ module _ (f : Formats) (w : World) (shelf : List Shelved) (l : Rooted f w shelf)
 
 -- a new ticket that is neither of a shard nor of a finalization
 module _ (f : Formats) (w : World) (c : Carried f (HeldIn f w) w.safe w.term w.root w.ops w.tickets) (fresh : (k : ℕ) (t : Ticket) → fin.get w.tickets k ≡ Some t → k < w.next_ticket)
-    (v : Ticket) (no_shard : (i n : ℕ) → v.work ≡ Shard i n → ⊥) (no_final : (info : SnapInfo) (results : List ShardResult) (made : Shelved) → v.work ≡ Finalize info results made → ⊥)
+    (v : Ticket) (no_shard : (i n : ℕ) → v.work ≡ Shard i n → ⊥) (no_final : (info : SnapInfo) (results : List ShardResult) (made : Command) → v.work ≡ Finalize info results made → ⊥)
     (no_plan : (uuids : List ℕ) (s : Swap) → v.work ≡ Deleting uuids (Some s) → ⊥) where
   shard_was : (j : ℕ) (u : Ticket) → fin.get (fin.insert w.tickets w.next_ticket v) j ≡ Some u → (index shard : ℕ) → u.work ≡ Shard index shard → fin.get w.tickets j ≡ Some u
   shard_was j u e index shard is = elim (was_in w.tickets w.next_ticket v j u e) [
@@ -198,10 +198,10 @@ module _ (f : Formats) (w : World) (shelf : List Shelved) (l : Lawful f w shelf)
         (λ m y there clean. absurd (l.queue.apart o op y d.ready.op_there there)) (no_cleanup o op d.ready.op_there) l.queue);
   }
     where
-      differ : {info : SnapInfo} {rs : List ShardResult} {made : Shelved} {uuids : List ℕ} {plan : Option Swap} → Finalize info rs made ≡ Deleting uuids plan → ⊥
+      differ : {info : SnapInfo} {rs : List ShardResult} {made : Command} {uuids : List ℕ} {plan : Option Swap} → Finalize info rs made ≡ Deleting uuids plan → ⊥
       differ e = cc
 
-      differ_drop : {info : SnapInfo} {rs : List ShardResult} {made : Shelved} → Finalize info rs made ≡ Drop → ⊥
+      differ_drop : {info : SnapInfo} {rs : List ShardResult} {made : Command} → Finalize info rs made ≡ Drop → ⊥
       differ_drop e = cc
 
       master : (work : Work) (root : RootData) (s : Swap) → swap_of f work root ≡ Some s → IsMaster work

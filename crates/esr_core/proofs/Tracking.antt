@@ -4,7 +4,7 @@ use Rattle.std.specs.FinMap.{FinMap}
 use Rattle.std.specs.FinMap as fin
 use Rattle.esr_model.specs.Names.{BlobName}
 use Rattle.esr_model.specs.Values.{SnapInfo, ShardResult, RootData}
-use Rattle.esr_model.specs.Shelf.{Shelved}
+use Rattle.esr_model.specs.Shelf.{Command}
 use Rattle.esr_model.specs.Kept.{first_id}
 use Rattle.esr_model.specs.Image.{Blobs}
 use Rattle.esr_core.specs.World.{World, Finalize, Drop, Ticket, Deletion, Deleting, Swap}
@@ -44,6 +44,7 @@ pub record Follows (t v : Ticket) : Type 0 where
   pub uuid : v.uuid ≡ t.uuid
   pub place : v.place ≡ t.place
   pub name : v.name ≡ t.name
+  pub source : v.source ≡ t.source
   pub term : v.term ≡ t.term
   pub root : v.root ≡ t.root
   pub out : v.out ≡ true → t.out ≡ true
@@ -52,7 +53,7 @@ pub record Follows (t v : Ticket) : Type 0 where
   pub shard : IsShard t.work → t.out ≡ true → v.out ≡ true
 
 pub follows_same : (t : Ticket) → Follows t t
-follows_same t = record { work = refl; op = refl; uuid = refl; place = refl; name = refl; term = refl; root = refl; out = λ e. e; settled = λ e. e; shard = λ s e. e }
+follows_same t = record { work = refl; op = refl; uuid = refl; place = refl; name = refl; source = refl; term = refl; root = refl; out = λ e. e; settled = λ e. e; shard = λ s e. e }
 
 shard_follows : (ops : Ops) (j : ℕ) (t v : Ticket) (i n : ℕ) → Follows t v → ShardTracked ops j t i n → ShardTracked ops j v i n
 shard_follows ops j t v i n f h =
@@ -60,6 +61,7 @@ shard_follows ops j t v i n f h =
       op = h.op;
       op_there = ap (fin.get ops) f.op ∙ h.op_there;
       uuid_is = f.uuid ∙ h.uuid_is;
+      source_is = f.source ∙ h.source_is;
       s = h.s;
       s_there = h.s_there;
       state = h.state;
@@ -136,7 +138,7 @@ module _ (w : World) (l : Tracked w) (k : ℕ) (t v : Ticket) (there : fin.get w
 -- ---- a new ticket, of no shard
 
 module _ (w : World) (l : Tracked w) (v : Ticket) (term : v.term ≤ w.term) (drawn : v.first + v.drawn ≤ w.next_id) (begun : v.op < w.next_op) (no_shard : IsShard v.work → ⊥)
-    (final : (info : SnapInfo) (results : List ShardResult) (made : Shelved) → v.work ≡ Finalize info results made → FinalTracked w.root w.ops v info results)
+    (final : (info : SnapInfo) (results : List ShardResult) (made : Command) → v.work ≡ Finalize info results made → FinalTracked w.root w.ops v info results)
     (drop : v.work ≡ Drop → DropTracked w.ops w.deletes w.tickets v) (alone : IsMaster v.work → (k : ℕ) → SwapIsOut w.tickets w.term k → ⊥)
     (fresh : (uuids : List ℕ) (plan : Option Swap) → v.work ≡ Deleting uuids plan → DeleteTracked w.root w.deletes w.next_id v plan) where
   stays : (j : ℕ) (u : Ticket) → fin.get w.tickets j ≡ Some u → fin.get (fin.insert w.tickets w.next_ticket v) j ≡ Some u
@@ -206,7 +208,7 @@ module _ (w : World) (l : Tracked w) (k : ℕ) (t : Ticket) (there : fin.get w.t
   plan_same : (us : List ℕ) (plan : Option Swap) → Deleting uuids q ≡ Deleting us plan → q ≡ plan
   plan_same us plan e = cc
 
-  no_final : (info : SnapInfo) (results : List ShardResult) (made : Shelved) → Deleting uuids q ≡ Finalize info results made → ⊥
+  no_final : (info : SnapInfo) (results : List ShardResult) (made : Command) → Deleting uuids q ≡ Finalize info results made → ⊥
   no_final info results made e = cc
 
   no_drop : Deleting uuids q ≡ Drop → ⊥

@@ -19,6 +19,10 @@ uuid_stays : (by : ℕ) (old op : Op) → Became by old op → old.uuid ≡ op.u
 uuid_stays by old op (inl e) = ap (λ (y : Op). y.uuid) (sym e)
 uuid_stays by old op (inr e) = ap (λ (y : Op). y.uuid) (sym e)
 
+source_stays : (by : ℕ) (old op : Op) → Became by old op → old.source ≡ op.source
+source_stays by old op (inl e) = ap (λ (y : Op). y.source) (sym e)
+source_stays by old op (inr e) = ap (λ (y : Op). y.source) (sym e)
+
 shards_stay : (by : ℕ) (old op : Op) → Became by old op → old.shards ≡ op.shards
 shards_stay by old op (inl e) = ap (λ (y : Op). y.shards) (sym e)
 shards_stay by old op (inr e) = ap (λ (y : Op). y.shards) (sym e)
@@ -54,6 +58,7 @@ module _ (w : World) (l : Tracked w) (now : Ops) (by : ℕ) (a : Aborts w.ops no
               op = op;
               op_there = there;
               uuid_is = h.uuid_is ∙ uuid_stays by h.op op how;
+              source_is = h.source_is ∙ source_stays by h.op op how;
               s = h.s;
               s_there = subst (λ (ss : List ShardWork). Has ss h.s) (shards_stay by h.op op how) h.s_there;
               state = h.state;

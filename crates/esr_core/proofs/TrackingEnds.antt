@@ -2,7 +2,7 @@
 use Rattle.std.proofs.Common.{◌≡◌, ◌≢◌, ◌⊎◌, ℕ, ◌+◌, ◌<◌, ◌≤◌, List, Bool, true, false, true≢false, Some, map, refl, sym, ap, ◌∙◌, subst, inl, inr}
 use Rattle.std.specs.FinMap as fin
 use Rattle.esr_model.specs.Values.{Has, SnapInfo, ShardResult}
-use Rattle.esr_model.specs.Shelf.{Shelved}
+use Rattle.esr_model.specs.Shelf.{Command}
 use Rattle.esr_core.specs.World.{World, Op, ShardWork, Out, Done, Finalize, Ticket}
 use Rattle.esr_core.specs.Generations.{IsHeldBy}
 use Rattle.esr_core.specs.Ready.{Stopped, SwapIsOut}
@@ -21,7 +21,7 @@ pub record GoesOnPast (k : ℕ) (g : ShardWork → ShardWork) : Type 0 where
 
 module _ (w : World) (l : Tracked w) (k : ℕ) (t : Ticket) (out : IsOut w k t) (op : Op) (there : fin.get w.ops t.op ≡ Some op) (g : ShardWork → ShardWork) (failed : Bool) (up : op.failed ≡ true → failed ≡ true) (on : GoesOnPast k g)
     (done : (s : ShardWork) (r : ShardResult) → Has op.shards s → (g s).state ≡ Done r → (s.state ≡ Done r) ⊎ ((r.index ≡ s.ref.id) × (r.shard ≡ s.number) × (r.generation < w.next_id)))
-    (aside : (j : ℕ) (u : Ticket) (info : SnapInfo) (results : List ShardResult) (made : Shelved) → j ≢ k → fin.get w.tickets j ≡ Some u → u.out ≡ true → u.settled ≡ false → u.term ≡ w.term → u.work ≡ Finalize info results made → u.op ≢ t.op) where
+    (aside : (j : ℕ) (u : Ticket) (info : SnapInfo) (results : List ShardResult) (made : Command) → j ≢ k → fin.get w.tickets j ≡ Some u → u.out ≡ true → u.settled ≡ false → u.term ≡ w.term → u.work ≡ Finalize info results made → u.op ≢ t.op) where
   abbrev now : Op
   now = record op { shards = map g op.shards; failed = failed }
 
@@ -47,6 +47,7 @@ module _ (w : World) (l : Tracked w) (k : ℕ) (t : Ticket) (out : IsOut w k t) 
           op = now;
           op_there = ap (fin.get ops) same ∙ same_in w.ops t.op now;
           uuid_is = x.uuid_is ∙ ap (λ (y : Op). y.uuid) one;
+          source_is = x.source_is ∙ ap (λ (y : Op). y.source) one;
           s = x.s;
           s_there = subst (Has (map g op.shards)) (on.stays x.s j x.state away) (Has-map g op.shards x.s m);
           state = x.state;
@@ -55,7 +56,7 @@ module _ (w : World) (l : Tracked w) (k : ℕ) (t : Ticket) (out : IsOut w k t) 
           place_is = x.place_is;
           name_is = x.name_is;
         }
-    | inr other ↦ record { op = x.op; op_there = other_in w.ops t.op now u.op other ∙ x.op_there; uuid_is = x.uuid_is; s = x.s; s_there = x.s_there; state = x.state; index_is = x.index_is; number_is = x.number_is; place_is = x.place_is; name_is = x.name_is }
+    | inr other ↦ record { op = x.op; op_there = other_in w.ops t.op now u.op other ∙ x.op_there; uuid_is = x.uuid_is; source_is = x.source_is; s = x.s; s_there = x.s_there; state = x.state; index_is = x.index_is; number_is = x.number_is; place_is = x.place_is; name_is = x.name_is }
   ]
 
   held_on : (p : ℕ) (z : ShardWork) (j : ℕ) → j ≢ k → IsHeldBy w.tickets p z j → IsHeldBy tickets p z j

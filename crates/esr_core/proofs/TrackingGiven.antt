@@ -2,7 +2,7 @@
 use Rattle.std.proofs.Common.{◌≡◌, ◌≢◌, ℕ, suc, ◌+◌, ◌<◌, ◌≤◌, List, Option, Some, map, refl, sym, ap, ◌∙◌, subst, inl, inr, arith}
 use Rattle.std.specs.FinMap as fin
 use Rattle.esr_model.specs.Values.{Has, SnapInfo, ShardResult}
-use Rattle.esr_model.specs.Shelf.{Shelved}
+use Rattle.esr_model.specs.Shelf.{Command}
 use Rattle.esr_core.specs.World.{World, Op, ShardWork, Out, Done, Shard, Finalize, Drop, Ticket, Deleting, Swap}
 use Rattle.esr_core.specs.Generations.{IsHeldBy}
 use Rattle.esr_core.specs.Ready.{IsMaster, SwapIsOut, ReadyShard}
@@ -53,6 +53,7 @@ module _ (w : World) (l : Tracked w) (o : ℕ) (op : Op) (s : ShardWork) (base :
         op = now;
         op_there = same_in w.ops o now;
         uuid_is = refl;
+        source_is = refl;
         s = record s { state = Out w.next_ticket };
         s_there = subst (Has (map g op.shards)) here (Has-map g op.shards s ready.s_there);
         state = refl;
@@ -82,6 +83,7 @@ module _ (w : World) (l : Tracked w) (o : ℕ) (op : Op) (s : ShardWork) (base :
           op = now;
           op_there = ap (fin.get ops) same ∙ same_in w.ops o now;
           uuid_is = x.uuid_is ∙ ap (λ (y : Op). y.uuid) one;
+          source_is = x.source_is ∙ ap (λ (y : Op). y.source) one;
           s = x.s;
           s_there = subst (Has (map g op.shards)) (stays x.s j m x.state) (Has-map g op.shards x.s m);
           state = x.state;
@@ -90,7 +92,7 @@ module _ (w : World) (l : Tracked w) (o : ℕ) (op : Op) (s : ShardWork) (base :
           place_is = x.place_is;
           name_is = x.name_is;
         }
-    | inr away ↦ record { op = x.op; op_there = other_in w.ops o now u.op away ∙ x.op_there; uuid_is = x.uuid_is; s = x.s; s_there = x.s_there; state = x.state; index_is = x.index_is; number_is = x.number_is; place_is = x.place_is; name_is = x.name_is }
+    | inr away ↦ record { op = x.op; op_there = other_in w.ops o now u.op away ∙ x.op_there; uuid_is = x.uuid_is; source_is = x.source_is; s = x.s; s_there = x.s_there; state = x.state; index_is = x.index_is; number_is = x.number_is; place_is = x.place_is; name_is = x.name_is }
   ]
 
   held_on : (p : ℕ) (z : ShardWork) (j : ℕ) → IsHeldBy w.tickets p z j → IsHeldBy tickets p z j
@@ -121,7 +123,7 @@ module _ (w : World) (l : Tracked w) (o : ℕ) (op : Op) (s : ShardWork) (base :
       out_same : {a b : ℕ} → Out a ≡ Out b → a ≡ b
       out_same e = cc
 
-  shard_final : (info : SnapInfo) (results : List ShardResult) (made : Shelved) → Shard s.ref.id s.number ≡ Finalize info results made → ⊥
+  shard_final : (info : SnapInfo) (results : List ShardResult) (made : Command) → Shard s.ref.id s.number ≡ Finalize info results made → ⊥
   shard_final info results made e = cc
 
   shard_drop : Shard s.ref.id s.number ≡ Drop → ⊥

@@ -1,21 +1,17 @@
 -- What an op that comes or leaves changes in the order of a world.
 use Rattle.std.proofs.Common.{◌≡◌, ◌≢◌, ℕ, suc, ◌+◌, ◌<◌, ◌≤◌, List, true, false, true≢false, Some, None, sym, ap, ◌∙◌, subst, inl, inr, arith, Option}
 use Rattle.std.specs.FinMap as fin
-use Rattle.esr_model.specs.Values.{Bytes, Has, RootData, SnapInfo, ShardResult}
-use Rattle.esr_model.specs.Shelf.{Shelved}
+use Rattle.esr_model.specs.Values.{Has, RootData, SnapInfo, ShardResult}
+use Rattle.esr_model.specs.Shelf.{Command}
 use Rattle.esr_model.specs.Kept.{first_id}
 use Rattle.esr_core.specs.World.{World, Op, ShardWork, Done, Finalize, Ticket, Deleting, Swap}
 use Rattle.esr_core.specs.Ready.{Goes, Stopped, IsShard}
-use Rattle.esr_core.specs.Entry.{AskedIndex}
-use Rattle.esr_core.specs.After.{new_names, asked_op}
-use Rattle.esr_core.specs.Allowed.{AreDistinct, IsUnused}
 use Rattle.esr_core.specs.Tracked.{FinalTracked, Named, Tracked, IsWithin}
 use Rattle.esr_core.proofs.Reading.{some_same}
 use Rattle.esr_core.proofs.Results.{done_of}
 use Rattle.esr_core.proofs.Queues.{was_in, other_in, left_in, stays_in}
 use Rattle.esr_core.proofs.Evolving.{pending_out}
-use Rattle.esr_core.proofs.Accepting.{in_all}
-use Rattle.esr_core.proofs.Naming.{named_asked}
+use Rattle.esr_core.proofs.Naming.{IsNewOp, named_new}
 use Rattle.esr_core.proofs.Tracking.{delete_up}
 
 pub goes_not_stopped : (op : Op) → Goes op → Stopped op → ⊥
@@ -35,26 +31,23 @@ final_apart w l op s m undone o there u info results x same =
 
 -- ---- a new op
 
-module _ (w : World) (l : Tracked w) (name : Bytes) (indices : List AskedIndex) (moment : ℕ) (distinct : AreDistinct indices) (unused : IsUnused w name) (fits : w.next_id + suc (new_names w indices) < first_id (suc w.term)) where
-  abbrev op : Op
-  op = asked_op w name indices moment
-
-  stays : (o : ℕ) (x : Op) → fin.get w.ops o ≡ Some x → fin.get (fin.insert w.ops w.next_op (asked_op w name indices moment)) o ≡ Some x
+module _ (w : World) (l : Tracked w) (op : Op) (next : ℕ) (c : IsNewOp w op next) (fits : next < first_id (suc w.term)) where
+  stays : (o : ℕ) (x : Op) → fin.get w.ops o ≡ Some x → fin.get (fin.insert w.ops w.next_op op) o ≡ Some x
   stays o x e = other_in w.ops w.next_op op o (λ same. let b : o < w.next_op = l.numbers o x e in omega (arith, b, same)) ∙ e
 
-  pub tracked_asked : Tracked (record w { ops = fin.insert w.ops w.next_op (asked_op w name indices moment); next_op = suc w.next_op; next_id = w.next_id + suc (new_names w indices) })
-  tracked_asked =
+  pub tracked_came : Tracked (record w { ops = fin.insert w.ops w.next_op op; next_op = suc w.next_op; next_id = next })
+  tracked_came =
       record {
         numbers = λ o x e. elim (was_in w.ops w.next_op op o x e) [ inl h ↦ let same : o ≡ w.next_op = h.0 in omega (arith, same) | inr h ↦ let b : o < w.next_op = l.numbers o x h.1 in omega (arith, b) ];
         delete_numbers = λ d x e. let b : d < w.next_op = l.delete_numbers d x e in omega (arith, b);
         apart = λ o x d e h. elim (was_in w.ops w.next_op op o x e) [ inl z ↦ let b : o < w.next_op = l.delete_numbers o d h in let same : o ≡ w.next_op = z.0 in omega (arith, b, same) | inr z ↦ l.apart o x d z.1 h ];
-        tickets = λ k t e. let x = l.tickets k t e in let b : t.first + t.drawn ≤ w.next_id = x.2 in (x.0, x.1, omega (arith, b));
+        tickets = λ k t e. let x = l.tickets k t e in let b : t.first + t.drawn ≤ w.next_id = x.2 in let up : w.next_id ≤ next = c.up in (x.0, x.1, omega (arith, b, up));
         begun = λ k t e. let b : t.op < w.next_op = l.begun k t e in omega (arith, b);
         first_ticket = l.first_ticket;
         shards = λ k t i n e out is. let h = l.shards k t i n e out is in
-            record { op = h.op; op_there = stays t.op h.op h.op_there; uuid_is = h.uuid_is; s = h.s; s_there = h.s_there; state = h.state; index_is = h.index_is; number_is = h.number_is; place_is = h.place_is; name_is = h.name_is };
+            record { op = h.op; op_there = stays t.op h.op h.op_there; uuid_is = h.uuid_is; source_is = h.source_is; s = h.s; s_there = h.s_there; state = h.state; index_is = h.index_is; number_is = h.number_is; place_is = h.place_is; name_is = h.name_is };
         held = λ o x s j e m state. elim (was_in w.ops w.next_op op o x e) [
-          | inl h ↦ absurd (pending_out (sym (in_all w indices (suc w.next_id) s (subst (λ (y : Op). Has y.shards s) (sym h.1) m)).0 ∙ state))
+          | inl h ↦ absurd (pending_out (sym (c.pending s (subst (λ (y : Op). Has y.shards s) (sym h.1) m)) ∙ state))
           | inr h ↦ l.held o x s j h.1 m state
         ];
         finals = λ k t info rs made e out uns pres is. let h = l.finals k t info rs made e out uns pres is in
@@ -64,17 +57,17 @@ module _ (w : World) (l : Tracked w) (name : Bytes) (indices : List AskedIndex) 
           idle = h.idle;
           failed = h.failed;
         };
-        deleting = λ k t uuids plan e out uns pres is. delete_up w.root w.deletes w.next_id (w.next_id + suc (new_names w indices)) t plan (omega arith) (l.deleting k t uuids plan e out uns pres is);
+        deleting = λ k t uuids plan e out uns pres is. delete_up w.root w.deletes w.next_id next t plan c.up (l.deleting k t uuids plan e out uns pres is);
         one_swap = l.one_swap;
-        named = named_asked w l.named name indices moment distinct unused;
-        in_term = record { from = let b : first_id w.term ≤ w.next_id = l.in_term.from in omega (arith, b); below = fits };
+        named = named_new w l.named op next c;
+        in_term = record { from = let b : first_id w.term ≤ w.next_id = l.in_term.from in let up : w.next_id ≤ next = c.up in omega (arith, b, up); below = fits };
       }
 
 -- ---- an op that leaves, with the root that is safe then
 
 module _ (w : World) (l : Tracked w) (o : ℕ) (root : RootData) (named : Named root (fin.remove w.ops o) w.next_id)
     (no_shard : (k : ℕ) (t : Ticket) → fin.get w.tickets k ≡ Some t → t.out ≡ true → IsShard t.work → t.op ≢ o)
-    (aside : (k : ℕ) (t : Ticket) (info : SnapInfo) (results : List ShardResult) (made : Shelved) → fin.get w.tickets k ≡ Some t → t.out ≡ true → t.settled ≡ false → t.term ≡ w.term → t.work ≡ Finalize info results made → (t.op ≢ o) × (root ≡ w.root))
+    (aside : (k : ℕ) (t : Ticket) (info : SnapInfo) (results : List ShardResult) (made : Command) → fin.get w.tickets k ≡ Some t → t.out ≡ true → t.settled ≡ false → t.term ≡ w.term → t.work ≡ Finalize info results made → (t.op ≢ o) × (root ≡ w.root))
     (others : (k : ℕ) (t : Ticket) (uuids : List ℕ) (plan : Option Swap) → fin.get w.tickets k ≡ Some t → t.out ≡ true → t.settled ≡ false → t.term ≡ w.term → t.work ≡ Deleting uuids plan → (t.op ≢ o) × (root ≡ w.root)) where
   pub tracked_left : Tracked (record w { root = root; ops = fin.remove w.ops o; deletes = fin.remove w.deletes o })
   tracked_left =
@@ -91,6 +84,7 @@ module _ (w : World) (l : Tracked w) (o : ℕ) (root : RootData) (named : Named 
               op = h.op;
               op_there = stays_in w.ops o t.op (no_shard k t e out (subst IsShard (sym is) tt)) ∙ h.op_there;
               uuid_is = h.uuid_is;
+              source_is = h.source_is;
               s = h.s;
               s_there = h.s_there;
               state = h.state;

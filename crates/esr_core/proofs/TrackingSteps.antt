@@ -5,20 +5,20 @@ use Rattle.std.proofs.lemmas.Bool.Decides.{eqb_tells}
 use Rattle.std.specs.FinMap as fin
 use Rattle.esr_model.specs.Names.{BlobName}
 use Rattle.esr_model.specs.Values.{Bytes, Has, RootIndex, RootData, SnapInfo, ShardResult, ClusterRecord, Formats}
-use Rattle.esr_model.specs.Shelf.{Shelved}
+use Rattle.esr_model.specs.Shelf.{Command}
 use Rattle.esr_model.specs.Kept.{RootIds, first_id}
 use Rattle.esr_model.specs.Finalize.{finalized_root}
 use Rattle.esr_model.specs.Delete.{PrunedShard, kept_count}
 use Rattle.esr_core.specs.Pruning.{delete_swap, planned_work, planned, dooms}
 use Rattle.esr_model.specs.Image.{Image, Blobs}
-use Rattle.esr_core.specs.World.{World, Op, ShardWork, Out, Done, Work, Shard, Finalize, Deleting, Drop, Ticket, Swap, AllDone, swap_of, marked, info_of, shelved_of, kept_deletes, opened, Deletion}
+use Rattle.esr_core.specs.World.{World, Op, ShardWork, Out, Done, Work, Shard, Finalize, Deleting, Drop, Ticket, Swap, AllDone, swap_of, marked, info_of, made_of, kept_deletes, opened, Deletion}
 use Rattle.esr_core.specs.Ready.{Stopped, IsShard, IsMaster, ReadyDrop, SwapIsOut}
 use Rattle.esr_core.specs.Steps.{with_ticket, completing, final_ticket}
 use Rattle.esr_core.specs.Turns.{plain_ticket, fails}
-use Rattle.esr_core.specs.Entry.{AskedIndex, Snapshot, Given, GivenShard, GivenFinalize, GivenDrop, Step, Reply, Moment, GivenRestore, DeleteSnapshots, Restore, AskStep, ReadStep, Read, ReadBlob, RestoredShard, ReadFails, WasFetched, WasAbsent, HasEnded, GivenClone, GivenDelete, GivenCleanup, Prune, PruneStep}
-use Rattle.esr_core.specs.After.{asked, asked_op, taken_by, taken_shard, with_given, change, committing, fetching, told_blob, done_of, done_by, failed_of, failed_by, is_stale, settled_of, dropped_of, tried, answered, blobs_in, after, stepped, test_left, delete_settled, delete_failed, delete_failed_by}
+use Rattle.esr_core.specs.Entry.{AskedIndex, CloneOf, Snapshot, Clone, Given, GivenShard, GivenFinalize, GivenDrop, Step, Reply, Moment, GivenRestore, DeleteSnapshots, Restore, AskStep, ReadStep, Read, ReadBlob, RestoredShard, ReadFails, WasFetched, WasAbsent, HasEnded, GivenClone, GivenDelete, GivenCleanup, Prune, PruneStep}
+use Rattle.esr_core.specs.After.{asked, asked_op, cloned_op, clone_opened, taken_by, taken_shard, with_given, change, committing, fetching, told_blob, done_of, done_by, failed_of, failed_by, is_stale, settled_of, dropped_of, tried, answered, blobs_in, after, stepped, test_left, delete_settled, delete_failed, delete_failed_by}
 use Rattle.esr_core.specs.Allowed as allowed
-use Rattle.esr_core.specs.Allowed.{MayPlan, SettlesDeletion, FailsDeletion, PruneAllows, FetchingShard, ShardMissing, FetchShardFails, Planning, PlanSpent, SettlingDelete, SettleDeleteStale, SettleDeleteFails, RemovingDoomed, RemoveDoomedFails, EndingDelete, FailingDelete, Accepts, Gives, Settles, Fails, Drops, Dones, Allows, Allowed, DeleteAllows, GoingInto, NotNamed, CloneStands, RestoreStands, FullOfOps, DeleteFault, RestoreAllows, OpeningRestore, NotListed, NamedByDelete, FullOfRestores, ReadAllows, ReadFound, ReadMissing, ReadFault, RestoringShard, ReaderFailing, CheckingAll, CheckFailing, VerifyAllows, DrawingTest, TestSpent, BeginningTest, BeginTestFails, CommittingTest, TestTaken, CommitTestFails, RemovingTests, RemoveTestsFails, VerifyingAll, VerifyFailing}
+use Rattle.esr_core.specs.Allowed.{MayPlan, SettlesDeletion, FailsDeletion, PruneAllows, FetchingShard, ShardMissing, FetchShardFails, Planning, PlanSpent, SettlingDelete, SettleDeleteStale, SettleDeleteFails, RemovingDoomed, RemoveDoomedFails, EndingDelete, FailingDelete, Accepts, Gives, Settles, Fails, Drops, Dones, Allows, Allowed, DeleteAllows, GoingInto, NotNamed, CloneStands, RestoreStands, FullOfOps, DeleteFault, RestoreAllows, OpeningRestore, NotListed, NamedByDelete, FullOfRestores, AcceptsClone, CloneAllows, OpeningClone, CloneUsed, SourceNotListed, SourceDeleted, IndexMissing, FullOfClones, CloneSpent, CloneFault, ReadAllows, ReadFound, ReadMissing, ReadFault, RestoringShard, ReaderFailing, CheckingAll, CheckFailing, VerifyAllows, DrawingTest, TestSpent, BeginningTest, BeginTestFails, CommittingTest, TestTaken, CommitTestFails, RemovingTests, RemoveTestsFails, VerifyingAll, VerifyFailing}
 use Rattle.esr_core.specs.History.{world_from, IsLegal}
 use Rattle.esr_core.specs.Tracked.{IsOneIndex, FinalTracked, Named, Tracked, IsWithin, DeleteTracked}
 use Rattle.esr_core.proofs.Reading.{some_same}
@@ -31,9 +31,9 @@ use Rattle.esr_core.proofs.Evolving.{out_same, pending_out, out_done, up_out, up
 use Rattle.esr_core.proofs.Moments.{moment, not_latest, shard_stale, master_stale, no_shard, settled_plain, delete_settled_plain}
 use Rattle.esr_core.proofs.Besides.{aside_opened, aside_taken, aside_by, tracked_aside_of, aside_removed}
 use Rattle.esr_core.proofs.Heard.{aside_heard}
-use Rattle.esr_core.proofs.Naming.{named_left, named_root, named_within}
+use Rattle.esr_core.proofs.Naming.{named_left, named_root, named_within, new_asked, new_cloned}
 use Rattle.esr_core.proofs.Tracking.{Follows, tracked_aside, tracked_ticket, tracked_new, tracked_drawn, tracked_elect, tracked_planned, tracked_failed}
-use Rattle.esr_core.proofs.TrackingOps.{goes_not_stopped, final_apart, tracked_asked, tracked_left}
+use Rattle.esr_core.proofs.TrackingOps.{goes_not_stopped, final_apart, tracked_came, tracked_left}
 use Rattle.esr_core.proofs.TrackingDeletes.{tracked_delete}
 use Rattle.esr_core.proofs.TrackingGiven.{tracked_given}
 use Rattle.esr_core.proofs.Plans.{plan_within}
@@ -50,15 +50,15 @@ falls w up l u false blobs = tracked_aside w l blobs w.safe w.pending w.complete
 
 -- a ticket that goes on with its own work
 quiet : (t : Ticket) (noted : List BlobName) (wrote read : List (BlobName × Bytes)) (raised : Option ℕ) (tried : Bool) (first drawn : ℕ) → Follows t (record t { noted = noted; wrote = wrote; read = read; raised = raised; tried_latest = tried; first = first; drawn = drawn })
-quiet t noted wrote read raised tried first drawn = record { work = refl; op = refl; uuid = refl; place = refl; name = refl; term = refl; root = refl; out = λ e. e; settled = λ e. e; shard = λ s e. e }
+quiet t noted wrote read raised tried first drawn = record { work = refl; op = refl; uuid = refl; place = refl; name = refl; source = refl; term = refl; root = refl; out = λ e. e; settled = λ e. e; shard = λ s e. e }
 
 -- one that ends, of no shard
 ended : (t : Ticket) → (IsShard t.work → ⊥) → Follows t (record t { out = false })
-ended t other = record { work = refl; op = refl; uuid = refl; place = refl; name = refl; term = refl; root = refl; out = λ e. absurd (true≢false (sym e)); settled = λ e. e; shard = λ s e. absurd (other s) }
+ended t other = record { work = refl; op = refl; uuid = refl; place = refl; name = refl; source = refl; term = refl; root = refl; out = λ e. absurd (true≢false (sym e)); settled = λ e. e; shard = λ s e. absurd (other s) }
 
 -- one that settles
 settles : (t : Ticket) → Follows t (record t { settled = true })
-settles t = record { work = refl; op = refl; uuid = refl; place = refl; name = refl; term = refl; root = refl; out = λ e. e; settled = λ e. absurd (true≢false e); shard = λ s e. e }
+settles t = record { work = refl; op = refl; uuid = refl; place = refl; name = refl; source = refl; term = refl; root = refl; out = λ e. e; settled = λ e. absurd (true≢false e); shard = λ s e. e }
 
 shard_of : (work : Work) → IsShard work → (i : ℕ) × (n : ℕ) × (work ≡ Shard i n)
 shard_of (Shard i n) h = (i, n, refl)
@@ -78,23 +78,28 @@ module _ (f : Formats) (size : ℕ) (w : World) (l : Tracked w) where
   asks : (name : Bytes) (indices : List AskedIndex) (time o : ℕ) → Accepts f w name indices time o → Tracked (asked w (Snapshot name indices time))
   asks name indices time o a =
       let v : World = record w { ops = fin.insert w.ops w.next_op (asked_op w name indices time); next_op = suc w.next_op; next_id = (asked w (Snapshot name indices time)).next_id } in
-      tracked_aside v (tracked_asked w l name indices time a.distinct a.unused a.fits) w.blobs w.safe w.pending (completing w.completed w.next_op (asked_op w name indices time).shards) w.doomed w.deposed
+      tracked_aside v (tracked_came w l (asked_op w name indices time) (asked w (Snapshot name indices time)).next_id (new_asked w l.named name indices time a.distinct a.unused) a.fits) w.blobs w.safe w.pending (completing w.completed w.next_op (asked_op w name indices time).shards) w.doomed w.deposed
+
+  asks_copy : (source name : Bytes) (names : List Bytes) (time o : ℕ) (taken : CloneOf) (image : Option Image) → AcceptsClone f w source name names time o taken image → Tracked (clone_opened w name time taken)
+  asks_copy source name names time o taken image a =
+      let v : World = record w { ops = fin.insert w.ops w.next_op (cloned_op w name time taken); next_op = suc w.next_op; next_id = suc w.next_id } in
+      tracked_aside v (tracked_came w l (cloned_op w name time taken) (suc w.next_id) (new_cloned w l.named f source name names time o taken image a) a.fits) w.blobs w.safe w.pending (completing w.completed w.next_op (cloned_op w name time taken).shards) w.doomed w.deposed
 
   -- ---- take
 
-  final_same : (a b : SnapInfo) (rs qs : List ShardResult) (m n : Shelved) → Finalize a rs m ≡ Finalize b qs n → (a ≡ b) × (rs ≡ qs)
+  final_same : (a b : SnapInfo) (rs qs : List ShardResult) (m n : Command) → Finalize a rs m ≡ Finalize b qs n → (a ≡ b) × (rs ≡ qs)
   final_same a b rs qs m n e = (cc, cc)
 
-  final_drop : (a : SnapInfo) (rs : List ShardResult) (m : Shelved) → Finalize a rs m ≡ Drop → ⊥
+  final_drop : (a : SnapInfo) (rs : List ShardResult) (m : Command) → Finalize a rs m ≡ Drop → ⊥
   final_drop a rs m e = cc
 
   drop_delete : (uuids : List ℕ) (plan : Option Swap) → Drop ≡ Deleting uuids plan → ⊥
   drop_delete uuids plan e = cc
 
-  final_delete : (a : SnapInfo) (rs : List ShardResult) (m : Shelved) (uuids : List ℕ) (plan : Option Swap) → Finalize a rs m ≡ Deleting uuids plan → ⊥
+  final_delete : (a : SnapInfo) (rs : List ShardResult) (m : Command) (uuids : List ℕ) (plan : Option Swap) → Finalize a rs m ≡ Deleting uuids plan → ⊥
   final_delete a rs m uuids plan e = cc
 
-  delete_final : (uuids : List ℕ) (plan : Option Swap) (a : SnapInfo) (rs : List ShardResult) (m : Shelved) → Deleting uuids plan ≡ Finalize a rs m → ⊥
+  delete_final : (uuids : List ℕ) (plan : Option Swap) (a : SnapInfo) (rs : List ShardResult) (m : Command) → Deleting uuids plan ≡ Finalize a rs m → ⊥
   delete_final uuids plan a rs m e = cc
 
   delete_drop : (uuids : List ℕ) (plan : Option Swap) → Deleting uuids plan ≡ Drop → ⊥
@@ -103,7 +108,7 @@ module _ (f : Formats) (size : ℕ) (w : World) (l : Tracked w) where
   no_plan : (us vs : List ℕ) (plan : Option Swap) (s : Swap) → Deleting us None ≡ Deleting vs plan → plan ≡ Some s → ⊥
   no_plan us vs plan s e is = cc
 
-  drop_final : (a : SnapInfo) (rs : List ShardResult) (m : Shelved) → Drop ≡ Finalize a rs m → ⊥
+  drop_final : (a : SnapInfo) (rs : List ShardResult) (m : Command) → Drop ≡ Finalize a rs m → ⊥
   drop_final a rs m e = cc
 
   gives_drop : (o : ℕ) → ReadyDrop w o → Tracked (record w { tickets = fin.insert w.tickets w.next_ticket (plain_ticket w o Drop); next_ticket = suc w.next_ticket })
@@ -119,7 +124,8 @@ module _ (f : Formats) (size : ℕ) (w : World) (l : Tracked w) where
       (λ uuids plan e. absurd (drop_delete uuids plan e))
 
   gives : (o : ℕ) (unit : Given) → Gives f w o unit → Tracked (taken_by f w o unit (fin.get w.ops o))
-  gives o (GivenClone index number source base) g = absurd g
+  gives o (GivenClone index number source base) g =
+      subst (λ x. Tracked (taken_by f w o (GivenClone index number source base) x)) (sym g.ready.op_there) (subst (λ x. Tracked (taken_shard w o g.op base x)) (sym g.found) (tracked_given w l o g.op g.s base g.ready))
   gives o (GivenDelete uuids) g = deleting (fin.get w.ops o)
     where
       given : Tracked (record w { tickets = fin.insert w.tickets w.next_ticket (plain_ticket w o (Deleting uuids None)); next_ticket = suc w.next_ticket })
@@ -141,7 +147,7 @@ module _ (f : Formats) (size : ℕ) (w : World) (l : Tracked w) where
       subst (λ x. Tracked (taken_by f w o (GivenFinalize info results) x)) (sym g.ready.op_there)
       (tracked_new w l (final_ticket f w o g.op results) (omega arith) (omega arith) (l.numbers o g.op g.ready.op_there) (λ h. h)
       (λ b rs made e.
-      let same = final_same (info_of g.op results) b results rs (shelved_of f g.op) made e in
+      let same = final_same (info_of g.op results) b results rs (made_of f g.op) made e in
       record {
         op = g.op;
         op_there = g.ready.op_there;
@@ -151,9 +157,9 @@ module _ (f : Formats) (size : ℕ) (w : World) (l : Tracked w) where
         info_is = sym same.0 ∙ ap (info_of g.op) same.1;
         root_is = refl;
       })
-      (λ e. absurd (final_drop (info_of g.op results) results (shelved_of f g.op) e))
+      (λ e. absurd (final_drop (info_of g.op results) results (made_of f g.op) e))
       (λ h k s. g.ready.no_swap k s)
-      (λ uuids plan e. absurd (final_delete (info_of g.op results) results (shelved_of f g.op) uuids plan e)))
+      (λ uuids plan e. absurd (final_delete (info_of g.op results) results (made_of f g.op) uuids plan e)))
   gives o GivenDrop g = dropping (fin.get w.ops o)
     where
       dropping : (found : Option Op) → Tracked (taken_by f w o GivenDrop found)
@@ -219,7 +225,7 @@ module _ (f : Formats) (size : ℕ) (w : World) (l : Tracked w) where
             inr (subst (λ (y : ShardResult). (y.index ≡ s.ref.id) × (y.shard ≡ s.number) × (y.generation < w.next_id)) one (sym same.0, sym same.1, below))
       ]
 
-      aside : (j : ℕ) (u : Ticket) (info : SnapInfo) (results : List ShardResult) (made : Shelved) → j ≢ k → fin.get w.tickets j ≡ Some u → u.out ≡ true → u.settled ≡ false → u.term ≡ w.term → u.work ≡ Finalize info results made → u.op ≢ d.t.op
+      aside : (j : ℕ) (u : Ticket) (info : SnapInfo) (results : List ShardResult) (made : Command) → j ≢ k → fin.get w.tickets j ≡ Some u → u.out ≡ true → u.settled ≡ false → u.term ≡ w.term → u.work ≡ Finalize info results made → u.op ≢ d.t.op
       aside j u info results made away e out uns pres is =
           final_apart w l d.op d.s d.s_there (λ q state. done_out q k (sym state ∙ d.state)) d.t.op d.op_there u info results (l.finals j u info results made e out uns pres is)
 
@@ -237,7 +243,7 @@ module _ (f : Formats) (size : ℕ) (w : World) (l : Tracked w) where
 
   -- the op of a unit fails, where no other finalization of it is out
   fails_op : (k : ℕ) (c : Fails w k) → fin.get w.ops c.t.op ≡ Some c.op
-      → ((j : ℕ) (u : Ticket) (info : SnapInfo) (results : List ShardResult) (made : Shelved) → j ≢ k → fin.get w.tickets j ≡ Some u → u.out ≡ true → u.settled ≡ false → u.term ≡ w.term → u.work ≡ Finalize info results made → u.op ≢ c.t.op)
+      → ((j : ℕ) (u : Ticket) (info : SnapInfo) (results : List ShardResult) (made : Command) → j ≢ k → fin.get w.tickets j ≡ Some u → u.out ≡ true → u.settled ≡ false → u.term ≡ w.term → u.work ≡ Finalize info results made → u.op ≢ c.t.op)
       → Tracked (failed_by w k c.t (fin.get w.ops c.t.op))
   fails_op k c there aside =
       subst (λ x. Tracked (failed_by w k c.t x)) (sym there) (tracked_went w l k c.t c.out c.op there (fails k) true (λ e. refl) (gives_up k) (λ s r m e. inl (failed_done s r e)) aside)
@@ -259,13 +265,13 @@ module _ (f : Formats) (size : ℕ) (w : World) (l : Tracked w) where
     ]
   ]
     where
-      of_shard : IsShard c.t.work → (j : ℕ) (u : Ticket) (info : SnapInfo) (results : List ShardResult) (made : Shelved) → j ≢ k → fin.get w.tickets j ≡ Some u → u.out ≡ true → u.settled ≡ false → u.term ≡ w.term → u.work ≡ Finalize info results made → u.op ≢ c.t.op
+      of_shard : IsShard c.t.work → (j : ℕ) (u : Ticket) (info : SnapInfo) (results : List ShardResult) (made : Command) → j ≢ k → fin.get w.tickets j ≡ Some u → u.out ≡ true → u.settled ≡ false → u.term ≡ w.term → u.work ≡ Finalize info results made → u.op ≢ c.t.op
       of_shard shard j u info results made away e out uns pres is =
           let (i, n, work) = shard_of c.t.work shard in
           let x = l.shards k c.t i n c.out.there c.out.out work in
           final_apart w l x.op x.s x.s_there (λ q state. done_out q k (sym state ∙ x.state)) c.t.op x.op_there u info results (l.finals j u info results made e out uns pres is)
 
-      of_master : IsMaster c.t.work → c.t.term ≡ w.term → (j : ℕ) (u : Ticket) (info : SnapInfo) (results : List ShardResult) (made : Shelved) → j ≢ k → fin.get w.tickets j ≡ Some u → u.out ≡ true → u.settled ≡ false → u.term ≡ w.term → u.work ≡ Finalize info results made → u.op ≢ c.t.op
+      of_master : IsMaster c.t.work → c.t.term ≡ w.term → (j : ℕ) (u : Ticket) (info : SnapInfo) (results : List ShardResult) (made : Command) → j ≢ k → fin.get w.tickets j ≡ Some u → u.out ≡ true → u.settled ≡ false → u.term ≡ w.term → u.work ≡ Finalize info results made → u.op ≢ c.t.op
       of_master master present j u info results made away e out uns pres is =
           absurd (away (l.one_swap j k (record { t = u; there = e; out = out; unsettled = uns; present = pres; swaps = subst IsMaster (sym is) tt }) (record { t = c.t; there = c.out.there; out = c.out.out; unsettled = c.unsettled; present = present; swaps = master })))
 
@@ -296,7 +302,7 @@ module _ (f : Formats) (size : ℕ) (w : World) (l : Tracked w) where
             final_apart w l y.op y.s y.s_there (λ q state. done_out q j (sym state ∙ y.state)) u.op y.op_there s.t s.info s.results it (sym same)
       ]
 
-      finals : (j : ℕ) (u : Ticket) (info : SnapInfo) (results : List ShardResult) (made : Shelved) → fin.get (fin.insert w.tickets k (record s.t { settled = true })) j ≡ Some u → u.out ≡ true → u.settled ≡ false → u.term ≡ w.term → u.work ≡ Finalize info results made
+      finals : (j : ℕ) (u : Ticket) (info : SnapInfo) (results : List ShardResult) (made : Command) → fin.get (fin.insert w.tickets k (record s.t { settled = true })) j ≡ Some u → u.out ≡ true → u.settled ≡ false → u.term ≡ w.term → u.work ≡ Finalize info results made
           → (u.op ≢ s.t.op) × (s.s.root ≡ w.root)
       finals j u info results made e out uns pres is = elim (was_in w.tickets k (record s.t { settled = true }) j u e) [
         | inl h ↦ absurd (true≢false (ap (λ (y : Ticket). y.settled) h.1 ∙ uns))
@@ -324,7 +330,7 @@ module _ (f : Formats) (size : ℕ) (w : World) (l : Tracked w) where
       shards : (j : ℕ) (u : Ticket) → fin.get (fin.insert w.tickets k (record d.may.t { out = false })) j ≡ Some u → u.out ≡ true → IsShard u.work → u.op ≢ d.may.t.op
       shards j u e out shard = (l.drops k d.may.t d.may.out.there d.may.out.out d.present d.may.work).idle j u (out_was j u e out) out shard
 
-      finals : (j : ℕ) (u : Ticket) (info : SnapInfo) (results : List ShardResult) (made : Shelved) → fin.get (fin.insert w.tickets k (record d.may.t { out = false })) j ≡ Some u → u.out ≡ true → u.settled ≡ false → u.term ≡ w.term → u.work ≡ Finalize info results made
+      finals : (j : ℕ) (u : Ticket) (info : SnapInfo) (results : List ShardResult) (made : Command) → fin.get (fin.insert w.tickets k (record d.may.t { out = false })) j ≡ Some u → u.out ≡ true → u.settled ≡ false → u.term ≡ w.term → u.work ≡ Finalize info results made
           → (u.op ≢ d.may.t.op) × (w.root ≡ w.root)
       finals j u info results made e out uns pres is =
           let y = l.finals j u info results made (out_was j u e out) out uns pres is in
@@ -379,7 +385,7 @@ module _ (f : Formats) (size : ℕ) (w : World) (l : Tracked w) where
             l.apart s.t.op y.op it.x (ap (fin.get w.ops) (sym same) ∙ y.op_there) it.there
       ]
 
-      finals : (j : ℕ) (u : Ticket) (info : SnapInfo) (results : List ShardResult) (made : Shelved) → fin.get (fin.insert w.tickets k (record s.t { settled = true })) j ≡ Some u → u.out ≡ true → u.settled ≡ false → u.term ≡ w.term → u.work ≡ Finalize info results made
+      finals : (j : ℕ) (u : Ticket) (info : SnapInfo) (results : List ShardResult) (made : Command) → fin.get (fin.insert w.tickets k (record s.t { settled = true })) j ≡ Some u → u.out ≡ true → u.settled ≡ false → u.term ≡ w.term → u.work ≡ Finalize info results made
           → (u.op ≢ s.t.op) × (s.s.root ≡ w.root)
       finals j u info results made e out uns pres is = elim (was_in w.tickets k (record s.t { settled = true }) j u e) [
         | inl h ↦ absurd (true≢false (ap (λ (y : Ticket). y.settled) h.1 ∙ uns))
@@ -441,6 +447,18 @@ module _ (f : Formats) (size : ℕ) (w : World) (l : Tracked w) where
   prunes who prune reply image (RemoveDoomedFails k names im r removes) = kept _ (removed_more names) (blobs_in im w.blobs)
   prunes who prune reply image (EndingDelete k im e same) = kept _ (changed k e.t e.deleting.out.there (λ (t : Ticket). record t { out = false }) (ended e.t (λ shard. subst IsShard e.deleting.work shard)) (drew k e.t e.deleting.out.there)) (blobs_in im w.blobs)
   prunes who prune reply image (FailingDelete k why im c same) = kept _ (deletion_fails k c) (blobs_in im w.blobs)
+
+  -- ---- a clone that is asked
+
+  asks_clone : (source name : Bytes) (names : List Bytes) (time : ℕ) (taken : Option CloneOf) (reply : Reply) (image : Option Image) → CloneAllows f w source name names time taken reply image → Tracked (stepped f w (moment 0 (AskStep (Clone source name names time taken)) reply image))
+  asks_clone source name names time taken reply image (OpeningClone t o im acc) = kept _ (asks_copy source name names time o t im acc) (blobs_in im w.blobs)
+  asks_clone source name names time taken reply image (CloneUsed uuid im clear is) = kept w l (blobs_in im w.blobs)
+  asks_clone source name names time taken reply image (SourceNotListed im may none) = kept w l (blobs_in im w.blobs)
+  asks_clone source name names time taken reply image (SourceDeleted uuid d im may listed named) = kept w l (blobs_in im w.blobs)
+  asks_clone source name names time taken reply image (IndexMissing uuid place im may missing) = kept w l (blobs_in im w.blobs)
+  asks_clone source name names time taken reply image (FullOfClones uuid im may full) = kept w l (blobs_in im w.blobs)
+  asks_clone source name names time taken reply image (CloneSpent uuid im may room spent) = kept w l (blobs_in im w.blobs)
+  asks_clone source name names time taken reply image (CloneFault t im acc) = falls w _ l (asks_copy source name names time w.next_op t im acc) _ (blobs_in im w.blobs)
 
   -- ---- a delete that is asked
 
@@ -514,6 +532,7 @@ module _ (f : Formats) (size : ℕ) (w : World) (l : Tracked w) where
   tracked_by who step reply image (allowed.Electing im room same) = kept _ (tracked_elect w l) (blobs_in im w.blobs)
   tracked_by who step reply image (allowed.Looking im same) = kept w l (blobs_in im w.blobs)
   tracked_by who step reply image (allowed.AskingRestore name place rep im h same) = kept _ (asks_restore name place rep im h) (blobs_in im w.blobs)
+  tracked_by who step reply image (allowed.AskingClone source name names time taken rep im h same) = asks_clone source name names time taken rep im h
   tracked_by who step reply image (allowed.AskingDelete names rep im h same) = asks_delete names rep im h
   tracked_by who step reply image (allowed.Reading k read rep im h same) = kept _ (reads k read rep im h) (blobs_in im w.blobs)
   tracked_by who step reply image (allowed.Pruning k prune rep im h) = prunes k prune rep im h

@@ -17,6 +17,7 @@ use Rattle.esr_core.proofs.Adds.{at_kept, at_new}
 use Rattle.esr_core.proofs.Reading.{none_some, some_same}
 use Rattle.esr_core.proofs.Pieces.{file_below}
 use Rattle.esr_core.proofs.LatestPut.{put_law}
+use Rattle.esr_core.proofs.Copying.{source_stands}
 use Rattle.esr_core.proofs.Queues.{Tickets, was_in}
 
 -- another ticket of the same unit that drew as much
@@ -56,10 +57,10 @@ module _ (f : Formats) (blobs : Blobs) (tickets : Tickets) (h : Written f blobs 
   ]
 
   -- one given anew in what its blobs don't read
-  same : (k : ℕ) (t v : Ticket) → fin.get tickets k ≡ Some t → (v.out ≡ true → t.out ≡ true) → v.wrote ≡ t.wrote → v.read ≡ t.read → v.base ≡ t.base → v.work ≡ t.work → v.uuid ≡ t.uuid → v.first ≡ t.first → v.drawn ≡ t.drawn → Written f blobs (fin.insert tickets k v)
-  same k t v there out wrote read base work uuid first drawn = put k v (λ o s.
+  same : (k : ℕ) (t v : Ticket) → fin.get tickets k ≡ Some t → (v.out ≡ true → t.out ≡ true) → v.wrote ≡ t.wrote → v.read ≡ t.read → v.base ≡ t.base → v.source ≡ t.source → v.work ≡ t.work → v.uuid ≡ t.uuid → v.first ≡ t.first → v.drawn ≡ t.drawn → Written f blobs (fin.insert tickets k v)
+  same k t v there out wrote read base source work uuid first drawn = put k v (λ o s.
       let old = h k t there (out o) (subst IsShard work s) in
-      record { there = λ name b m. old.there name b (subst (λ xs. Has xs (name, b)) wrote m); own = λ name b m. again t v work uuid first drawn name (old.own name b (subst (λ xs. Has xs (name, b)) wrote m)); base = λ i s g b is at m. old.base i s g b (sym work ∙ is) (sym base ∙ at) (subst (λ xs. Has xs (ShardIndex i s g, b)) read m); fresh = λ i s g held is at reads e m id drew. old.fresh i s g held (sym work ∙ is) (sym base ∙ at) reads e m id (record { from = subst (λ n. n ≤ id) first drew.from; below = subst (λ n. id < n) (λ j. first j + drawn j) drew.below }) })
+      record { there = λ name b m. old.there name b (subst (λ xs. Has xs (name, b)) wrote m); own = λ name b m. again t v work uuid first drawn name (old.own name b (subst (λ xs. Has xs (name, b)) wrote m)); base = λ i s g b is at m. old.base i s g b (sym work ∙ is) (sym base ∙ at) (subst (λ xs. Has xs (ShardIndex i s g, b)) read m); source = λ i s u b is at m. old.source i s u b (sym work ∙ is) (sym source ∙ at) (subst (λ xs. Has xs (ShardSnap i s u, b)) read m); fresh = λ i s g held is at reads e m id drew. old.fresh i s g held (sym work ∙ is) (sym base ∙ at) reads e m id (record { from = subst (λ n. n ≤ id) first drew.from; below = subst (λ n. id < n) (λ j. first j + drawn j) drew.below }) })
 
   -- one that has ended
   ended : (k : ℕ) (v : Ticket) → v.out ≡ false → Written f blobs (fin.insert tickets k v)
@@ -68,7 +69,7 @@ module _ (f : Formats) (blobs : Blobs) (tickets : Tickets) (h : Written f blobs 
   -- a new one
   new_one : (k : ℕ) (v : Ticket) → v.wrote ≡ [] → v.read ≡ [] → v.drawn ≡ 0 → Written f blobs (fin.insert tickets k v)
   new_one k v none unread undrawn =
-      put k v (λ o s. record { there = λ name b m. absurd (subst (λ xs. Has xs (name, b)) none m); own = λ name b m. absurd (subst (λ xs. Has xs (name, b)) none m); base = λ i x g b is at m. absurd (subst (λ xs. Has xs (ShardIndex i x g, b)) unread m); fresh = λ i x g held is at reads e m id drew. absurd (let a : v.first ≤ id = drew.from in let b : id < v.first + v.drawn = drew.below in omega (arith, undrawn, a, b)) })
+      put k v (λ o s. record { there = λ name b m. absurd (subst (λ xs. Has xs (name, b)) none m); own = λ name b m. absurd (subst (λ xs. Has xs (name, b)) none m); base = λ i x g b is at m. absurd (subst (λ xs. Has xs (ShardIndex i x g, b)) unread m); source = λ i x u b is at m. absurd (subst (λ xs. Has xs (ShardSnap i x u, b)) unread m); fresh = λ i x g held is at reads e m id drew. absurd (let a : v.first ≤ id = drew.from in let b : id < v.first + v.drawn = drew.below in omega (arith, undrawn, a, b)) })
 
 -- of a ticket that is no shard's
 no_shard : (f : Formats) (blobs : Blobs) (v : Ticket) → (IsShard v.work → ⊥) → v.out ≡ true → IsShard v.work → WroteLaw f blobs v
@@ -108,7 +109,7 @@ module _ (f : Formats) (w : World) (shelf : List Shelved) (l : Law f w shelf) (h
   pub grown : (name : BlobName) (bytes : Bytes) → IsStored f name → fin.get w.blobs (f.names.text name) ≡ None → Written f (fin.insert w.blobs (f.names.text name) bytes) w.tickets
   grown name bytes named absent j u e out shard =
       let old = h j u e out shard in
-      record { there = λ m b has. at_kept f w.blobs name bytes named absent [] m b (old.there m b has); own = old.own; base = λ i s g b is at has. at_kept f w.blobs name bytes named absent [] (ShardIndex i s g) b (old.base i s g b is at has); fresh = λ i s g held is at reads. old.fresh i s g held is at (base_was j u e out i s g held is at _ (at_kept f w.blobs name bytes named absent []) reads) }
+      record { there = λ m b has. at_kept f w.blobs name bytes named absent [] m b (old.there m b has); own = old.own; base = λ i s g b is at has. at_kept f w.blobs name bytes named absent [] (ShardIndex i s g) b (old.base i s g b is at has); source = λ i s u b is at has. at_kept f w.blobs name bytes named absent [] (ShardSnap i s u) b (old.source i s u b is at has); fresh = λ i s g held is at reads. old.fresh i s g held is at (base_was j u e out i s g held is at _ (at_kept f w.blobs name bytes named absent []) reads) }
 
   committed : (k : ℕ) (name : BlobName) (new : World) → CommitDone f w k name new → Written f new.blobs new.tickets
   committed k name new c = subst (λ (x : World). Written f x.blobs x.tickets) (sym c.new_is)
@@ -130,6 +131,7 @@ module _ (f : Formats) (w : World) (shelf : List Shelved) (l : Law f w shelf) (h
               | inr was ↦ old.own m b was
             ]);
             base = old.base;
+            source = old.source;
             fresh = λ i s g held is at reads e m id drew. old.fresh i s g held is at reads e m id (record { from = drew.from; below = drew.below });
           }
         where
@@ -169,6 +171,10 @@ module _ (f : Formats) (w : World) (shelf : List Shelved) (l : Law f w shelf) (h
       let base : Base f (HeldIn f w) w.root w.ops i s (Some g) = subst (Base f (HeldIn f w) w.root w.ops i s) at law.base in
       base.1.stands.held_reads.there.1
 
+  -- nor the snapshot of the shard that a clone's copies
+  source_held : (k : ℕ) (t : Ticket) → fin.get w.tickets k ≡ Some t → t.out ≡ true → (i s u : ℕ) → t.work ≡ Shard i s → t.source ≡ Some u → Has w.doomed (ShardSnap i s u) → ⊥
+  source_held k t there out i s u is at = (source_stands f w shelf l k t (record { there = there; out = out }) i s is u at).lists.snap_reads.there.1
+
   fetched : (k : ℕ) (name : BlobName) (new : World) → FetchFound f w k name new → Written f new.blobs new.tickets
   fetched k name new c = subst (λ (x : World). Written f x.blobs x.tickets) (sym c.new_is) (put f w.blobs w.tickets h k (reading c.t name c.bytes) mine)
     where
@@ -182,6 +188,10 @@ module _ (f : Formats) (w : World) (shelf : List Shelved) (l : Law f w shelf) (h
               | inl e ↦ subst (λ (p : BlobName × Bytes). At f w.blobs p.0 p.1) e c.there
               | inr was ↦ old.base i s g b is at was
             ];
+            source = λ i s u b is at has. elim has [
+              | inl e ↦ subst (λ (p : BlobName × Bytes). At f w.blobs p.0 p.1) e c.there
+              | inr was ↦ old.source i s u b is at was
+            ];
             fresh = λ i s g held is at reads e m id drew. old.fresh i s g held is at reads e m id (record { from = drew.from; below = drew.below });
           }
 
@@ -193,6 +203,7 @@ module _ (f : Formats) (w : World) (shelf : List Shelved) (l : Law f w shelf) (h
         there = λ m b has. removes.stays m b (old.there m b has) (λ named. not_doomed j u e out m (old.own m b has) (doomed m named));
         own = old.own;
         base = λ i s g b is at has. removes.stays (ShardIndex i s g) b (old.base i s g b is at has) (λ named. base_held j u e out i s g is at (doomed (ShardIndex i s g) named));
+        source = λ i s x b is at has. removes.stays (ShardSnap i s x) b (old.source i s x b is at has) (λ named. source_held j u e out i s x is at (doomed (ShardSnap i s x) named));
         fresh = λ i s g held is at reads. old.fresh i s g held is at (record { bytes = reads.bytes; there = (removes.left _ _ reads.there.0, reads.there.1); reads = reads.reads });
       }
 
@@ -203,7 +214,7 @@ module _ (f : Formats) (w : World) (shelf : List Shelved) (l : Law f w shelf) (h
   drawn_shard k n new d = subst (λ (x : World). Written f x.blobs x.tickets) (sym d.new_is)
       (put f w.blobs w.tickets h k (record d.t { first = w.next_id; drawn = n }) (λ o s.
       let old = h k d.t d.out.there d.out.out s in
-      record { there = old.there; own = λ m b has. early d.t (record d.t { first = w.next_id; drawn = n }) refl refl d.once m (old.own m b has); base = old.base; fresh = λ i s g held is at reads e m id drew. base_below k d.t d.out.there d.out.out i s g held is at reads e m id drew.from }))
+      record { there = old.there; own = λ m b has. early d.t (record d.t { first = w.next_id; drawn = n }) refl refl d.once m (old.own m b has); base = old.base; source = old.source; fresh = λ i s g held is at reads e m id drew. base_below k d.t d.out.there d.out.out i s g held is at reads e m id drew.from }))
 
 tested : (f : Formats) (w : World) (shelf : List Shelved) → Law f w shelf → Written f w.blobs w.tickets → (new : World) → TestTurn f w new → Written f new.blobs new.tickets
 tested f w shelf l h new (DrawsTest m d) = subst (λ (x : World). Written f x.blobs x.tickets) (sym d.new_is) h
@@ -217,12 +228,12 @@ turned f w new shelf l h (CommitFails m k name c) = elim c.leaves [
   | inl e ↦ subst (λ (x : World). Written f x.blobs x.tickets) (sym e) h
   | inr e ↦ subst (λ (x : World). Written f x.blobs x.tickets) (sym e.1) (grown f w shelf l h name c.bytes c.named e.0)
 ]
-turned f w new shelf l h (Finds m k name d) = subst (λ (x : World). Written f x.blobs x.tickets) (sym d.new_is) (same f w.blobs w.tickets h k d.t (noting d.t name) d.out.there (λ o. o) refl refl refl refl refl refl refl)
-turned f w new shelf l h (Raises m k d) = subst (λ (x : World). Written f x.blobs x.tickets) (sym d.new_is) (same f w.blobs w.tickets h k d.t (record d.t { raised = Some w.pending }) d.out.there (λ o. o) refl refl refl refl refl refl refl)
-turned f w new shelf l h (Latests m k d) = subst (λ (x : World). Written f x.blobs x.tickets) (sym d.tries.new_is) (same f d.now w.tickets (put_law f w shelf l d.now d.puts).written k d.tries.t (record d.tries.t { tried_latest = true }) d.tries.out.there (λ o. o) refl refl refl refl refl refl refl)
+turned f w new shelf l h (Finds m k name d) = subst (λ (x : World). Written f x.blobs x.tickets) (sym d.new_is) (same f w.blobs w.tickets h k d.t (noting d.t name) d.out.there (λ o. o) refl refl refl refl refl refl refl refl)
+turned f w new shelf l h (Raises m k d) = subst (λ (x : World). Written f x.blobs x.tickets) (sym d.new_is) (same f w.blobs w.tickets h k d.t (record d.t { raised = Some w.pending }) d.out.there (λ o. o) refl refl refl refl refl refl refl refl)
+turned f w new shelf l h (Latests m k d) = subst (λ (x : World). Written f x.blobs x.tickets) (sym d.tries.new_is) (same f d.now w.tickets (put_law f w shelf l d.now d.puts).written k d.tries.t (record d.tries.t { tried_latest = true }) d.tries.out.there (λ o. o) refl refl refl refl refl refl refl refl)
 turned f w new shelf l h (Fetches m k name c) = fetched f w shelf l h k name m c
-turned f w new shelf l h (SettlesFinal m k n t s d) = subst (λ (x : World). Written f x.blobs x.tickets) (sym d.new_is) (same f w.blobs w.tickets h k t (record t { settled = true }) d.may.out.there (λ o. o) refl refl refl refl refl refl refl)
-turned f w new shelf l h (SettlesDelete m k n t s d) = subst (λ (x : World). Written f x.blobs x.tickets) (sym d.new_is) (same f w.blobs w.tickets h k t (record t { settled = true }) d.may.out.there (λ o. o) refl refl refl refl refl refl refl)
+turned f w new shelf l h (SettlesFinal m k n t s d) = subst (λ (x : World). Written f x.blobs x.tickets) (sym d.new_is) (same f w.blobs w.tickets h k t (record t { settled = true }) d.may.out.there (λ o. o) refl refl refl refl refl refl refl refl)
+turned f w new shelf l h (SettlesDelete m k n t s d) = subst (λ (x : World). Written f x.blobs x.tickets) (sym d.new_is) (same f w.blobs w.tickets h k t (record t { settled = true }) d.may.out.there (λ o. o) refl refl refl refl refl refl refl refl)
 turned f w new shelf l h (Elects m d) = subst (λ (x : World). Written f x.blobs x.tickets) (sym d.new_is) h
 turned f w new shelf l h (TakesShard m o op s base d) = subst (λ (x : World). Written f x.blobs x.tickets) (sym d.new_is) (new_one f w.blobs w.tickets h w.next_ticket (shard_ticket w o op s base) refl refl refl)
 turned f w new shelf l h (TakesFinal m o op results d) = subst (λ (x : World). Written f x.blobs x.tickets) (sym d.new_is) (new_one f w.blobs w.tickets h w.next_ticket (final_ticket f w o op results) refl refl refl)

@@ -5,6 +5,7 @@ use Rattle.esr_model.specs.Names.{BlobName, Latest}
 use Rattle.esr_model.specs.Values.{Bytes, IndexRef, RootIndex, ShardResult, Formats}
 use Rattle.esr_model.specs.Uploads.{same_bytes}
 use Rattle.esr_model.specs.Kept.{first_id}
+use Rattle.esr_model.specs.Places.{places}
 use Rattle.esr_model.specs.Delete.{kept_count}
 use Rattle.esr_model.specs.Image.{Blobs, Image}
 use Rattle.esr_core.specs.World.{World, Op, Deletion, ShardWork, Pending, Done, ReadState, Restored, NotRestored, RestoreShard, Restoring, Reader, Caller, no_caller, Work, Shard, Finalize, Deleting, Drop, Ticket, Swap, swap, marked, record_of}
@@ -13,7 +14,7 @@ use Rattle.esr_core.specs.Steps.{with_ticket, noting, writing, reading, given, c
 use Rattle.esr_core.specs.Turns.{plain_ticket, fails}
 use Rattle.esr_core.specs.Pruning.{planned, dooms}
 use Rattle.esr_core.specs.Deletes.{asked_delete}
-use Rattle.esr_core.specs.Entry.{AskedIndex, Asked, Snapshot, Clone, DeleteSnapshots, Restore, Cleanup, is_recorded, Given, GivenShard, GivenFinalize, GivenDrop, GivenRestore, GivenDelete, Read, ReadBlob, RestoredShard, CheckedAll, DrawTest, CommitTest, RemoveTests, VerifiedAll, ReadFails, Prune, FetchShard, PlanShards, SettlePruned, RemoveDoomed, EndDelete, DeleteFails, Step, AskStep, TakeStep, DrawStep, BeginStep, CommitStep, LatestStep, FetchStep, RaiseStep, SettleStep, DoneStep, FailedStep, FinishStep, DroppedStep, ElectStep, LookStep, ReadStep, PruneStep, StaleTerm, IdsSpent, DeposedAt, DepotFault, Reply, Gave, DrawnFrom, WasRemoved, WasDone, WasThere, WasFetched, WasAbsent, HasEnded, Refused, AcceptedRestore, Moment}
+use Rattle.esr_core.specs.Entry.{AskedIndex, CloneOf, Asked, Snapshot, Clone, DeleteSnapshots, Restore, Cleanup, is_recorded, Given, GivenShard, GivenFinalize, GivenDrop, GivenRestore, GivenClone, GivenDelete, Read, ReadBlob, RestoredShard, CheckedAll, DrawTest, CommitTest, RemoveTests, VerifiedAll, ReadFails, Prune, FetchShard, PlanShards, SettlePruned, RemoveDoomed, EndDelete, DeleteFails, Step, AskStep, TakeStep, DrawStep, BeginStep, CommitStep, LatestStep, FetchStep, RaiseStep, SettleStep, DoneStep, FailedStep, FinishStep, DroppedStep, ElectStep, LookStep, ReadStep, PruneStep, StaleTerm, IdsSpent, DeposedAt, DepotFault, Reply, Gave, DrawnFrom, WasRemoved, WasDone, WasThere, WasFetched, WasAbsent, HasEnded, Refused, AcceptedRestore, Moment}
 
 abbrev pub or_else : {A : Type 0} → Option A → Option A → Option A
 or_else None b = b
@@ -79,13 +80,55 @@ asked_op w name indices moment =
       aborted = None;
     }
 
+-- the index of this name
+abbrev pub ref_by_name : List IndexRef → Bytes → Option IndexRef
+ref_by_name [] name = None
+ref_by_name (r ∷ refs) name = if same_bytes r.name name then Some r else ref_by_name refs name
+
+abbrev pub and_ref : Option IndexRef → List IndexRef → List IndexRef
+and_ref None refs = refs
+and_ref (Some r) refs = r ∷ refs
+
+abbrev pub named_refs : List IndexRef → List Bytes → List IndexRef
+named_refs all [] = []
+named_refs all (name ∷ names) = and_ref (ref_by_name all name) (named_refs all names)
+
+-- a clone takes the named indices in the order of their names, all in the order of the info where none is named
+abbrev pub chosen_refs : List IndexRef → List Bytes → List IndexRef
+chosen_refs all [] = all
+chosen_refs all (name ∷ names) = named_refs all (name ∷ names)
+
+-- a shard of a clone, whose files are at no place
+abbrev pub copied_shard : IndexRef × ℕ → ShardWork
+copied_shard p = record { ref = p.0; number = p.1; place = []; state = Pending }
+
+-- the op of a clone: it draws its uuid alone
+abbrev pub cloned_op : World → Bytes → ℕ → CloneOf → Op
+cloned_op w name moment taken =
+    record {
+      name = name;
+      uuid = w.next_id;
+      moment = moment;
+      indices = taken.indices;
+      shards = map copied_shard (places taken.indices);
+      failed = false;
+      source = Some taken.source;
+      aborted = None;
+    }
+
+abbrev pub clone_opened : World → Bytes → ℕ → CloneOf → World
+clone_opened w name moment taken =
+    let op : Op = cloned_op w name moment taken in
+    record w { ops = fin.insert w.ops w.next_op op; next_op = suc w.next_op; completed = completing w.completed w.next_op op.shards; next_id = suc w.next_id }
+
 abbrev pub asked : World → Asked → World
 asked w (Snapshot name indices moment) =
     let op : Op = asked_op w name indices moment in
     record w { ops = fin.insert w.ops w.next_op op; next_op = suc w.next_op; completed = completing w.completed w.next_op op.shards; next_id = w.next_id + suc (new_names w indices) }
 asked w (DeleteSnapshots names) = asked_delete w names
--- what a restore reads its acceptance tells; the others are not accepted so far
-asked w (Clone source name indices moment) = w
+asked w (Clone source name indices moment None) = w
+asked w (Clone source name indices moment (Some taken)) = clone_opened w name moment taken
+-- what a restore reads its acceptance tells; a cleanup is not accepted so far
 asked w (Restore name place) = w
 asked w Cleanup = w
 
@@ -113,6 +156,8 @@ taken_restore w o index number (Some r) = taken_restore_shard w o r (restore_sha
 abbrev pub taken_by : Formats → World → ℕ → Given → Option Op → World
 taken_by f w o (GivenShard index number base) (Some op) = taken_shard w o op base (shard_of op.shards index number)
 taken_by f w o (GivenShard index number base) None = w
+taken_by f w o (GivenClone index number source base) (Some op) = taken_shard w o op base (shard_of op.shards index number)
+taken_by f w o (GivenClone index number source base) None = w
 taken_by f w o (GivenFinalize info results) (Some op) = record w { tickets = fin.insert w.tickets w.next_ticket (final_ticket f w o op results); next_ticket = suc w.next_ticket }
 taken_by f w o (GivenFinalize info results) None = w
 taken_by f w o GivenDrop op = record w { tickets = fin.insert w.tickets w.next_ticket (plain_ticket w o Drop); next_ticket = suc w.next_ticket }
@@ -250,6 +295,7 @@ read_by f w (suc k) read reply image = read_step f w (suc k) read reply image
 -- the world after a step that was answered Ok, its blobs aside
 abbrev pub done_step : Formats → World → ℕ → Step → Reply → Option Image → World
 done_step f w k (AskStep (Snapshot name indices moment)) reply image = asked w (Snapshot name indices moment)
+done_step f w k (AskStep (Clone source name indices moment taken)) reply image = asked w (Clone source name indices moment taken)
 done_step f w k (AskStep (DeleteSnapshots names)) reply image = asked w (DeleteSnapshots names)
 done_step f w k (AskStep (Restore name place)) (AcceptedRestore o uuid indices) image = restore_opened w uuid place indices
 done_step f w k TakeStep (Gave ticket op unit) image = taken_by f w op unit (fin.get w.ops op)

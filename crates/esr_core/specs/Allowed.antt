@@ -2,26 +2,26 @@
 use Rattle.std.specs.Prelude.{◌≡◌, ◌≢◌, ◌⊎◌, ℕ, zero, suc, ◌+◌, ◌-◌, ◌^◌, ◌<◌, ◌≤◌, true, false, List, [], ◌∷◌, length, ◌++◌, sum_by, min, Option, Some, None}
 use Rattle.std.specs.FinMap as fin
 use Rattle.esr_model.specs.Names.{BlobName, Root, Latest, Snap, ShardSnap, ShardIndex, TestMaster}
-use Rattle.esr_model.specs.Values.{Bytes, Has, IndexRef, RootSnap, RootIndex, RootData, SnapInfo, ShardSnapshot, ShardFiles, ShardResult, ReadsBack, IsOneEach, Formats}
-use Rattle.esr_model.specs.Shelf.{Shelved, Delete, names_uuid}
+use Rattle.esr_model.specs.Values.{Bytes, Has, IndexRef, RootSnap, RootIndex, RootData, SnapInfo, FileEntry, ShardSnapshot, ShardFiles, ShardResult, ReadsBack, IsOneEach, Formats}
+use Rattle.esr_model.specs.Shelf.{Command, Delete, names_uuid}
 use Rattle.esr_model.specs.Delete.{PrunedShard, kept_count, deleted_root}
 use Rattle.esr_model.specs.Kept.{first_id}
 use Rattle.esr_model.specs.Finalize.{finalized_root}
 use Rattle.esr_model.specs.Image.{Blobs, Image, AllPairs, IsStored, At, Present, Reads, FileStands, Generation}
 use Rattle.esr_model.specs.Agreement.{RootAgrees}
 use Rattle.esr_model.specs.Reach.{Reached}
-use Rattle.esr_model.specs.Uploads.{entries_from, id_after, shard_blobs, with_snap, no_files}
+use Rattle.esr_model.specs.Uploads.{entries_from, id_after, shard_blobs, clone_blobs, with_snap, no_files}
 use Rattle.esr_core.specs.World.{World, Op, Deletion, ShardWork, Out, Unread, RestoreShard, Restoring, Reader, Shard, Finalize, Deleting, Drop, Ticket, Swap, swap, info_of, metadata, record_of}
-use Rattle.esr_core.specs.Generations.{OpTexts}
+use Rattle.esr_core.specs.Generations.{OpTexts, AreNamedOnce}
 use Rattle.esr_core.specs.Ready.{IsShard, IsMaster, ReadyShard, ReadyFinalize, ReadyDrop, ReadyDelete, ReadyCleanup, ReadyRestore, AnyReady}
 use Rattle.esr_core.specs.Pruning.{IsToRead, AreRead, pruned_shards, AreOfRoot, AreWritable, dooms}
-use Rattle.esr_core.specs.Restores.{IsTestOf, AreApart, IsReading, WasRead, IsPiece, ListsPiece, restore_shard}
-use Rattle.esr_core.specs.Steps.{IsOut, Drew, Largest, MayCommit, MaySettle, Removes}
+use Rattle.esr_core.specs.Restores.{IsTestOf, AreOnce, AreApart, IsReading, WasRead, IsPiece, ListsPiece, restore_shard}
+use Rattle.esr_core.specs.Steps.{IsOut, Drew, Largest, MayCommit, MaySettle, IsToFetch, MostDrawn, Removes}
 use Rattle.esr_core.specs.Texts.{IsMetaOf}
 use Rattle.std.specs.Int.{w64, to_be_bytes}
 use Rattle.esr_core.specs.Deletes.{named_uuids, waiting_delete, running_delete, delete_number}
-use Rattle.esr_core.specs.Entry.{AskedIndex, Asked, Snapshot, DeleteSnapshots, Restore, is_recorded, Given, GivenShard, GivenFinalize, GivenDrop, GivenRestore, GivenClone, GivenDelete, GivenCleanup, Why, Read, ReadBlob, RestoredShard, CheckedAll, DrawTest, BeginTest, CommitTest, RemoveTests, VerifiedAll, ReadFails, Prune, FetchShard, PlanShards, SettlePruned, RemoveDoomed, EndDelete, DeleteFails, Step, AskStep, TakeStep, DrawStep, BeginStep, CommitStep, LatestStep, FetchStep, ListStep, RaiseStep, SettleStep, DoneStep, FailedStep, FinishStep, DroppedStep, ElectStep, LookStep, ReadStep, PruneStep, CleanupRunning, NameInUse, TooMany, DeposedAt, StaleTerm, GenerationsSpent, TermsSpent, IdsSpent, NameTaken, DepotFault, NoSnapshot, BeingDeleted, CloneRunning, RestoreRunning, Reply, Accepted, NothingReady, Gave, DrawnFrom, WasBegun, WasDone, WasThere, WasReplaced, WasFetched, WasAbsent, WasListed, RaisedTo, WasSettled, HasEnded, ElectedTerm, Looked, Refused, WasRemoved, AcceptedRestore, Moment}
-use Rattle.esr_core.specs.After.{asked_op, new_names, shard_of, after}
+use Rattle.esr_core.specs.Entry.{AskedIndex, CloneOf, Asked, Snapshot, Clone, DeleteSnapshots, Restore, is_recorded, Given, GivenShard, GivenFinalize, GivenDrop, GivenRestore, GivenClone, GivenDelete, GivenCleanup, Why, Read, ReadBlob, RestoredShard, CheckedAll, DrawTest, BeginTest, CommitTest, RemoveTests, VerifiedAll, ReadFails, Prune, FetchShard, PlanShards, SettlePruned, RemoveDoomed, EndDelete, DeleteFails, Step, AskStep, TakeStep, DrawStep, BeginStep, CommitStep, LatestStep, FetchStep, ListStep, RaiseStep, SettleStep, DoneStep, FailedStep, FinishStep, DroppedStep, ElectStep, LookStep, ReadStep, PruneStep, CleanupRunning, NameInUse, TooMany, DeposedAt, StaleTerm, GenerationsSpent, TermsSpent, IdsSpent, NameTaken, DepotFault, NoSnapshot, NoIndex, BeingDeleted, CloneRunning, RestoreRunning, Reply, Accepted, NothingReady, Gave, DrawnFrom, WasBegun, WasDone, WasThere, WasReplaced, WasFetched, WasAbsent, WasListed, RaisedTo, WasSettled, HasEnded, ElectedTerm, Looked, Refused, WasRemoved, AcceptedRestore, Moment}
+use Rattle.esr_core.specs.After.{asked_op, new_names, chosen_refs, cloned_op, shard_of, after}
 
 -- what `index.latest` holds: the generation as 8 bytes, the highest first
 abbrev pub latest_text : ℕ → Bytes
@@ -90,7 +90,7 @@ pub record WasMade (f : Formats) (w : World) (uuid : ℕ) (indices : List IndexR
   pub there : fin.get w.tickets number ≡ Some t
   pub info : SnapInfo
   pub results : List ShardResult
-  pub made : Shelved
+  pub made : Command
   pub work : t.work ≡ Finalize info results made
   pub uuid_is : info.uuid ≡ uuid
   pub indices_is : info.indices ≡ indices
@@ -135,6 +135,66 @@ pub data RestoreAllows (f : Formats) (w : World) (name : Bytes) : Reply → Opti
   NotListed : (image : Option Image) → ((uuid : ℕ) → IsListed w name uuid → ⊥) → RestoreAllows f w name (Refused (NoSnapshot 0)) image
   NamedByDelete : (uuid d : ℕ) (image : Option Image) → IsListed w name uuid → IsBeingDeleted w uuid d → RestoreAllows f w name (Refused (BeingDeleted d)) image
   FullOfRestores : (uuid : ℕ) (image : Option Image) → IsListed w name uuid → IsSpared w uuid → 1000 ≤ fin.len w.restores → RestoreAllows f w name (Refused (TooMany 1000)) image
+
+-- ---- ask: a clone
+
+-- the snapshot has an index of this name, by the root
+abbrev pub HasIndexNamed : World → ℕ → Bytes → Type 0
+HasIndexNamed w uuid name = (x : RootIndex) × Has w.root.indices x × (x.name ≡ name) × Has x.snapshots uuid
+
+abbrev pub HaveIndices : World → ℕ → List Bytes → Type 0
+HaveIndices w uuid names = (name : Bytes) → Has names name → HasIndexNamed w uuid name
+
+-- the name at this place is the first of which the snapshot has no index
+pub record IsFirstMissing (w : World) (uuid : ℕ) (names : List Bytes) (place : ℕ) : Type 0 where
+  pub front : List Bytes
+  pub name : Bytes
+  pub back : List Bytes
+  pub is : names ≡ front ++ name ∷ back
+  pub place_is : place ≡ length front
+  pub before : HaveIndices w uuid front
+  pub missing : HasIndexNamed w uuid name → ⊥
+
+-- the rules of a clone up to its name, up to the deletes of its source, and up to its indices
+pub record MayName (w : World) (name : Bytes) : Type 0 where
+  pub no_cleanup : NoCleanup w
+  pub unused : IsUnused w name
+
+pub record MayCopy (w : World) (source name : Bytes) (uuid : ℕ) : Type 0 where
+  pub named : MayName w name
+  pub listed : IsListed w source uuid
+  pub spared : IsSpared w uuid
+
+pub record MayClone (w : World) (source name : Bytes) (names : List Bytes) (uuid : ℕ) : Type 0 where
+  pub copies : MayCopy w source name uuid
+  pub there : HaveIndices w uuid names
+
+-- a clone is accepted as this op, and takes this
+pub record AcceptsClone (f : Formats) (w : World) (source name : Bytes) (names : List Bytes) (moment o : ℕ) (taken : CloneOf) (image : Option Image) : Type 0 where
+  pub number : o ≡ w.next_op
+  pub may : MayClone w source name names taken.source
+  pub once : AreOnce names
+  pub room : open_count w < 1000
+  pub fits : suc w.next_id < first_id (suc w.term)
+  -- the indices of its source
+  pub all : List IndexRef
+  pub all_of : AreIndicesOf f w taken.source all image
+  pub named_once : AreNamedOnce all
+  pub chosen_is : taken.indices ≡ chosen_refs all names
+  -- its texts can be written
+  pub texts : OpTexts f (cloned_op w name moment taken)
+
+-- how a clone may be answered
+pub data CloneAllows (f : Formats) (w : World) (source name : Bytes) (names : List Bytes) (moment : ℕ) : Option CloneOf → Reply → Option Image → Type 0 where
+  OpeningClone : (taken : CloneOf) (o : ℕ) (image : Option Image) → AcceptsClone f w source name names moment o taken image → CloneAllows f w source name names moment (Some taken) (Accepted o) image
+  CloneUsed : (uuid : ℕ) (image : Option Image) → NoCleanup w → IsNameOf w name uuid → CloneAllows f w source name names moment None (Refused (NameInUse uuid)) image
+  SourceNotListed : (image : Option Image) → MayName w name → ((uuid : ℕ) → IsListed w source uuid → ⊥) → CloneAllows f w source name names moment None (Refused (NoSnapshot 0)) image
+  SourceDeleted : (uuid d : ℕ) (image : Option Image) → MayName w name → IsListed w source uuid → IsBeingDeleted w uuid d → CloneAllows f w source name names moment None (Refused (BeingDeleted d)) image
+  IndexMissing : (uuid place : ℕ) (image : Option Image) → MayCopy w source name uuid → IsFirstMissing w uuid names place → CloneAllows f w source name names moment None (Refused (NoIndex place)) image
+  FullOfClones : (uuid : ℕ) (image : Option Image) → MayClone w source name names uuid → 1000 ≤ open_count w → CloneAllows f w source name names moment None (Refused (TooMany 1000)) image
+  CloneSpent : (uuid : ℕ) (image : Option Image) → MayClone w source name names uuid → open_count w < 1000 → first_id (suc w.term) ≤ suc w.next_id → CloneAllows f w source name names moment None (Refused (IdsSpent w.next_id)) image
+  -- the record swap failed
+  CloneFault : (taken : CloneOf) (image : Option Image) → AcceptsClone f w source name names moment w.next_op taken image → CloneAllows f w source name names moment (Some taken) (Refused DepotFault) image
 
 -- ---- ask: a delete
 
@@ -210,9 +270,10 @@ abbrev pub StandsBefore : {A : Type 0} → List A → A → A → Type 0
 StandsBefore [] a b = ⊥
 StandsBefore (x ∷ xs) a b = (x ≢ b) × (((x ≡ a) × Has xs b) ⊎ StandsBefore xs a b)
 
--- the shard of an op is given, on the largest live generation
-pub record GivesShard (w : World) (o index number : ℕ) (base : Option ℕ) : Type 0 where
+-- the shard of an op that copies this snapshot, or none, is given, on the largest live generation
+pub record GivesShard (w : World) (o index number : ℕ) (source base : Option ℕ) : Type 0 where
   pub op : Op
+  pub source_is : op.source ≡ source
   pub s : ShardWork
   pub found : shard_of op.shards index number ≡ Some s
   pub ready : ReadyShard w o op s
@@ -236,24 +297,24 @@ pub record GivesRestore (w : World) (o index number uuid : ℕ) : Type 0 where
   pub uuid_is : uuid ≡ r.uuid
 
 abbrev pub Gives : Formats → World → ℕ → Given → Type 0
-Gives f w o (GivenShard index number base) = GivesShard w o index number base
+Gives f w o (GivenShard index number base) = GivesShard w o index number None base
 Gives f w o (GivenFinalize info results) = GivesFinalize f w o info results
 Gives f w o GivenDrop = ReadyDrop w o
 Gives f w o (GivenRestore index number uuid) = GivesRestore w o index number uuid
-Gives f w o (GivenClone index number source base) = ⊥
+Gives f w o (GivenClone index number source base) = GivesShard w o index number (Some source) base
 Gives f w o (GivenDelete uuids) = (x : Deletion) × ReadyDelete w o x × (uuids ≡ x.uuids)
 Gives f w o GivenCleanup = ⊥
 
 -- ---- steps of a ticket
 
--- a shard's ticket may draw once: at least one id, and at most one for each file of the source and one more
+-- a shard's ticket may draw once: at least one id, and no more than it needs
 pub record MayDraw (f : Formats) (w : World) (k n : ℕ) : Type 0 where
   pub t : Ticket
   pub out : IsOut w k t
   pub shard : IsShard t.work
   pub once : t.drawn ≡ 0
   pub some : 1 ≤ n
-  pub most : (index number : ℕ) → t.work ≡ Shard index number → f.known t.place t.name number ≡ true → n ≤ suc (length (f.told t.place t.name number))
+  pub most : (index number : ℕ) → t.work ≡ Shard index number → MostDrawn f t number n t.source
   pub few : n ≤ 2 ^ 32
 
 pub record Draws (f : Formats) (w : World) (k n first : ℕ) : Type 0 where
@@ -277,22 +338,17 @@ pub record Refinds (f : Formats) (w : World) (k : ℕ) (name : BlobName) : Type 
   pub unsettled : t.settled ≡ false
   pub info : SnapInfo
   pub results : List ShardResult
-  pub made : Shelved
+  pub made : Command
   pub work : t.work ≡ Finalize info results made
   pub bytes : Bytes
   pub own : Has (metadata f info) (name, bytes)
 
--- a shard's ticket fetches its base
+-- a shard's ticket fetches its base, and what it copies
 pub record Fetches (f : Formats) (w : World) (k : ℕ) (name : BlobName) : Type 0 where
   pub t : Ticket
   pub out : IsOut w k t
   pub stored : IsStored f name
-  pub index : ℕ
-  pub shard : ℕ
-  pub base : ℕ
-  pub work : t.work ≡ Shard index shard
-  pub base_is : t.base ≡ Some base
-  pub name_is : name ≡ ShardIndex index shard base
+  pub to_fetch : IsToFetch t name
 
 -- `index.latest` is written by an unsettled swap that has committed its root
 pub record Puts (f : Formats) (w : World) (k : ℕ) : Type 0 where
@@ -328,7 +384,7 @@ pub record Settles (f : Formats) (w : World) (k : ℕ) : Type 0 where
   pub present : t.term ≡ w.term
   pub info : SnapInfo
   pub results : List ShardResult
-  pub made : Shelved
+  pub made : Command
   pub work : t.work ≡ Finalize info results made
 
 -- the base, as the ticket fetched it
@@ -353,6 +409,27 @@ pub record DoneBy (f : Formats) (part_size : ℕ) (t : Ticket) (r : ShardResult)
   pub count : r.files ≡ length files
   pub bytes : r.bytes ≡ min (sum_by (λ (file : Bytes × Bytes). length file.1) files) (2 ^ 64 - 1)
 
+-- A shard of a clone is done: its ticket has read what the source has of it, and wrote the same files under its own uuid, and the
+-- index under the one id that it drew, and nothing else.
+pub record ClonedBy (f : Formats) (t : Ticket) (source : ℕ) (r : ShardResult) : Type 0 where
+  pub base : ShardFiles
+  pub based : Based f t r.index r.shard t.base base
+  pub was : ShardSnapshot
+  pub was_read : Reads (WasRead t.read) (ShardSnap r.index r.shard source) f.shard_snap was
+  pub generation : r.generation ≡ t.first
+  pub drew : t.first + t.drawn ≡ suc r.generation
+  pub wrote : (name : BlobName) (bytes : Bytes) → Has (clone_blobs f base r.index r.shard t.uuid t.first was.files) (name, bytes) → Has t.wrote (name, bytes)
+  pub only : (name : BlobName) (bytes : Bytes) → Has t.wrote (name, bytes) → Has (clone_blobs f base r.index r.shard t.uuid t.first was.files) (name, bytes)
+  pub snap_back : ReadsBack f.shard_snap (record { uuid = t.uuid; files = was.files })
+  pub index_back : ReadsBack f.shard_index (with_snap base t.uuid was.files)
+  pub count : r.files ≡ length was.files
+  pub bytes : r.bytes ≡ min (sum_by (λ (e : FileEntry). e.len) was.files) (2 ^ 64 - 1)
+
+-- a shard is done, of a clone of this snapshot or of none
+abbrev pub DoneAs : Formats → ℕ → Ticket → ShardResult → Option ℕ → Type 0
+DoneAs f part_size t r None = DoneBy f part_size t r
+DoneAs f part_size t r (Some source) = ClonedBy f t source r
+
 pub record Dones (f : Formats) (part_size : ℕ) (w : World) (k : ℕ) (r : ShardResult) (image : Option Image) : Type 0 where
   pub t : Ticket
   pub out : IsOut w k t
@@ -364,12 +441,13 @@ pub record Dones (f : Formats) (part_size : ℕ) (w : World) (k : ℕ) (r : Shar
   pub state : s.state ≡ Out k
   pub place_is : s.place ≡ t.place
   pub name_is : s.ref.name ≡ t.name
+  pub source_is : op.source ≡ t.source
   -- it drew the generation last, and committed the snapshot of the shard and the index under it
   pub drew : Drew t r.generation
   pub last : t.first + t.drawn ≡ suc r.generation
   pub snap_noted : Has t.noted (ShardSnap r.index r.shard t.uuid)
   pub index_noted : Has t.noted (ShardIndex r.index r.shard r.generation)
-  pub done : Told image (λ blobs. DoneBy f part_size t r)
+  pub done : Told image (λ blobs. DoneAs f part_size t r t.source)
 
 -- a unit fails: a shard's at any term, a finalization before its settle; what a stale master ticket tells ends it alone
 pub record Fails (w : World) (k : ℕ) : Type 0 where
@@ -644,6 +722,7 @@ pub data Allows (f : Formats) (part_size : ℕ) (w : World) : ℕ → Step → R
   Electing : (image : Option Image) → suc w.term < 2 ^ 63 → SameBlobs w image → Allows f part_size w 0 ElectStep (ElectedTerm (suc w.term)) image
   Looking : (image : Option Image) → SameBlobs w image → Allows f part_size w 0 LookStep (Looked w.root.snapshots w.safe) image
   AskingRestore : (name place : Bytes) (reply : Reply) (image : Option Image) → RestoreAllows f w name reply image → SameBlobs w image → Allows f part_size w 0 (AskStep (Restore name place)) reply image
+  AskingClone : (source name : Bytes) (names : List Bytes) (moment : ℕ) (taken : Option CloneOf) (reply : Reply) (image : Option Image) → CloneAllows f w source name names moment taken reply image → SameBlobs w image → Allows f part_size w 0 (AskStep (Clone source name names moment taken)) reply image
   AskingDelete : (names : List Bytes) (reply : Reply) (image : Option Image) → DeleteAllows w names reply → SameBlobs w image → Allows f part_size w 0 (AskStep (DeleteSnapshots names)) reply image
   Verifying : (read : Read) (reply : Reply) (image : Option Image) → VerifyAllows f w read reply image → Allows f part_size w 0 (ReadStep read) reply image
   Reading : (k : ℕ) (read : Read) (reply : Reply) (image : Option Image) → ReadAllows f w k read reply image → SameBlobs w image → Allows f part_size w k (ReadStep read) reply image

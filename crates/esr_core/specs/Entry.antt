@@ -11,11 +11,16 @@ pub record AskedIndex : Type 0 where
   pub shards : ℕ
   pub place : Bytes
 
--- A command as it is asked. Of clones and cleanups only the refusals in an open cleanup are steps so far.
+-- what a clone takes: the snapshot that it copies, and these of its indices
+pub record CloneOf : Type 0 where
+  pub source : ℕ
+  pub indices : List IndexRef
+
+-- A command as it is asked. Of cleanups only the refusals in an open one are steps so far.
 pub data Asked : Type 0 where
   Snapshot : (name : Bytes) (indices : List AskedIndex) (moment : ℕ) → Asked
-  -- of these indices of a listed snapshot, of all where none is named
-  Clone : (source name : Bytes) (indices : List Bytes) (moment : ℕ) → Asked
+  -- of these indices of a listed snapshot, of all where none is named; with what it takes, unless a rule refuses it
+  Clone : (source name : Bytes) (indices : List Bytes) (moment : ℕ) (taken : Option CloneOf) → Asked
   DeleteSnapshots : (names : List Bytes) → Asked
   Restore : (name place : Bytes) → Asked
   Cleanup : Asked
@@ -23,7 +28,7 @@ pub data Asked : Type 0 where
 -- the cluster record has the op
 abbrev pub is_recorded : Asked → Bool
 is_recorded (Snapshot name indices moment) = true
-is_recorded (Clone source name indices moment) = true
+is_recorded (Clone source name indices moment taken) = true
 is_recorded (DeleteSnapshots names) = true
 is_recorded (Restore name place) = false
 is_recorded Cleanup = true
@@ -35,10 +40,11 @@ pub data Given : Type 0 where
   GivenDrop : Given
   -- a shard of a restore
   GivenRestore : (index number uuid : ℕ) → Given
-  -- a shard of a clone of the snapshot `source`, a cleanup: no step gives these so far
+  -- a shard of a clone of the snapshot `source`
   GivenClone : (index number source : ℕ) (base : Option ℕ) → Given
   -- an open delete of the snapshots with these uuids
   GivenDelete : (uuids : List ℕ) → Given
+  -- a cleanup: no step gives it so far
   GivenCleanup : Given
 
 -- why bytes don't read as their kind: the first rule that they break
@@ -129,6 +135,10 @@ pub data Step : Type 0 where
 -- it asks for no delete
 abbrev pub AsksNoDelete : Step → Type 0
 AsksNoDelete step = (names : List Bytes) → step ≢ AskStep (DeleteSnapshots names)
+
+-- it asks for no clone
+abbrev pub AsksNoClone : Step → Type 0
+AsksNoClone step = (source name : Bytes) (indices : List Bytes) (moment : ℕ) (taken : Option CloneOf) → step ≢ AskStep (Clone source name indices moment taken)
 
 pub data Refusal : Type 0 where
   CleanupRunning : (op : ℕ) → Refusal

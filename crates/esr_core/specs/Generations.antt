@@ -4,11 +4,12 @@ use Rattle.std.specs.Ordering.{nat_cmp}
 use Rattle.std.specs.FinMap.{FinMap}
 use Rattle.std.specs.FinMap as fin
 use Rattle.esr_model.specs.Names.{BlobName, Snap, ShardSnap, ShardIndex}
-use Rattle.esr_model.specs.Values.{Bytes, IndexRef, RootSnap, RootIndex, RootData, SnapInfo, ShardSnapshot, SnapList, ShardFiles, ShardResult, ReadsBack, Formats}
-use Rattle.esr_model.specs.Shelf.{Shelved}
+use Rattle.esr_model.specs.Values.{Bytes, IndexRef, RootSnap, RootIndex, RootData, SnapInfo, FileEntry, ShardSnapshot, SnapList, ShardFiles, ShardResult, ReadsBack, Formats}
+use Rattle.esr_model.specs.Shelf.{Command}
 use Rattle.esr_model.specs.Places.{places, shelf_places}
 use Rattle.esr_model.specs.Image.{Has, AllPairs, RootIs, Reads, Generation, ListsAs, IndexStands, FileStands}
-use Rattle.esr_core.specs.World.{Op, ShardWork, Ticket, Swap, Shard, Finalize, Deleting, Done, Out, AllDone, info_of, shelved_of}
+use Rattle.esr_core.specs.World.{Op, ShardWork, Ticket, Swap, Shard, Finalize, Deleting, Done, Out, AllDone, info_of, made_of}
+use Rattle.esr_core.specs.Restores.{AreOnce, AreApart}
 
 -- an open op has done the shard at this generation
 pub record DoneAt (ops : FinMap nat_cmp Op) (uuid index shard generation : ℕ) : Type 0 where
@@ -57,13 +58,18 @@ pub record Carries (f : Formats) (has : BlobName → Bytes → Type 0) (root : R
   pub listed : ((g : ℕ) → Generation root index shard g → g ≤ generation) → (snap : RootSnap) → Has root.snapshots snap → IsOfShard f has snap.uuid index shard
       → ListsAs f has index shard generation snap.uuid
 
--- a done shard: its files have the bytes that the sources tell
-pub record DoneStands (f : Formats) (has : BlobName → Bytes → Type 0) (uuid : ℕ) (s : ShardWork) (r : ShardResult) : Type 0 where
+-- the files of a shard: those that the sources tell, or of a clone those that another snapshot has of it
+abbrev pub AreFilesOf : Formats → (BlobName → Bytes → Type 0) → Option ℕ → ℕ → ℕ → ShardWork → List FileEntry → Type 0
+AreFilesOf f has None index shard s files = AllPairs (λ e file. (e.physical ≡ file.0) × FileStands f has index shard e file.1) files (f.told s.place s.ref.name s.number)
+AreFilesOf f has (Some source) index shard s files = (was : ShardSnapshot) × Reads has (ShardSnap index shard source) f.shard_snap was × (was.files ≡ files)
+
+-- a done shard of an op that copies this snapshot, or none
+pub record DoneStands (f : Formats) (has : BlobName → Bytes → Type 0) (source : Option ℕ) (uuid : ℕ) (s : ShardWork) (r : ShardResult) : Type 0 where
   pub index_is : r.index ≡ s.ref.id
   pub shard_is : r.shard ≡ s.number
   pub snap : ShardSnapshot
   pub snap_reads : Reads has (ShardSnap s.ref.id s.number uuid) f.shard_snap snap
-  pub files : AllPairs (λ e file. (e.physical ≡ file.0) × FileStands f has s.ref.id s.number e file.1) snap.files (f.told s.place s.ref.name s.number)
+  pub files : AreFilesOf f has source s.ref.id s.number s snap.files
 
 -- what a finalization of the op writes beside the root reads back, whatever its sums
 pub record WritesBack (f : Formats) (name : Bytes) (uuid moment : ℕ) (indices : List IndexRef) : Type 0 where
@@ -74,12 +80,31 @@ pub record WritesBack (f : Formats) (name : Bytes) (uuid moment : ℕ) (indices 
 abbrev pub OpTexts : Formats → Op → Type 0
 OpTexts f op = WritesBack f op.name op.uuid op.moment op.indices
 
+-- an index is told by its name
+abbrev pub AreNamedOnce : List IndexRef → Type 0
+AreNamedOnce refs = (r q : IndexRef) → Has refs r → Has refs q → r.name ≡ q.name → r ≡ q
+
+-- these are indices of the snapshot, by its info, each once
+pub record AreIndicesBy (f : Formats) (has : BlobName → Bytes → Type 0) (source : ℕ) (indices : List IndexRef) : Type 0 where
+  pub info : SnapInfo
+  pub info_reads : Reads has (Snap source) f.info info
+  pub apart : AreApart info.indices
+  pub named_once : AreNamedOnce info.indices
+  pub among : (r : IndexRef) → Has indices r → Has info.indices r
+  pub once : AreOnce indices
+
+-- the snapshot that a clone of these indices copies is listed, and has them
+pub record CopiesFrom (f : Formats) (has : BlobName → Bytes → Type 0) (root : RootData) (source : ℕ) (indices : List IndexRef) : Type 0 where
+  pub listed : (z : RootSnap) × Has root.snapshots z × (z.uuid ≡ source)
+  pub by_info : AreIndicesBy f has source indices
+
 -- what holds of an open op
 pub record OpLaw (f : Formats) (has : BlobName → Bytes → Type 0) (root : RootData) (op : Op) : Type 0 where
   -- its texts can be written
   pub texts : OpTexts f op
   pub places : map (λ (s : ShardWork). (s.ref, s.number)) op.shards ≡ places op.indices
-  pub done : (s : ShardWork) (r : ShardResult) → Has op.shards s → s.state ≡ Done r → DoneStands f has op.uuid s r
+  pub done : (s : ShardWork) (r : ShardResult) → Has op.shards s → s.state ≡ Done r → DoneStands f has op.source op.uuid s r
+  pub copies : (u : ℕ) → op.source ≡ Some u → CopiesFrom f has root u op.indices
   -- its uuid is new
   pub unlisted : (snap : RootSnap) → Has root.snapshots snap → snap.uuid ≢ op.uuid
   pub unused : (x : RootIndex) → Has root.indices x → Has x.snapshots op.uuid → ⊥
@@ -108,6 +133,7 @@ pub record ShardLaw (f : Formats) (has : BlobName → Bytes → Type 0) (root : 
   pub op : Op
   pub op_there : fin.get ops t.op ≡ Some op
   pub uuid_is : op.uuid ≡ t.uuid
+  pub source_is : t.source ≡ op.source
   pub s : ShardWork
   pub s_there : Has op.shards s
   pub state : s.state ≡ Out k
@@ -117,12 +143,12 @@ pub record ShardLaw (f : Formats) (has : BlobName → Bytes → Type 0) (root : 
   pub ids : (id : ℕ) → t.first ≤ id → id < t.first + t.drawn → (t.uuid < id) × BaseBelow t.base id
 
 -- what holds of the finalization of the present term
-pub record FinalLaw (f : Formats) (root : RootData) (ops : FinMap nat_cmp Op) (t : Ticket) (info : SnapInfo) (results : List ShardResult) (made : Shelved) : Type 0 where
+pub record FinalLaw (f : Formats) (root : RootData) (ops : FinMap nat_cmp Op) (t : Ticket) (info : SnapInfo) (results : List ShardResult) (made : Command) : Type 0 where
   pub op : Op
   pub op_there : fin.get ops t.op ≡ Some op
   pub done : AllDone op.shards results
   pub info_is : info ≡ info_of op results
-  pub made_is : made ≡ shelved_of f op
+  pub made_is : made ≡ made_of f op
   pub root_is : t.root ≡ root
 
 -- one of the indices of shards that a delete or cleanup writes
@@ -156,7 +182,7 @@ pub record Carried (f : Formats) (has : BlobName → Bytes → Type 0) (safe ter
   pub one_shard : (j k : ℕ) (t u : Ticket) → fin.get tickets j ≡ Some t → fin.get tickets k ≡ Some u → t.out ≡ true → u.out ≡ true
       → (index shard : ℕ) → t.work ≡ Shard index shard → u.work ≡ Shard index shard → j ≡ k
   pub finals : (k : ℕ) (t : Ticket) → fin.get tickets k ≡ Some t → t.out ≡ true → t.settled ≡ false → t.term ≡ term
-      → (info : SnapInfo) (results : List ShardResult) (made : Shelved) → t.work ≡ Finalize info results made → FinalLaw f root open_ops t info results made
+      → (info : SnapInfo) (results : List ShardResult) (made : Command) → t.work ≡ Finalize info results made → FinalLaw f root open_ops t info results made
   pub held : (o : ℕ) (op : Op) (s : ShardWork) (k : ℕ) → fin.get open_ops o ≡ Some op → Has op.shards s → s.state ≡ Out k → IsHeldBy tickets o s k
   -- of a delete or cleanup of the present term that has drawn
   pub plans : (k : ℕ) (t : Ticket) → fin.get tickets k ≡ Some t → t.out ≡ true → t.settled ≡ false → t.term ≡ term → (uuids : List ℕ) (s : Swap) → t.work ≡ Deleting uuids (Some s) → PlanLaw f root open_ops s

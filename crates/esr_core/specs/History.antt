@@ -4,7 +4,7 @@ use Rattle.std.specs.FinMap as fin
 use Rattle.esr_model.specs.Values.{Bytes, Has, FileEntry, Formats}
 use Rattle.esr_model.specs.Shelf.{Command}
 use Rattle.esr_model.specs.Image.{Image, Blobs, At, FileStands}
-use Rattle.esr_core.specs.World.{World, Ticket, Swap, swap}
+use Rattle.esr_core.specs.World.{World, Shard, Ticket, Swap, swap}
 use Rattle.esr_core.specs.Entry.{Step, SettleStep, SettlePruned, PruneStep, DepotFault, Reply, WasSettled, Refused, Moment}
 use Rattle.esr_core.specs.After.{after}
 use Rattle.esr_core.specs.Allowed.{Allowed}
@@ -62,9 +62,23 @@ abbrev pub AreHonest : Formats → World → List Moment → Type 0
 AreHonest f w [] = IsHonest f w.blobs
 AreHonest f w (m ∷ log) = IsHonest f w.blobs × AreHonest f (after f w m) log
 
+-- the sources tell the files of each shard that a ticket has
+abbrev pub TellsShards : Formats → World → Type 0
+TellsShards f w = (k : ℕ) (t : Ticket) (index number : ℕ) → fin.get w.tickets k ≡ Some t → t.out ≡ true → t.work ≡ Shard index number → t.source ≡ None → f.known t.place t.name number ≡ true
+
+-- they tell each shard that the history hands out
+abbrev pub TellsHandedOut : Formats → World → List Moment → Type 0
+TellsHandedOut f w [] = TellsShards f w
+TellsHandedOut f w (m ∷ log) = TellsShards f w × TellsHandedOut f (after f w m) log
+
 -- the sources tell all files
 abbrev pub AllKnown : Formats → Type 0
 AllKnown f = (place name : Bytes) (number : ℕ) → f.known place name number ≡ true
+
+-- those that tell all files tell what is handed out
+pub all_handed_out : (f : Formats) (w : World) (log : List Moment) → AllKnown f → TellsHandedOut f w log
+all_handed_out f w [] known = λ k t index number there out work source. known t.place t.name number
+all_handed_out f w (m ∷ log) known = (λ k t index number there out work source. known t.place t.name number, all_handed_out f (after f w m) log known)
 
 -- the container tells its image at each moment
 abbrev pub AreTold : List Moment → Type 0

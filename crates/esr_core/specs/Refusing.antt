@@ -1,10 +1,10 @@
 -- How steps may be refused while no record swap has failed.
-use Rattle.std.specs.Prelude.{◌≡◌, ◌⊎◌, ℕ, true, List}
+use Rattle.std.specs.Prelude.{◌≡◌, ◌⊎◌, ℕ, true, List, Option}
 use Rattle.esr_model.specs.Names.{BlobName}
 use Rattle.esr_model.specs.Values.{Bytes, Has}
 use Rattle.esr_model.specs.Delete.{PrunedShard}
 use Rattle.esr_core.specs.World.{World}
-use Rattle.esr_core.specs.Entry.{AskedIndex, Asked, Snapshot, DeleteSnapshots, Restore, is_recorded, ReadBlob, DrawTest, BeginTest, CommitTest, RemoveTests, FetchShard, PlanShards, SettlePruned, RemoveDoomed, Step, AskStep, DrawStep, BeginStep, CommitStep, LatestStep, FetchStep, ListStep, RaiseStep, SettleStep, DroppedStep, ElectStep, ReadStep, PruneStep, Refusal, CleanupRunning, NameInUse, TooMany, DeposedAt, StaleTerm, GenerationsSpent, TermsSpent, IdsSpent, NameTaken, DepotFault, NoSnapshot, BeingDeleted, CloneRunning, RestoreRunning, Refused, Moment}
+use Rattle.esr_core.specs.Entry.{AskedIndex, CloneOf, Asked, Snapshot, Clone, DeleteSnapshots, Restore, is_recorded, ReadBlob, DrawTest, BeginTest, CommitTest, RemoveTests, FetchShard, PlanShards, SettlePruned, RemoveDoomed, Step, AskStep, DrawStep, BeginStep, CommitStep, LatestStep, FetchStep, ListStep, RaiseStep, SettleStep, DroppedStep, ElectStep, ReadStep, PruneStep, Refusal, CleanupRunning, NameInUse, TooMany, DeposedAt, StaleTerm, GenerationsSpent, TermsSpent, IdsSpent, NameTaken, DepotFault, NoSnapshot, NoIndex, BeingDeleted, CloneRunning, RestoreRunning, Refused, Moment}
 use Rattle.esr_core.specs.After.{swaps_record}
 
 -- A step may be refused so: a command by a rule of its kind, with the place or the limit that this has, or since its ids are spent; a
@@ -16,6 +16,13 @@ pub data MayRefuse : Step → Refusal → Type 0 where
   InFull : (name : Bytes) (indices : List AskedIndex) (moment : ℕ) → MayRefuse (AskStep (Snapshot name indices moment)) (TooMany 1000)
   NoIdForAsk : (name : Bytes) (indices : List AskedIndex) (moment next : ℕ) → MayRefuse (AskStep (Snapshot name indices moment)) (IdsSpent next)
   AskFault : (name : Bytes) (indices : List AskedIndex) (moment : ℕ) → MayRefuse (AskStep (Snapshot name indices moment)) DepotFault
+  CloneInUse : (source name : Bytes) (names : List Bytes) (moment uuid : ℕ) (taken : Option CloneOf) → MayRefuse (AskStep (Clone source name names moment taken)) (NameInUse uuid)
+  NoSource : (source name : Bytes) (names : List Bytes) (moment : ℕ) (taken : Option CloneOf) → MayRefuse (AskStep (Clone source name names moment taken)) (NoSnapshot 0)
+  SourceInDelete : (source name : Bytes) (names : List Bytes) (moment op : ℕ) (taken : Option CloneOf) → MayRefuse (AskStep (Clone source name names moment taken)) (BeingDeleted op)
+  NoSuchIndex : (source name : Bytes) (names : List Bytes) (moment place : ℕ) (taken : Option CloneOf) → MayRefuse (AskStep (Clone source name names moment taken)) (NoIndex place)
+  CloneInFull : (source name : Bytes) (names : List Bytes) (moment : ℕ) (taken : Option CloneOf) → MayRefuse (AskStep (Clone source name names moment taken)) (TooMany 1000)
+  NoIdForClone : (source name : Bytes) (names : List Bytes) (moment next : ℕ) (taken : Option CloneOf) → MayRefuse (AskStep (Clone source name names moment taken)) (IdsSpent next)
+  AskCloneFault : (source name : Bytes) (names : List Bytes) (moment : ℕ) (taken : Option CloneOf) → MayRefuse (AskStep (Clone source name names moment taken)) DepotFault
   NotNamed : (names : List Bytes) (place : ℕ) → MayRefuse (AskStep (DeleteSnapshots names)) (NoSnapshot place)
   CloneStands : (names : List Bytes) (op : ℕ) → MayRefuse (AskStep (DeleteSnapshots names)) (CloneRunning op)
   RestoreStands : (names : List Bytes) (op : ℕ) → MayRefuse (AskStep (DeleteSnapshots names)) (RestoreRunning op)

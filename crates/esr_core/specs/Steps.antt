@@ -1,15 +1,15 @@
 -- What each step asks, and the world that it leaves.
-use Rattle.std.specs.Prelude.{◌≡◌, ◌≢◌, Bool, ℕ, suc, ◌+◌, ◌<◌, ◌≤◌, ◌⊎◌, true, false, List, [], ◌∷◌, ◌++◌, Option, Some, None, map, if◌then◌else◌, ◌==◌, ◌&&◌}
+use Rattle.std.specs.Prelude.{◌≡◌, ◌≢◌, Bool, ℕ, suc, ◌+◌, ◌<◌, ◌≤◌, ◌⊎◌, true, false, List, [], ◌∷◌, ◌++◌, length, Option, Some, None, map, if◌then◌else◌, ◌==◌, ◌&&◌}
 use Rattle.std.specs.FinMap as fin
 use Rattle.esr_model.specs.Names.{BlobName, Root, Latest, Snap, Meta, IndexMeta, ShardSnap, ShardIndex, File, Part, TestMaster, TestNode}
 use Rattle.esr_model.specs.Values.{Bytes, RootData, SnapInfo, FileEntry, SnapList, ShardFiles, ShardSnapshot, ShardResult, ReadsBack, Formats}
-use Rattle.esr_model.specs.Shelf.{Shelved}
-use Rattle.esr_model.specs.Image.{Blobs, Has, AllPairs, IsStored, At, Present, Reads, Lists, FileStands}
+use Rattle.esr_model.specs.Shelf.{Command}
+use Rattle.esr_model.specs.Image.{Blobs, Has, IsStored, At, Present, Reads, Lists, FileStands}
 use Rattle.esr_model.specs.Kept.{first_id}
 use Rattle.esr_model.specs.Finalize.{finalized_root}
-use Rattle.esr_core.specs.Generations.{IsLive}
+use Rattle.esr_core.specs.Generations.{IsLive, AreFilesOf}
 use Rattle.esr_core.specs.Ready.{IsShard}
-use Rattle.esr_core.specs.World.{World, Ticket, Op, ShardWork, ShardState, Pending, Shard, Finalize, Deleting, Out, Done, GivenUp, AllDone, Swap, swap, marked, info_of, shelved_of, metadata, HeldIn}
+use Rattle.esr_core.specs.World.{World, Ticket, Op, ShardWork, ShardState, Pending, Shard, Finalize, Deleting, Out, Done, GivenUp, AllDone, Swap, swap, marked, info_of, made_of, metadata, HeldIn}
 
 -- the ticket is out under this number
 pub record IsOut (w : World) (k : ℕ) (t : Ticket) : Type 0 where
@@ -68,7 +68,7 @@ pub record CommitExists (f : Formats) (w : World) (k : ℕ) (name : BlobName) (n
   pub out : IsOut w k t
   pub info : SnapInfo
   pub results : List ShardResult
-  pub made : Shelved
+  pub made : Command
   pub work : t.work ≡ Finalize info results made
   pub bytes : Bytes
   pub own : Has (metadata f info) (name, bytes)
@@ -78,11 +78,12 @@ pub record CommitExists (f : Formats) (w : World) (k : ℕ) (name : BlobName) (n
 abbrev pub final_ticket : Formats → World → ℕ → Op → List ShardResult → Ticket
 final_ticket f w o op results =
     record {
-      work = Finalize (info_of op results) results (shelved_of f op);
+      work = Finalize (info_of op results) results (made_of f op);
       op = o;
       uuid = op.uuid;
       place = [];
       name = [];
+      source = None;
       term = w.term;
       safe = w.safe;
       root = w.root;
@@ -168,7 +169,7 @@ abbrev pub ExtendsBase : Formats → (BlobName → Bytes → Type 0) → ℕ →
 ExtendsBase f has index shard None held uuid files = Extends (record { files = []; snapshots = [] }) held uuid files
 ExtendsBase f has index shard (Some base) held uuid files = (was : ShardFiles) × Reads has (ShardIndex index shard base) f.shard_index was × Extends was held uuid files
 
--- the shard unit committed its parts, `snap-U.dat` and `index-G`, and its files are those that the sources tell
+-- the shard unit committed its parts, `snap-U.dat` and `index-G`, and its files are those that it was to have
 pub record DoneShard (f : Formats) (w : World) (k : ℕ) (r : ShardResult) (new : World) : Type 0 where
   pub t : Ticket
   pub out : IsOut w k t
@@ -184,7 +185,8 @@ pub record DoneShard (f : Formats) (w : World) (k : ℕ) (r : ShardResult) (new 
   pub s : ShardWork
   pub s_there : Has op.shards s
   pub state : s.state ≡ Out k
-  pub files : AllPairs (λ e file. (e.physical ≡ file.0) × FileStands f (HeldIn f w) r.index r.shard e file.1) snap.files (f.told s.place s.ref.name s.number)
+  pub files : AreFilesOf f (HeldIn f w) op.source r.index r.shard s snap.files
+  pub stand : (e : FileEntry) → Has snap.files e → (bytes : Bytes) × FileStands f (HeldIn f w) r.index r.shard e bytes
   pub new_is : new ≡ record w { ops = fin.insert w.ops t.op (record op { shards = map (marked k (Done r)) op.shards }); tickets = fin.insert w.tickets k (record t { out = false }); completed = completing w.completed t.op (map (marked k (Done r)) op.shards) }
 
 -- a finalization: all shards of the op are done, and no swap of the present term is out
@@ -217,6 +219,17 @@ pub record TryLatest (f : Formats) (w : World) (k : ℕ) (new : World) : Type 0 
   pub now : Blobs
   pub puts : PutsLatest f w.blobs now
   pub tries : TriesLatest f (record w { blobs = now }) k new
+
+-- a shard's ticket fetches its base, and a clone's the snapshot of the shard that it copies
+abbrev pub IsToFetch : Ticket → BlobName → Type 0
+IsToFetch t name =
+    (index : ℕ) × (shard : ℕ) × (t.work ≡ Shard index shard)
+    × (((base : ℕ) × (t.base ≡ Some base) × (name ≡ ShardIndex index shard base)) ⊎ ((source : ℕ) × (t.source ≡ Some source) × (name ≡ ShardSnap index shard source)))
+
+-- a clone's ticket draws one id, another at most one for each file of its source and one more
+abbrev pub MostDrawn : Formats → Ticket → ℕ → ℕ → Option ℕ → Type 0
+MostDrawn f t number n None = f.known t.place t.name number ≡ true → n ≤ suc (length (f.told t.place t.name number))
+MostDrawn f t number n (Some source) = n ≤ 1
 
 -- a blob that is there is fetched
 abbrev pub reading : Ticket → BlobName → Bytes → Ticket
@@ -256,6 +269,7 @@ shard_ticket w o op s base =
       uuid = op.uuid;
       place = s.place;
       name = s.ref.name;
+      source = op.source;
       term = w.term;
       safe = w.safe;
       root = w.root;
@@ -284,6 +298,8 @@ pub record TakeShard (w : World) (o : ℕ) (op : Op) (s : ShardWork) (base : Opt
 pub record Removes (f : Formats) (blobs now : Blobs) (names : List BlobName) : Type 0 where
   pub left : (text bytes : Bytes) → fin.get now text ≡ Some bytes → fin.get blobs text ≡ Some bytes
   pub stays : (name : BlobName) (bytes : Bytes) → At f blobs name bytes → (Has names name → ⊥) → At f now name bytes
+  -- whatever its text is: `index.latest` and blobs of no name of the layout stay, too
+  pub others : (text bytes : Bytes) → fin.get blobs text ≡ Some bytes → ((name : BlobName) → Has names name → f.names.text name ≡ text → ⊥) → fin.get now text ≡ Some bytes
 
 -- a settled ticket removes names that it doomed
 pub record Remove (f : Formats) (w : World) (k : ℕ) (names : List BlobName) (new : World) : Type 0 where

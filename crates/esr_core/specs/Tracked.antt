@@ -5,7 +5,7 @@ use Rattle.std.specs.Ordering.{nat_cmp}
 use Rattle.std.specs.FinMap.{FinMap}
 use Rattle.std.specs.FinMap as fin
 use Rattle.esr_model.specs.Values.{Bytes, Has, IndexRef, RootSnap, RootIndex, RootData, SnapInfo, ShardResult}
-use Rattle.esr_model.specs.Shelf.{Shelved}
+use Rattle.esr_model.specs.Shelf.{Command}
 use Rattle.esr_model.specs.Kept.{RootIds}
 use Rattle.esr_model.specs.Places.{places}
 use Rattle.esr_core.specs.World.{World, Op, Deletion, ShardWork, Out, Done, Shard, Finalize, Deleting, Drop, Ticket, Swap, AllDone, info_of}
@@ -19,6 +19,7 @@ pub record ShardTracked (ops : FinMap nat_cmp Op) (k : ℕ) (t : Ticket) (index 
   pub op : Op
   pub op_there : fin.get ops t.op ≡ Some op
   pub uuid_is : t.uuid ≡ op.uuid
+  pub source_is : t.source ≡ op.source
   pub s : ShardWork
   pub s_there : Has op.shards s
   pub state : s.state ≡ Out k
@@ -95,7 +96,7 @@ pub record Tracked (w : World) : Type 0 where
   pub shards : (k : ℕ) (t : Ticket) (index number : ℕ) → fin.get w.tickets k ≡ Some t → t.out ≡ true → t.work ≡ Shard index number → ShardTracked w.ops k t index number
   -- and each shard that is out has its ticket
   pub held : (o : ℕ) (op : Op) (s : ShardWork) (k : ℕ) → fin.get w.ops o ≡ Some op → Has op.shards s → s.state ≡ Out k → IsHeldBy w.tickets o s k
-  pub finals : (k : ℕ) (t : Ticket) (info : SnapInfo) (results : List ShardResult) (made : Shelved) → fin.get w.tickets k ≡ Some t → t.out ≡ true → t.settled ≡ false → t.term ≡ w.term
+  pub finals : (k : ℕ) (t : Ticket) (info : SnapInfo) (results : List ShardResult) (made : Command) → fin.get w.tickets k ≡ Some t → t.out ≡ true → t.settled ≡ false → t.term ≡ w.term
       → t.work ≡ Finalize info results made → FinalTracked w.root w.ops t info results
   pub drops : (k : ℕ) (t : Ticket) → fin.get w.tickets k ≡ Some t → t.out ≡ true → t.term ≡ w.term → t.work ≡ Drop → DropTracked w.ops w.deletes w.tickets t
   pub deleting : (k : ℕ) (t : Ticket) (uuids : List ℕ) (plan : Option Swap) → fin.get w.tickets k ≡ Some t → t.out ≡ true → t.settled ≡ false → t.term ≡ w.term → t.work ≡ Deleting uuids plan → DeleteTracked w.root w.deletes w.next_id t plan

@@ -5,15 +5,15 @@ use Rattle.std.specs.FinMap.{FinMap}
 use Rattle.std.specs.FinMap as fin
 use Rattle.esr_model.specs.Names.{BlobName, Root, Snap, ShardIndex, ShardSnap}
 use Rattle.esr_model.specs.Values.{Bytes, IndexRef, RootSnap, RootIndex, RootData, SnapInfo, FileEntry, ShardFiles, ShardSnapshot, ShardResult, ReadsBack, Formats}
-use Rattle.esr_model.specs.Shelf.{Shelved, Command, Delete}
-use Rattle.esr_model.specs.Image.{Blobs, IsStored, Has, AllPairs, At, Generation, Present, Reads, FileStands}
+use Rattle.esr_model.specs.Shelf.{Command, Delete}
+use Rattle.esr_model.specs.Image.{Blobs, IsStored, Has, At, Generation, Present, Reads}
 use Rattle.esr_model.specs.Delete.{Deletes, left_snaps}
 use Rattle.esr_model.specs.Shelf.{names_uuid}
 use Rattle.esr_model.specs.Kept.{first_id}
 use Rattle.esr_model.specs.Finalize.{finalized_root}
 use Rattle.esr_model.specs.Reach.{Reached}
 use Rattle.esr_model.specs.Places.{places}
-use Rattle.esr_core.specs.Generations.{OpTexts, Together}
+use Rattle.esr_core.specs.Generations.{OpTexts, Together, AreFilesOf, AreIndicesBy}
 use Rattle.esr_core.specs.Swaps.{SwapShape}
 use Rattle.esr_core.specs.World.{World, Ticket, Op, Deletion, ShardWork, ShardState, Pending, Out, Done, GivenUp, ReadState, RestoreShard, Restoring, Reader, Caller, Work, Shard, Finalize, Deleting, Drop, Swap, marked, info_of, HeldIn}
 use Rattle.esr_core.specs.Ready.{IsShard, IsMaster, ReadyShard, ReadyFinalize, ReadyDrop, ReadyDelete, ReadyCleanup, ReadyRestore}
@@ -42,6 +42,7 @@ plain_ticket w o work =
       uuid = 0;
       place = [];
       name = [];
+      source = None;
       term = w.term;
       safe = w.safe;
       root = w.root;
@@ -133,14 +134,14 @@ pub record DoneFound (f : Formats) (w : World) (k : ℕ) (r : ShardResult) (new 
   pub s : ShardWork
   pub s_there : Has op.shards s
   pub state : s.state ≡ Out k
-  pub files : AllPairs (λ e file. (e.physical ≡ file.0) × FileStands f (At f w.blobs) r.index r.shard e file.1) snap.files (f.told s.place s.ref.name s.number)
+  pub files : AreFilesOf f (At f w.blobs) op.source r.index r.shard s snap.files
   pub new_is : new ≡ record w { ops = fin.insert w.ops t.op (record op { shards = map (marked k (Done r)) op.shards }); tickets = fin.insert w.tickets k (record t { out = false }); completed = completing w.completed t.op (map (marked k (Done r)) op.shards) }
 
 -- settle: of a finalization, and of a delete with the names that it dooms
 pub record SettleFinal (f : Formats) (w : World) (k n : ℕ) (t : Ticket) (swapped : Swap) (new : World) : Type 0 where
   pub info : SnapInfo
   pub results : List ShardResult
-  pub made : Shelved
+  pub made : Command
   pub work : t.work ≡ Finalize info results made
   pub may : MaySettle f w k n t swapped
   pub present : t.term ≡ w.term
@@ -234,7 +235,7 @@ pub record IsApart (w : World) (op : Op) : Type 0 where
   pub same_name : (r : IndexRef) (x : RootIndex) → Has op.indices r → Has w.root.indices x → r.id ≡ x.id → r.name ≡ x.name
   pub together : (p : ℕ) (q : Op) → fin.get w.ops p ≡ Some q → Together q op × Together op q
 
--- ask: a snapshot
+-- ask: a snapshot or a clone
 pub record AskCreate (f : Formats) (w : World) (op : Op) (new : World) : Type 0 where
   -- no cleanup is open
   pub no_cleanup : (d : ℕ) (x : Deletion) → fin.get w.deletes d ≡ Some x → x.clean ≡ false
@@ -249,6 +250,8 @@ pub record AskCreate (f : Formats) (w : World) (op : Op) (new : World) : Type 0 
   pub distinct : (s z : ShardWork) → Has op.shards s → Has op.shards z → s.ref ≡ z.ref → s.number ≡ z.number → s ≡ z
   -- a clone's source is listed, and no open delete names it
   pub source : (u : ℕ) → op.source ≡ Some u → Lists w.root u × ((d : ℕ) (x : Deletion) → fin.get w.deletes d ≡ Some x → names_uuid x.uuids u ≡ false)
+  -- and has the indices, by the info that is there
+  pub copies : (u : ℕ) → op.source ≡ Some u → AreIndicesBy f (At f w.blobs) u op.indices
   -- it draws its uuid, and then an id for each index whose name neither the root nor an open op has
   pub uuid_is : op.uuid ≡ w.next_id
   pub drawn : ℕ

@@ -5,7 +5,7 @@ use Rattle.std.specs.FinMap.{FinMap}
 use Rattle.std.specs.FinMap as fin
 use Rattle.esr_model.specs.Names.{BlobName, Snap, Meta, IndexMeta}
 use Rattle.esr_model.specs.Values.{Bytes, IndexRef, RootData, SnapInfo, RecordWork, Creating, Cloning, DeletingOf, Cleaning, Ledger, ClusterRecord, ShardResult, Formats}
-use Rattle.esr_model.specs.Shelf.{ShelfShard, Shelved, Command, Create}
+use Rattle.esr_model.specs.Shelf.{ShelfShard, Shelved, Command, Create, Clone}
 use Rattle.esr_model.specs.Places.{comes_first, sorted_by}
 use Rattle.esr_model.specs.Kept.{first_id}
 use Rattle.esr_model.specs.Finalize.{finalized_root}
@@ -52,7 +52,7 @@ pub record Swap : Type 0 where
 -- what a ticket is for
 pub data Work : Type 0 where
   Shard : (index number : ℕ) → Work
-  Finalize : (info : SnapInfo) (shards : List ShardResult) (made : Shelved) → Work
+  Finalize : (info : SnapInfo) (shards : List ShardResult) (made : Command) → Work
   -- of a delete: its swap is made when its ids are drawn
   Deleting : (uuids : List ℕ) (plan : Option Swap) → Work
   Drop : Work
@@ -65,6 +65,8 @@ pub record Ticket : Type 0 where
   -- of a shard: the place of its files, and the name of its index
   pub place : Bytes
   pub name : Bytes
+  -- of a clone's shard: the snapshot that it copies
+  pub source : Option ℕ
   pub term : ℕ
   -- copies made at `take`
   pub safe : ℕ
@@ -229,13 +231,24 @@ shelved_shard f s = record { index = s.ref.name; number = s.number; files = f.to
 abbrev pub shelved_of : Formats → Op → Shelved
 shelved_of f op = record { name = op.name; uuid = op.uuid; shards = map (shelved_shard f) (sorted_by comes_first_of op.shards) }
 
+abbrev pub index_names : List IndexRef → List Bytes
+index_names indices = map (λ (r : IndexRef). r.name) indices
+
+-- what its settle makes of the shelf: a snapshot of the files that the sources tell, or of what another one has of its indices
+abbrev pub made_from : Formats → Op → Option ℕ → Command
+made_from f op None = Create (shelved_of f op)
+made_from f op (Some source) = Clone source op.name op.uuid (index_names op.indices)
+
+abbrev pub made_of : Formats → Op → Command
+made_of f op = made_from f op op.source
+
 abbrev pub metadata : Formats → SnapInfo → List (BlobName × Bytes)
 metadata f info =
     (Snap info.uuid, f.info.text info) ∷ (Meta info.uuid, f.global.text (global_of info))
     ∷ map (λ (r : IndexRef). (IndexMeta r.id info.uuid, f.index_meta.text (record { index = r; uuid = info.uuid }))) info.indices
 
 abbrev pub swap_of : Formats → Work → RootData → Option Swap
-swap_of f (Finalize info shards made) root = Some (record { root = finalized_root root info shards; own = metadata f info; commands = Create made ∷ [] })
+swap_of f (Finalize info shards made) root = Some (record { root = finalized_root root info shards; own = metadata f info; commands = made ∷ [] })
 swap_of f (Shard index number) root = None
 swap_of f (Deleting uuids plan) root = plan
 swap_of f Drop root = None

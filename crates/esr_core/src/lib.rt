@@ -1,20 +1,20 @@
 //! The core's law, over definitions alone: each function's contract is a law, and its body is empty.
 #![tactic(auto)]
 
-ghost use Rattle.std.specs.Prelude.{◌≡◌, Bool, true, false, Option, Some, ℕ, suc, ◌<◌, ◌≤◌, List, [], ◌∷◌, ◌++◌, ◌⊎◌};
-ghost use Rattle.esr_model.specs.Values.{Bytes, IndexRef, RootIndex, RootData, ClusterRecord, ReadsBack, Formats};
-ghost use Rattle.esr_model.specs.Names.{BlobName, Root};
+ghost use Rattle.std.specs.Prelude.{◌≡◌, Bool, true, false, Option, Some, None, ℕ, suc, ◌<◌, ◌≤◌, List, [], ◌∷◌, ◌++◌, ◌⊎◌};
+ghost use Rattle.esr_model.specs.Values.{Bytes, IndexRef, RootIndex, RootData, FileEntry, ShardResult, ClusterRecord, ReadsBack, Formats};
+ghost use Rattle.esr_model.specs.Names.{BlobName, Root, ShardSnap, ShardIndex};
 ghost use Rattle.esr_model.specs.Image.{Has, Blobs, Image, KeptBy, Present};
 ghost use Rattle.esr_model.specs.Reach.{Reached};
 ghost use Rattle.esr_model.specs.Kept.{Kept, RootIds, first_id};
-ghost use Rattle.esr_model.specs.Shelf.{Shelved, Command, shelf_after};
+ghost use Rattle.esr_model.specs.Shelf.{ShelfShard, Shelved, Command, shelved_at, shelf_after};
 ghost use Rattle.esr_core.specs.World.{World, Op, ShardWork, Restoring, Reader, Shard, Deleting, Ticket, Swap, HeldIn, ledger_of, image_of, record_of, opened, Opened};
 ghost use Rattle.esr_core.specs.Swaps.{TicketLaw};
 ghost use Rattle.esr_core.specs.Generations.{Carried};
 ghost use Rattle.esr_core.specs.Written.{Written};
 ghost use Rattle.esr_core.specs.Texts.{Texted};
 ghost use Rattle.esr_core.specs.Pruning.{dooms};
-ghost use Rattle.esr_core.specs.Steps.{Raise, Remove};
+ghost use Rattle.esr_core.specs.Steps.{IsOut, Raise, Remove};
 ghost use Rattle.esr_core.specs.Sound.{Sound};
 ghost use Rattle.esr_core.specs.Queue.{Lists, Sole, QueueIn};
 ghost use Rattle.esr_core.specs.Ids.{Law, DoomedIds, IdsIn, InTerm};
@@ -31,11 +31,11 @@ ghost use Rattle.std.specs.FinMap.{FinMap};
 ghost use Rattle.std.specs.Ordering.{nat_cmp};
 ghost use Rattle.esr_core.specs.Turns.{Turn, Turns, commands_of};
 ghost use Rattle.esr_core.specs.Doomed.{Dooms};
-ghost use Rattle.esr_core.specs.Entry.{Moment, Restore, AskStep, SettleStep, WasSettled, Refusal, Refused, StaleTerm, AcceptedRestore};
+ghost use Rattle.esr_core.specs.Entry.{Moment, AsksNoClone, Restore, AskStep, SettleStep, SettlePruned, PruneStep, WasSettled, Refusal, Refused, StaleTerm, AcceptedRestore};
 ghost use Rattle.esr_core.specs.After.{swaps_record, after};
 ghost use Rattle.esr_core.specs.Example.{CanWrite, HasSnapshot};
-ghost use Rattle.esr_core.specs.Allowed.{SameBlobs, SettlesDeletion, Allowed, RestoredBy};
-ghost use Rattle.esr_core.specs.History.{world_from, IsLegal, AllKnown, AreTold, AreHonest, committed, Lasts};
+ghost use Rattle.esr_core.specs.Allowed.{SameBlobs, SettlesDeletion, ClonedBy, Allowed, RestoredBy};
+ghost use Rattle.esr_core.specs.History.{world_from, IsLegal, TellsHandedOut, AreTold, AreHonest, committed, Lasts};
 ghost use Rattle.esr_core.specs.Left.{cut_off, Leaves, safe_in};
 ghost use Rattle.esr_core.specs.Refusing.{RefusedSo, SwapFailed};
 
@@ -97,7 +97,7 @@ pub fn the_queue_is_apart()
 
 /// Over each legal history the law holds, for the shelf with the commands that count in its last image.
 pub fn each_history_is_lawful()
-    ensures { (f : Formats) (part_size : ℕ) (image : Image) (shelf : List Shelved) (w : World) (log : List Moment) → AllKnown f → Kept f image shelf → Opened f image w → IsLegal f part_size w log → AreTold log → AreHonest f w log
+    ensures { (f : Formats) (part_size : ℕ) (image : Image) (shelf : List Shelved) (w : World) (log : List Moment) → TellsHandedOut f w log → Kept f image shelf → Opened f image w → IsLegal f part_size w log → AreTold log → AreHonest f w log
         → Law f (world_from f w log) (shelf_after shelf (committed f (world_from f w log).safe w log)) }
 {}
 
@@ -113,33 +113,33 @@ pub fn only_failed_swaps_depose()
 
 /// From any lawful world of a history on `safe` never falls, and from one on in which a record swap failed it stays.
 pub fn safe_never_falls()
-    ensures { (f : Formats) (part_size : ℕ) (shelf : List Shelved) (w : World) (log : List Moment) → AllKnown f → Law f w shelf → IsLegal f part_size w log → AreTold log → AreHonest f w log → Lasts f w (world_from f w log) }
+    ensures { (f : Formats) (part_size : ℕ) (shelf : List Shelved) (w : World) (log : List Moment) → TellsHandedOut f w log → Law f w shelf → IsLegal f part_size w log → AreTold log → AreHonest f w log → Lasts f w (world_from f w log) }
 {}
 
 /// Each image of a legal history is kept for the commands of the whole history that count in it: also one that a failed call leaves, and so one that a crash in that call leaves.
 pub fn each_image_is_kept()
-    ensures { (f : Formats) (part_size : ℕ) (image : Image) (shelf : List Shelved) (w : World) (log rest : List Moment) (m : Moment) (i : Image) → AllKnown f → Kept f image shelf → Opened f image w → m.image ≡ Some i → IsLegal f part_size w (log ++ m ∷ rest)
+    ensures { (f : Formats) (part_size : ℕ) (image : Image) (shelf : List Shelved) (w : World) (log rest : List Moment) (m : Moment) (i : Image) → TellsHandedOut f w (log ++ m ∷ rest) → Kept f image shelf → Opened f image w → m.image ≡ Some i → IsLegal f part_size w (log ++ m ∷ rest)
         → AreTold (log ++ m ∷ rest) → AreHonest f w (log ++ m ∷ rest) → Kept f i (shelf_after shelf (committed f (world_from f w (log ++ m ∷ [])).safe w (log ++ m ∷ rest))) }
 {}
 
 /// Each image that a crash might leave over a legal history is kept for the commands of the whole history that count in it, also one that stands nowhere in the history:
 /// what a call would have left that failed, where it was answered Ok or failed otherwise. The record of the opened world can be written, as opening writes it.
 pub fn each_left_image_is_kept()
-    ensures { (f : Formats) (part_size : ℕ) (image : Image) (shelf : List Shelved) (w : World) (log : List Moment) (i : Image) → AllKnown f → Kept f image shelf → Opened f image w → ReadsBack f.cluster (record_of w) → IsLegal f part_size w log
+    ensures { (f : Formats) (part_size : ℕ) (image : Image) (shelf : List Shelved) (w : World) (log : List Moment) (i : Image) → TellsHandedOut f w log → Kept f image shelf → Opened f image w → ReadsBack f.cluster (record_of w) → IsLegal f part_size w log
         → AreTold log → AreHonest f w log → Leaves f part_size w log i → Kept f i (shelf_after shelf (committed f (safe_in f i) w log)) }
 {}
 
 /// From any lawful world of a history on, whose record can be written, no image that a crash might leave has an older safe root.
 pub fn left_images_are_no_older()
-    ensures { (f : Formats) (part_size : ℕ) (shelf : List Shelved) (w : World) (log : List Moment) (i : Image) → AllKnown f → Law f w shelf → ReadsBack f.cluster (record_of w) → IsLegal f part_size w log
+    ensures { (f : Formats) (part_size : ℕ) (shelf : List Shelved) (w : World) (log : List Moment) (i : Image) → TellsHandedOut f w log → Law f w shelf → ReadsBack f.cluster (record_of w) → IsLegal f part_size w log
         → AreTold log → AreHonest f w log → Leaves f part_size w log i → w.safe ≤ safe_in f i }
 {}
 
-/// A settle that was answered stays: in each image that a crash might leave after it its root is the safe one or lies below it.
+/// A settle that was answered, of a finalization or of a delete, stays: in each image that a crash might leave after it its root
+/// is the safe one or lies below it, whatever the container and the sources tell.
 pub fn answered_settles_stay()
-    ensures { (f : Formats) (part_size : ℕ) (image : Image) (shelf : List Shelved) (w : World) (before rest : List Moment) (m : Moment) (t : Ticket) (n : ℕ) (i : Image) → AllKnown f → Kept f image shelf → Opened f image w
-        → IsLegal f part_size w (before ++ m ∷ rest) → AreTold (before ++ m ∷ rest) → AreHonest f w (before ++ m ∷ rest) → m.entry.step ≡ SettleStep → m.entry.reply ≡ WasSettled
-        → fin.get (world_from f w before).tickets m.entry.who ≡ Some t → t.raised ≡ Some n → Leaves f part_size (after f (world_from f w before) m) rest i → suc n ≤ safe_in f i }
+    ensures { (f : Formats) (part_size : ℕ) (w : World) (before rest : List Moment) (m : Moment) (t : Ticket) (n : ℕ) (i : Image) → Tracked w → Ranked w → IsLegal f part_size w (before ++ m ∷ rest) → (m.entry.step ≡ SettleStep) ⊎ (m.entry.step ≡ PruneStep SettlePruned)
+        → m.entry.reply ≡ WasSettled → fin.get (world_from f w before).tickets m.entry.who ≡ Some t → t.raised ≡ Some n → Leaves f part_size (after f (world_from f w before) m) rest i → suc n ≤ safe_in f i }
 {}
 
 /// What a crash might leave over a history it might leave over a longer one; so the image of each world that a history passes, what a call there leaves that fails, and each image that the history tells.
@@ -262,7 +262,7 @@ pub fn each_restored_shard_is_on_the_shelf()
 
 /// While a restore is open the snapshot of the shelf that it reads stays there as it was when it was asked.
 pub fn each_restored_snapshot_stays()
-    ensures { (f : Formats) (part_size : ℕ) (shelf : List Shelved) (w : World) (log : List Moment) (o : ℕ) (x : Shelved) → AllKnown f → Law f w shelf → ReadLaw f w → o < w.next_op → ReadsShelved w shelf o x → IsLegal f part_size w log → AreTold log
+    ensures { (f : Formats) (part_size : ℕ) (shelf : List Shelved) (w : World) (log : List Moment) (o : ℕ) (x : Shelved) → TellsHandedOut f w log → Law f w shelf → ReadLaw f w → o < w.next_op → ReadsShelved w shelf o x → IsLegal f part_size w log → AreTold log
         → AreHonest f w log → ReadsShelved (world_from f w log) (shelf_after shelf (committed f (world_from f w log).safe w log)) o x }
 {}
 
@@ -283,7 +283,7 @@ pub fn opened_restores_are_lawful()
 
 /// Over each legal history that begins at a lawful world all this holds of restores.
 pub fn each_history_keeps_restores()
-    ensures { (f : Formats) (part_size : ℕ) (shelf : List Shelved) (w : World) (log : List Moment) → AllKnown f → Law f w shelf → ReadLaw f w → IsLegal f part_size w log → AreTold log → AreHonest f w log → ReadLaw f (world_from f w log) }
+    ensures { (f : Formats) (part_size : ℕ) (shelf : List Shelved) (w : World) (log : List Moment) → TellsHandedOut f w log → Law f w shelf → ReadLaw f w → IsLegal f part_size w log → AreTold log → AreHonest f w log → ReadLaw f (world_from f w log) }
 {}
 
 /// A step that doesn't swap the record leaves it, whatever it answers and whatever the container tells.
@@ -309,7 +309,7 @@ pub fn each_history_is_ranked()
 /// What a ticket has read of its whole shard are the files of that shard on the shelf as it was when its restore was asked,
 /// whatever has counted since then.
 pub fn restores_give_the_shelf_of_their_ask()
-    ensures { (f : Formats) (part_size : ℕ) (shelf : List Shelved) (w : World) (before rest : List Moment) (m : Moment) (name place : Bytes) (o uuid : ℕ) (indices : List IndexRef) (k : ℕ) (q : Reader) (files bytes : ℕ) → AllKnown f → Law f w shelf → ReadLaw f w
+    ensures { (f : Formats) (part_size : ℕ) (shelf : List Shelved) (w : World) (before rest : List Moment) (m : Moment) (name place : Bytes) (o uuid : ℕ) (indices : List IndexRef) (k : ℕ) (q : Reader) (files bytes : ℕ) → TellsHandedOut f w (before ++ m ∷ rest) → Law f w shelf → ReadLaw f w
         → IsLegal f part_size w (before ++ m ∷ rest) → AreTold (before ++ m ∷ rest) → AreHonest f w (before ++ m ∷ rest) → m.entry.step ≡ AskStep (Restore name place) → m.entry.reply ≡ AcceptedRestore o uuid indices → IsReading (world_from f w (before ++ m ∷ rest)) k q → q.op ≡ o
         → (by : RestoredBy f q files bytes) → IsOnShelf f (shelf_after shelf (committed f (world_from f w before).safe w before)) q files bytes by }
 {}
@@ -323,4 +323,22 @@ pub fn asked_snapshots_are_on_the_shelf()
 /// What the ticket of a restore that is out may read stands: the snapshot of its shard, and each file of it.
 pub fn each_reader_is_served()
     ensures { (f : Formats) (w : World) (shelf : List Shelved) (k : ℕ) (q : Reader) → Law f w shelf → ReadLaw f w → IsReading w k q → IsServed f w q }
+{}
+
+/// The snapshot that an open clone copies is on the shelf, with each shard of the clone's indices: so its settle puts a snapshot there.
+pub fn clones_are_of_shelved()
+    ensures { (f : Formats) (w : World) (shelf : List Shelved) (o : ℕ) (op : Op) (u : ℕ) → Law f w shelf → fin.get w.ops o ≡ Some op → op.source ≡ Some u
+        → (x : Shelved) × (shelved_at shelf u ≡ Some x) × ((r : IndexRef) (k : ℕ) → Has op.indices r → k < r.shards → (s : ShelfShard) × Has x.shards s × (s.index ≡ r.name) × (s.number ≡ k)) }
+{}
+
+/// A shard of a clone is done with files that its base has, and with two texts.
+pub fn clones_upload_nothing()
+    ensures based { (f : Formats) (w : World) (shelf : List Shelved) (k : ℕ) (t : Ticket) (r : ShardResult) (source : ℕ) → Law f w shelf → IsOut w k t → t.work ≡ Shard r.index r.shard → t.source ≡ Some source → (b : ClonedBy f t source r) → (e : FileEntry) → Has b.was.files e → Has b.base.files e }
+    ensures wrote { (f : Formats) (t : Ticket) (r : ShardResult) (source : ℕ) → ClonedBy f t source r → (name : BlobName) (bytes : Bytes) → Has t.wrote (name, bytes)
+        → (name ≡ ShardSnap r.index r.shard t.uuid) ⊎ (name ≡ ShardIndex r.index r.shard r.generation) }
+{}
+
+/// Where no open op copies a snapshot none does after a step that asks for no clone.
+pub fn only_asks_open_clones()
+    ensures { (f : Formats) (w : World) (m : Moment) → AsksNoClone m.entry.step → ((o : ℕ) (op : Op) → fin.get w.ops o ≡ Some op → op.source ≡ None) → (o : ℕ) (op : Op) → fin.get (after f w m).ops o ≡ Some op → op.source ≡ None }
 {}

@@ -19,7 +19,7 @@ use Rattle.esr_core.proofs.Plans.{in_root}
 use Rattle.esr_depot.specs.Calls.{HasCause, has_failed}
 use Rattle.esr_depot.specs.declared.error.CallError.{CallError}
 use Rattle.esr_depot.specs.declared.error.CallError.TheVariants.{Failed}
-use Rattle.esr_fetch.specs.Told.{Tells}
+use Rattle.esr_depot.specs.Told.{Tells}
 use Rattle.esr_json.specs.declared.refusal.Reason.{Reason}
 use Rattle.esr_json.specs.declared.refusal.ReadRefusal.{ReadRefusal}
 use Rattle.esr_json.specs.declared.refusal.ReadRefusal.TheVariants as refusals

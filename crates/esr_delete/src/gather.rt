@@ -16,10 +16,9 @@ ghost use Rattle.esr_delete.specs.Trouble.{IsTrouble};
 
 use crate::trouble::Trouble;
 use esr_deleting::DeleteDesk;
-use esr_depot::CallError;
+use esr_depot::{CallError, read_whole};
 use esr_desk::{Desk, StepRefusal};
 use esr_dooming::to_read;
-use esr_fetch::read_whole;
 use esr_formats::read_shard_index;
 use esr_json::ReadRefusal;
 use esr_names::{BlobName, Id, Ids, ShardId};

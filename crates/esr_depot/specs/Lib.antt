@@ -4,5 +4,5 @@ pub mod Image
 pub mod Listing
 pub mod Look
 pub mod Moments
-pub mod Put
+pub mod Told
 pub mod Untold

@@ -12,10 +12,10 @@ use Rattle.esr_core.specs.World.{World, Op, ShardWork, Drop, Swap, Ticket, ReadS
 use Rattle.esr_core.specs.Restores.{restore_shard, reader_of, read_more}
 use Rattle.esr_core.specs.Steps.{noting, shard_ticket, final_ticket}
 use Rattle.esr_core.specs.Turns.{plain_ticket}
-use Rattle.esr_core.specs.Entry.{Asked, Snapshot, Clone, DeleteSnapshots, Restore, Cleanup, Given, GivenShard, GivenFinalize, GivenDrop, GivenRestore, Read, ReadBlob, RestoredShard, CheckedAll, DrawTest, CommitTest, ReadFails, Step, AskStep, TakeStep, DrawStep, BeginStep, CommitStep, LatestStep, FetchStep, RaiseStep, SettleStep, DoneStep, FailedStep, FinishStep, DroppedStep, ElectStep, ReadStep, DepotFault, DeposedAt, Reply, Gave, DrawnFrom, WasDone, WasThere, WasFetched, HasEnded, Refused, AcceptedRestore, Moment, GivenDelete, Prune, PruneStep}
+use Rattle.esr_core.specs.Entry.{CloneOf, Asked, Snapshot, Clone, DeleteSnapshots, Restore, Cleanup, Given, GivenShard, GivenFinalize, GivenDrop, GivenRestore, GivenClone, Read, ReadBlob, RestoredShard, CheckedAll, DrawTest, CommitTest, ReadFails, Step, AskStep, TakeStep, DrawStep, BeginStep, CommitStep, LatestStep, FetchStep, RaiseStep, SettleStep, DoneStep, FailedStep, FinishStep, DroppedStep, ElectStep, ReadStep, DepotFault, DeposedAt, Reply, Gave, DrawnFrom, WasDone, WasThere, WasFetched, HasEnded, Refused, AcceptedRestore, Moment, GivenDelete, Prune, PruneStep}
 use Rattle.esr_core.specs.After.{asked, taken_shard, taken_restore_shard, taken_restore, taken_by, read_told, shard_over, read_over, read_step, read_by, test_left, shard_of, with_given, committing, told_blob, fetching, settled_by, settled_of, done_by, done_of, is_stale, failed_by, failed_of, dropped_of, done_step, has_text, fallen, is_latest, faulted, answered, after}
 use Rattle.esr_core.specs.Allowed as allowed
-use Rattle.esr_core.specs.Allowed.{Fetcher, ByReader, ByCheck, ByVerify, DeleteAllows, RestoreAllows, OpeningRestore, ReadAllows, ReadFound, ReadMissing, ReadFault, RestoringShard, ReaderFailing, CheckingAll, CheckFailing, VerifyAllows, DrawingTest, PruneAllows, Allows, Allowed}
+use Rattle.esr_core.specs.Allowed.{Fetcher, ByReader, ByCheck, ByVerify, DeleteAllows, RestoreAllows, OpeningRestore, CloneAllows, OpeningClone, ReadAllows, ReadFound, ReadMissing, ReadFault, RestoringShard, ReaderFailing, CheckingAll, CheckFailing, VerifyAllows, DrawingTest, PruneAllows, Allows, Allowed}
 use Rattle.esr_core.specs.History.{world_from, IsLegal}
 use Rattle.esr_core.proofs.AskedDeletes.{delete_leaves}
 use Rattle.esr_core.proofs.PruneFrames.{PruneStays, prune_stays, prune_fault_stays}
@@ -77,6 +77,8 @@ module _ (least : ℕ) where
 
   numbered_asked : (w : World) (command : Asked) → Numbered least w → Numbered least (asked w command)
   numbered_asked w (Snapshot name indices moment) n = record { next = n.next; tickets = n.tickets; readers = n.readers }
+  numbered_asked w (Clone source name indices moment None) n = n
+  numbered_asked w (Clone source name indices moment (Some taken)) n = record { next = n.next; tickets = n.tickets; readers = n.readers }
   numbered_asked w (DeleteSnapshots names) n = subst (Numbered least) (sym (delete_leaves w names)) (record { next = n.next; tickets = n.tickets; readers = n.readers })
   numbered_asked w command n = n
 
@@ -95,6 +97,8 @@ module _ (least : ℕ) where
   numbered_taken : (f : Formats) (w : World) (o : ℕ) (unit : Given) (op : Option Op) → Numbered least w → Numbered least (taken_by f w o unit op)
   numbered_taken f w o (GivenShard index number base) (Some op) n = numbered_shard w o op base (shard_of op.shards index number) n
   numbered_taken f w o (GivenShard index number base) None n = n
+  numbered_taken f w o (GivenClone index number source base) (Some op) n = numbered_shard w o op base (shard_of op.shards index number) n
+  numbered_taken f w o (GivenClone index number source base) None n = n
   numbered_taken f w o (GivenFinalize info results) (Some op) n = record { next = later w n; tickets = more_numbered w (final_ticket f w o op results) n; readers = more_readers w n }
   numbered_taken f w o (GivenFinalize info results) None n = n
   numbered_taken f w o GivenDrop op n = record { next = later w n; tickets = more_numbered w (plain_ticket w o Drop) n; readers = more_readers w n }
@@ -182,6 +186,7 @@ module _ (least : ℕ) where
 
   numbered_step : (f : Formats) (w : World) (k : ℕ) (step : Step) (reply : Reply) (image : Option Image) → Numbered least w → Numbered least (done_step f w k step reply image)
   numbered_step f w k (AskStep (Snapshot name indices moment)) reply image n = numbered_asked w (Snapshot name indices moment) n
+  numbered_step f w k (AskStep (Clone source name indices moment taken)) reply image n = numbered_asked w (Clone source name indices moment taken) n
   numbered_step f w k (AskStep (DeleteSnapshots names)) reply image n = numbered_asked w (DeleteSnapshots names) n
   numbered_step f w k (AskStep (Restore name place)) (AcceptedRestore o uuid indices) image n = record { next = n.next; tickets = n.tickets; readers = n.readers }
   numbered_step f w k TakeStep (Gave ticket op unit) image n = numbered_taken f w op unit (fin.get w.ops op) n
@@ -226,7 +231,8 @@ module _ (least : ℕ) where
   numbered_fault f w k (ReadStep (CommitTest name)) image n = numbered_left w name (fin.get w.blobs (f.names.text name)) (told_blob f image name) n
   numbered_fault f w k (PruneStep prune) image n = numbered_prune w _ k (prune_fault_stays f w k prune image) n
   numbered_fault f w k (AskStep (Snapshot name indices moment)) image n = numbered_fallen f w _ image n (numbered_step f w k (AskStep (Snapshot name indices moment)) HasEnded image n)
-  numbered_fault f w k (AskStep (Clone source name indices moment)) image n = numbered_fallen f w w image n n
+  numbered_fault f w k (AskStep (Clone source name indices moment taken)) image n =
+      numbered_fallen f w (asked w (Clone source name indices moment taken)) image n (numbered_step f w k (AskStep (Clone source name indices moment taken)) HasEnded image n)
   numbered_fault f w k (AskStep (DeleteSnapshots names)) image n = numbered_fallen f w (asked w (DeleteSnapshots names)) image n (numbered_step f w k (AskStep (DeleteSnapshots names)) HasEnded image n)
   numbered_fault f w k (AskStep (Restore name place)) image n = n
   numbered_fault f w k (AskStep Cleanup) image n = numbered_fallen f w w image n n
@@ -302,6 +308,7 @@ below f size w who step reply image n (allowed.Dropping k im c same) = n.tickets
 below f size w who step reply image n (allowed.Electing im room same) = n.next
 below f size w who step reply image n (allowed.Looking im same) = n.next
 below f size w who step reply image n (allowed.AskingRestore name place rep im h same) = n.next
+below f size w who step reply image n (allowed.AskingClone source name names time taken rep im h same) = n.next
 below f size w who step reply image n (allowed.AskingDelete names rep im h same) = n.next
 below f size w who step reply image n (allowed.Reading k read rep im h same) = reader_below f w k read rep im n h
 below f size w who step reply image n (allowed.Verifying read rep im h) = n.next
@@ -354,6 +361,10 @@ gift_restore : (f : Formats) (w : World) (name : Bytes) (reply : Reply) (image :
 gift_restore f w name reply image (OpeningRestore o uuid indices im h) = tt
 gift_restore f w name reply image a = tt
 
+gift_clone : (f : Formats) (w : World) (source name : Bytes) (names : List Bytes) (time : ℕ) (taken : Option CloneOf) (reply : Reply) (image : Option Image) → CloneAllows f w source name names time taken reply image → IsGift w 0 reply
+gift_clone f w source name names time taken reply image (OpeningClone of o im acc) = tt
+gift_clone f w source name names time taken reply image a = tt
+
 gift_delete : (w : World) (names : List Bytes) (reply : Reply) → DeleteAllows w names reply → IsGift w 0 reply
 gift_delete w names reply (allowed.GoingInto acc) = tt
 gift_delete w names reply a = tt
@@ -373,6 +384,7 @@ gift_prune f w who prune reply image a = tt
 gift : (f : Formats) (size : ℕ) (w : World) (who : ℕ) (step : Step) (reply : Reply) (image : Option Image) → Allows f size w who step reply image → IsGift w who reply
 gift f size w who step reply image (allowed.Giving k o unit im is lowest g same) = (refl, is)
 gift f size w who step reply image (allowed.AskingRestore name place rep im a same) = gift_restore f w name rep im a
+gift f size w who step reply image (allowed.AskingClone source name names time taken rep im a same) = gift_clone f w source name names time taken rep im a
 gift f size w who step reply image (allowed.AskingDelete names rep im a same) = gift_delete w names rep a
 gift f size w who step reply image (allowed.Reading k read rep im a same) = gift_read f w k read rep im a
 gift f size w who step reply image (allowed.Verifying read rep im a) = gift_verify f w read rep im a

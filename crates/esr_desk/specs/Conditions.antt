@@ -1,20 +1,20 @@
 -- What a step of a ticket needs, by what the ticket has done.
-use Rattle.std.specs.Prelude.{◌≡◌, ◌≢◌, ◌⊎◌, ℕ, suc, ◌+◌, ◌^◌, ◌≤◌, true, false, List, length, Option, Some, None}
+use Rattle.std.specs.Prelude.{◌≡◌, ◌≢◌, ◌⊎◌, ℕ, suc, ◌+◌, ◌^◌, ◌≤◌, true, false, List, Option, Some, None}
 use Rattle.esr_model.specs.Names.{BlobName, Root, Latest, ShardSnap, ShardIndex}
 use Rattle.esr_model.specs.Values.{Bytes, Has, RootData, ShardResult}
 use Rattle.esr_core.specs.World.{Ticket, Shard, Deleting, Drop, Swap, swap}
 use Rattle.esr_core.specs.Ready.{IsShard, IsMaster}
-use Rattle.esr_core.specs.Steps.{Drew, MayCommit}
-use Rattle.esr_core.specs.Allowed.{DoneBy, IsMetadata, latest_text}
+use Rattle.esr_core.specs.Steps.{Drew, MayCommit, IsToFetch, MostDrawn}
+use Rattle.esr_core.specs.Allowed.{DoneAs, IsMetadata, latest_text}
 use Rattle.esr_desk.specs.Start.{Start, formats_of, told_bytes}
 
--- a shard's ticket draws once: at least one id, and at most one for each file of its source and one more
+-- a shard's ticket draws once: at least one id, and at most one for each file of its source and one more, or of a clone one
 pub record CanDraw (s : Start) (t : Ticket) (n : ℕ) : Type 0 where
   pub out : t.out ≡ true
   pub shard : IsShard t.work
   pub once : t.drawn ≡ 0
   pub some : 1 ≤ n
-  pub most : (index number : ℕ) → t.work ≡ Shard index number → s.known t.place t.name number ≡ true → n ≤ suc (length (s.told t.place t.name number))
+  pub most : (index number : ℕ) → t.work ≡ Shard index number → MostDrawn (formats_of s) t number n t.source
   pub few : n ≤ 2 ^ 32
 
 -- before its settle a ticket commits blobs of its unit, each once, but for the metadata of a finalization
@@ -42,15 +42,10 @@ CanBegin s t name = ((bytes : Bytes) × CanCommit s t name bytes) ⊎ ((name ≡
 abbrev pub Holds : Start → Option Bytes → Bytes → Type 0
 Holds s contents bytes = contents ≡ told_bytes s bytes
 
--- a shard's ticket fetches its base
+-- a shard's ticket fetches its base, and a clone's the snapshot of the shard that it copies
 pub record CanFetch (t : Ticket) (name : BlobName) : Type 0 where
   pub out : t.out ≡ true
-  pub index : ℕ
-  pub number : ℕ
-  pub base : ℕ
-  pub work : t.work ≡ Shard index number
-  pub base_is : t.base ≡ Some base
-  pub name_is : name ≡ ShardIndex index number base
+  pub to_fetch : IsToFetch t name
 
 -- a swap raises once
 pub record CanRaise (s : Start) (t : Ticket) : Type 0 where
@@ -82,7 +77,7 @@ pub record CanEnd (s : Start) (t : Ticket) (r : ShardResult) : Type 0 where
   pub last : t.first + t.drawn ≡ suc r.generation
   pub snap_noted : Has t.noted (ShardSnap r.index r.shard t.uuid)
   pub index_noted : Has t.noted (ShardIndex r.index r.shard r.generation)
-  pub done : s.tells ≡ true → DoneBy (formats_of s) s.part_size t r
+  pub done : s.tells ≡ true → DoneAs (formats_of s) s.part_size t r t.source
 
 -- a unit fails before it settles
 pub record CanFail (t : Ticket) : Type 0 where

@@ -1,7 +1,7 @@
 -- The entries of the history, as the definitions see them.
-use Rattle.std.specs.Prelude.{ℕ, map, option_map}
+use Rattle.std.specs.Prelude.{ℕ, Some, map, option_map}
 use Rattle.esr_core.specs.Entry as entry
-use Rattle.esr_core.specs.Entry.{AskStep, TakeStep, DrawStep, BeginStep, CommitStep, LatestStep, FetchStep, ListStep, RaiseStep, SettleStep, DoneStep, FailedStep, FinishStep, DroppedStep, ElectStep, LookStep, ReadStep, PruneStep, ReadBlob, RestoredShard, CheckedAll, DrawTest, BeginTest, CommitTest, RemoveTests, VerifiedAll, ReadFails, FetchShard, PlanShards, SettlePruned, RemoveDoomed, EndDelete, DeleteFails}
+use Rattle.esr_core.specs.Entry.{Clone, AskStep, TakeStep, DrawStep, BeginStep, CommitStep, LatestStep, FetchStep, ListStep, RaiseStep, SettleStep, DoneStep, FailedStep, FinishStep, DroppedStep, ElectStep, LookStep, ReadStep, PruneStep, ReadBlob, RestoredShard, CheckedAll, DrawTest, BeginTest, CommitTest, RemoveTests, VerifiedAll, ReadFails, FetchShard, PlanShards, SettlePruned, RemoveDoomed, EndDelete, DeleteFails}
 use Rattle.esr_core.specs.Entry.{OfDepot, OfSource, OfChange, OfAbsence, OfUnreadable, OfAhead, OfTaken, OfIdsSpent, OfGenerationsSpent, OfTarget, OfPrint, OfDisagreement, GivenShard, GivenFinalize, GivenDrop, GivenRestore, GivenClone, GivenDelete, GivenCleanup}
 use Rattle.esr_core.specs.Entry.{Accepted, NothingReady, Gave, DrawnFrom, WasBegun, WasDone, WasThere, WasReplaced, WasFetched, WasAbsent, WasListed, RaisedTo, WasSettled, HasEnded, ElectedTerm, Looked, Refused, WasRemoved, AcceptedRestore}
 use Rattle.esr_formats.specs.Ids.{number_of}
@@ -20,6 +20,7 @@ use Rattle.esr_desk.specs.declared.entry.Read.{Read}
 use Rattle.esr_desk.specs.declared.entry.Read.TheVariants as reads
 use Rattle.esr_desk.specs.declared.entry.Prune.{Prune}
 use Rattle.esr_desk.specs.declared.entry.Prune.TheVariants as prunes
+use Rattle.esr_desk.specs.declared.entry.CloneOf.{CloneOf}
 use Rattle.esr_desk.specs.declared.entry.Step.{Step}
 use Rattle.esr_desk.specs.declared.entry.Step.TheVariants as steps
 use Rattle.esr_desk.specs.declared.entry.Given.{Given}
@@ -61,8 +62,12 @@ prune_of (prunes.Remove names) = RemoveDoomed (map name_of names)
 prune_of prunes.End = EndDelete
 prune_of (prunes.Failed why) = DeleteFails (why_of why)
 
+abbrev pub cloned_of : CloneOf → entry.CloneOf
+cloned_of taken = record { source = taken.source.number; indices = map ref_of_code taken.indices }
+
 abbrev pub step_of : Step → entry.Step
 step_of (steps.Ask command) = AskStep (asked_of command)
+step_of (steps.AskClone source name indices moment taken) = AskStep (Clone source name indices moment (Some (cloned_of taken)))
 step_of steps.Take = TakeStep
 step_of (steps.Draw count) = DrawStep count
 step_of (steps.Begin name) = BeginStep (name_of name)

@@ -5,6 +5,7 @@ use Rattle.esr_model.specs.Values.{Bytes, Has}
 use Rattle.esr_core.specs.World.{Ticket, Work, Shard, Finalize, Deleting, Drop}
 use Rattle.esr_core.specs.Entry.{Why, OfDepot, OfSource, OfChange, OfAbsence, OfUnreadable, OfAhead, OfTaken, OfIdsSpent, OfGenerationsSpent, OfTarget, OfPrint, OfDisagreement, Step, BeginStep, LatestStep, FailedStep, WasAbsent, HasEnded, Refused, Refusal, DepotFault, NameTaken, IdsSpent, GenerationsSpent, Moment}
 use Rattle.esr_core.specs.After.{is_latest}
+use Rattle.esr_core.specs.Steps.{IsToFetch}
 use Rattle.esr_source.specs.declared.address.Address.{Address}
 use Rattle.esr_desk.specs.declared.fault.FailedObject.TheVariants as objects
 use Rattle.esr_desk.specs.declared.fault.Fault.{Fault}
@@ -108,15 +109,15 @@ StepShown (by.Object object) shown = ⊥
 StepShown by.Entry shown = shown
 StepShown by.Nothing shown = ⊥
 
--- By its cause: an object that failed, or a step; or two prints of a file, which the sources don't tell, differ; or the base was
--- absent, doesn't read for this reason, or is ahead; or a step was refused, since a name was taken or numbers were spent.
+-- By its cause: an object that failed, or a step; or two prints of a file, which the sources don't tell, differ; or what it was to fetch
+-- was absent, or doesn't read for this reason; or the base is ahead; or a step was refused, since a name was taken or numbers were spent.
 abbrev pub IsShown : {S F H T : Type 0} → Counts S F H T → Start → List Moment → ℕ → Why → By S F H T → Type 0
 IsShown c s log who OfDepot b = DepotShown c s log who b
 IsShown c s log who OfSource b = SourceShown c s (ticket_of s log who) b
 IsShown c s log who (OfChange first_len first_digest second_len second_digest) b =
     ReadShown b (((first_len ≡ second_len) → (first_digest ≡ second_digest) → ⊥) × IsUntold s (ticket_of s log who))
-IsShown c s log who (OfAbsence name) b = ReadShown b (IsBase (ticket_of s log who) name × HadFetch log who name WasAbsent)
-IsShown c s log who (OfUnreadable name reason) b = ReadShown b (IsBase (ticket_of s log who) name × WasUnreadable s log who name reason)
+IsShown c s log who (OfAbsence name) b = ReadShown b (IsToFetch (ticket_of s log who) name × HadFetch log who name WasAbsent)
+IsShown c s log who (OfUnreadable name reason) b = ReadShown b (IsToFetch (ticket_of s log who) name × WasUnreadable s log who name reason)
 IsShown c s log who (OfAhead name) b = ReadShown b (IsBase (ticket_of s log who) name × WasAhead s (ticket_of s log who) name)
 IsShown c s log who (OfTaken name) b = StepShown b (HadRefusal log who (NameTaken name))
 IsShown c s log who (OfIdsSpent next) b = StepShown b (HadRefusal log who (IdsSpent next))

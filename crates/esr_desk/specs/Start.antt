@@ -44,6 +44,7 @@ no_ticket =
       uuid = 0;
       place = [];
       name = [];
+      source = None;
       term = 0;
       safe = 0;
       root = record { snapshots = []; indices = [] };

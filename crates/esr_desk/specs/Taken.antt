@@ -2,7 +2,7 @@
 use Rattle.std.specs.Prelude.{◌≡◌, ◌<◌, ℕ, Bool, true, false, List, [], ◌∷◌, map, ◌⊎◌, Option, Some, None, option_map, Result, Ok, Err, if◌then◌else◌}
 use Rattle.esr_model.specs.Names.{BlobName}
 use Rattle.esr_model.specs.Values.{Bytes, RootData}
-use Rattle.esr_model.specs.Shelf.{Shelved}
+use Rattle.esr_model.specs.Shelf.{Command}
 use Rattle.esr_model.specs.Finalize.{finalized_root}
 use Rattle.esr_core.specs.World.{Ticket, Work, Shard, Finalize, Deleting, Drop}
 use Rattle.esr_core.specs.Entry.{Moment}
@@ -34,6 +34,7 @@ fresh work op uuid place name term copy =
       uuid = uuid;
       place = place;
       name = name;
+      source = None;
       term = term;
       safe = count_of copy.safe;
       root = root_of copy.root;
@@ -54,15 +55,18 @@ abbrev pub NewRoot : Option Root → RootData → Type 0
 NewRoot None new = ⊥
 NewRoot (Some root) new = root_of root ≡ new
 
+-- of a clone's shard the place is told by nothing, and nothing reads it
 abbrev pub TookWork : CodeWork → Option Root → ℕ → Copied → Ticket → Type 0
 TookWork (works.Shard uuid shard index place) new op copy t =
     (term : ℕ) × (t ≡ fresh (Shard shard.index.number shard.number) op uuid.number place index term copy) × (shard.number < 1024)
 TookWork (works.Finalize info shards) new op copy t =
-    (term : ℕ) × (made : Shelved) × (t ≡ fresh (Finalize (info_of_code info) (map result_of shards) made) op info.uuid.number [] [] term copy)
+    (term : ℕ) × (made : Command) × (t ≡ fresh (Finalize (info_of_code info) (map result_of shards) made) op info.uuid.number [] [] term copy)
     × NewRoot new (finalized_root (root_of copy.root) (info_of_code info) (map result_of shards))
+TookWork (works.CloneShard source uuid shard index) new op copy t =
+    (term : ℕ) × (place : Bytes) × (t ≡ record (fresh (Shard shard.index.number shard.number) op uuid.number place index term copy) { source = Some source.number }) × (shard.number < 1024)
 TookWork works.Drop new op copy t = (term : ℕ) × (t ≡ fresh Drop op 0 [] [] term copy)
 TookWork (works.Delete uuids) new op copy t = (term : ℕ) × (t ≡ fresh (Deleting (map number_of uuids) None) op 0 [] [] term copy)
--- a restore's ticket is none of these, and the others are not given so far
+-- a restore's ticket is none of these, and a cleanup is not given so far
 TookWork work new op copy t = ⊥
 
 -- the unit's ticket is out, and has done nothing yet

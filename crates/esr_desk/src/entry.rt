@@ -3,7 +3,7 @@ use crate::EntryRefusal;
 use esr_hash::Print;
 use esr_json::Reason;
 use esr_meta::SnapInfo;
-use esr_names::{BlobName, Id, Ids, IndexRefs, ShardId};
+use esr_names::{BlobName, Id, Ids, IndexNames, IndexRefs, ShardId, SnapName};
 use esr_progress::Command;
 use esr_results::{PrunedShards, ShardResult, ShardResults};
 use esr_root::RootSnaps;
@@ -95,27 +95,60 @@ pub enum Prune {
     Failed { why: Why },
 }
 
+/// What a clone takes: the snapshot that it copies, and these of its indices.
+#[derive(Debug, Drop)]
+pub struct CloneOf {
+    pub source: Id,
+    pub indices: IndexRefs,
+}
+
 /// What was asked.
 #[derive(Debug, Drop)]
 pub enum Step {
-    Ask { command: Command },
+    Ask {
+        command: Command,
+    },
+    /// A clone that no rule refuses, with what it takes.
+    AskClone {
+        source: SnapName,
+        name: SnapName,
+        indices: IndexNames,
+        moment: u64,
+        taken: CloneOf,
+    },
     Take,
-    Draw { count: u64 },
-    Begin { name: BlobName },
-    Commit { name: BlobName },
+    Draw {
+        count: u64,
+    },
+    Begin {
+        name: BlobName,
+    },
+    Commit {
+        name: BlobName,
+    },
     Latest,
-    Fetch { name: BlobName },
+    Fetch {
+        name: BlobName,
+    },
     List,
     Raise,
     Settle,
-    Done { result: ShardResult },
-    Failed { why: Why },
+    Done {
+        result: ShardResult,
+    },
+    Failed {
+        why: Why,
+    },
     Finish,
     Dropped,
     Elect,
     Look,
-    Read { read: Read },
-    Prune { prune: Prune },
+    Read {
+        read: Read,
+    },
+    Prune {
+        prune: Prune,
+    },
 }
 
 /// The unit that a ticket was given.
@@ -136,7 +169,7 @@ pub enum Given {
         shard: ShardId,
         uuid: Id,
     },
-    /// A shard of a clone of the snapshot `source`, with the largest live generation. Not given so far.
+    /// A shard of a clone of the snapshot `source`, with the largest live generation.
     CloneShard {
         shard: ShardId,
         source: Id,

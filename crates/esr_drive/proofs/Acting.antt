@@ -7,10 +7,10 @@ use Rattle.esr_model.specs.Image.{Image}
 use Rattle.esr_core.specs.World.{World, ReadState, Restored, NotRestored, Restoring, Reader, Ticket}
 use Rattle.esr_core.specs.Restores.{IsReading, read_more}
 use Rattle.esr_core.specs.Steps.{IsOut}
-use Rattle.esr_core.specs.Entry.{Given, DeleteSnapshots, Restore, Read, ReadBlob, RestoredShard, CheckedAll, DrawTest, CommitTest, ReadFails, Step, AskStep, TakeStep, ReadStep, DeposedAt, Reply, Gave, DrawnFrom, WasDone, WasFetched, HasEnded, Refused, Moment, Prune, PruneStep}
+use Rattle.esr_core.specs.Entry.{Given, CloneOf, Clone, DeleteSnapshots, Restore, Read, ReadBlob, RestoredShard, CheckedAll, DrawTest, CommitTest, ReadFails, Step, AskStep, TakeStep, ReadStep, DeposedAt, Reply, Gave, DrawnFrom, WasDone, WasFetched, HasEnded, Refused, Moment, Prune, PruneStep}
 use Rattle.esr_core.specs.After.{read_told, shard_over, read_over, read_step, read_by, told_blob, done_step, answered, after}
 use Rattle.esr_core.specs.Allowed as allowed
-use Rattle.esr_core.specs.Allowed.{PruneAllows, DeleteAllows, RestoreAllows, OpeningRestore, ReadAllows, ReadFound, RestoringShard, ReaderFailing, CheckingAll, CheckFailing, VerifyAllows, DrawingTest, VerifyingAll, VerifyFailing, Allows, Allowed}
+use Rattle.esr_core.specs.Allowed.{PruneAllows, DeleteAllows, CloneAllows, OpeningClone, RestoreAllows, OpeningRestore, ReadAllows, ReadFound, RestoringShard, ReaderFailing, CheckingAll, CheckFailing, VerifyAllows, DrawingTest, VerifyingAll, VerifyFailing, Allows, Allowed}
 use Rattle.esr_core.specs.ReadTracked.{ReadTracked}
 use Rattle.esr_core.proofs.Queues.{same_in}
 use Rattle.esr_drive.proofs.Readers.{Readers, held, GivesNone, same_step, same_refused}
@@ -28,6 +28,10 @@ Says w who reply step = Unit {0}
 says_restore : (f : Formats) (w : World) (name place : Bytes) (reply : Reply) (image : Option Image) → RestoreAllows f w name reply image → Says w 0 reply (AskStep (Restore name place))
 says_restore f w name place reply image (OpeningRestore o uuid indices im acc) = tt
 says_restore f w name place reply image a = tt
+
+says_clone : (f : Formats) (w : World) (source name : Bytes) (names : List Bytes) (moment : ℕ) (taken : Option CloneOf) (reply : Reply) (image : Option Image) → CloneAllows f w source name names moment taken reply image → Says w 0 reply (AskStep (Clone source name names moment taken))
+says_clone f w source name names moment taken reply image (OpeningClone of o im acc) = tt
+says_clone f w source name names moment taken reply image a = tt
 
 says_delete : (w : World) (names : List Bytes) (reply : Reply) → DeleteAllows w names reply → Says w 0 reply (AskStep (DeleteSnapshots names))
 says_delete w names reply (allowed.GoingInto acc) = tt
@@ -57,6 +61,7 @@ says f size w who step reply image (allowed.Failing k why im d same) = (d.t, d.o
 says f size w who step reply image (allowed.Finishing k im d same) = (d.t, d.out)
 says f size w who step reply image (allowed.Dropping k im d same) = (d.may.t, d.may.out)
 says f size w who step reply image (allowed.AskingRestore name place rep im a same) = says_restore f w name place rep im a
+says f size w who step reply image (allowed.AskingClone source name names moment taken rep im a same) = says_clone f w source name names moment taken rep im a
 says f size w who step reply image (allowed.AskingDelete names rep im a same) = says_delete w names rep a
 says f size w who step reply image (allowed.Reading k read rep im a same) = says_read f w k read rep im a
 says f size w who step reply image (allowed.Verifying read rep im a) = says_verify f w read rep im a

@@ -10,7 +10,7 @@ use Rattle.esr_model.specs.Image.{Image}
 use Rattle.esr_core.specs.World.{World, Op, ShardWork, Swap, Ticket, ReadState, Restored, NotRestored, RestoreShard, Restoring, Reader, swap, record_of}
 use Rattle.esr_core.specs.Restores.{restore_shard}
 use Rattle.esr_core.specs.Steps.{noting}
-use Rattle.esr_core.specs.Entry.{Asked, Snapshot, Clone, DeleteSnapshots, Restore, Cleanup, Given, GivenShard, GivenFinalize, GivenDrop, GivenRestore, Read, ReadBlob, RestoredShard, CheckedAll, DrawTest, CommitTest, ReadFails, Step, AskStep, TakeStep, DrawStep, BeginStep, CommitStep, LatestStep, FetchStep, RaiseStep, SettleStep, DoneStep, FailedStep, FinishStep, DroppedStep, ElectStep, ReadStep, DepotFault, Reply, Gave, DrawnFrom, WasDone, WasThere, WasFetched, HasEnded, Refusal, Refused, AcceptedRestore, Moment, PruneStep}
+use Rattle.esr_core.specs.Entry.{Asked, Snapshot, Clone, DeleteSnapshots, Restore, Cleanup, Given, GivenShard, GivenFinalize, GivenDrop, GivenRestore, GivenClone, Read, ReadBlob, RestoredShard, CheckedAll, DrawTest, CommitTest, ReadFails, Step, AskStep, TakeStep, DrawStep, BeginStep, CommitStep, LatestStep, FetchStep, RaiseStep, SettleStep, DoneStep, FailedStep, FinishStep, DroppedStep, ElectStep, ReadStep, DepotFault, Reply, Gave, DrawnFrom, WasDone, WasThere, WasFetched, HasEnded, Refusal, Refused, AcceptedRestore, Moment, PruneStep}
 use Rattle.esr_core.specs.After.{asked, taken_shard, taken_restore_shard, taken_restore, taken_by, read_told, shard_over, read_over, read_step, read_by, test_left, shard_of, with_given, committing, told_blob, fetching, settled_by, settled_of, done_by, done_of, is_stale, failed_by, failed_of, dropped_of, done_step, has_text, fallen, is_latest, faulted, answered, after}
 use Rattle.esr_core.proofs.AskedDeletes.{delete_leaves}
 use Rattle.esr_core.proofs.PruneFrames.{prune_stays, prune_fault_stays}
@@ -30,6 +30,8 @@ same_change w k g (Some t) = refl
 
 same_asked : (w : World) (command : Asked) → (asked w command).readers ≡ w.readers
 same_asked w (Snapshot name indices moment) = refl
+same_asked w (Clone source name indices moment None) = refl
+same_asked w (Clone source name indices moment (Some taken)) = refl
 same_asked w (DeleteSnapshots names) = ap (λ (x : World). x.readers) (delete_leaves w names)
 same_asked w command = refl
 
@@ -74,6 +76,7 @@ IsOther step reply = Unit {0}
 
 pub same_step : (f : Formats) (w : World) (k : ℕ) (step : Step) (reply : Reply) (image : Option Image) → IsOther step reply → (done_step f w k step reply image).readers ≡ w.readers
 same_step f w k (AskStep (Snapshot name indices moment)) reply image other = same_asked w (Snapshot name indices moment)
+same_step f w k (AskStep (Clone source name indices moment taken)) reply image other = same_asked w (Clone source name indices moment taken)
 same_step f w k (AskStep (DeleteSnapshots names)) reply image other = same_asked w (DeleteSnapshots names)
 same_step f w k (AskStep (Restore name place)) (AcceptedRestore o uuid indices) image other = refl
 same_step f w k TakeStep (Gave ticket op unit) image other = absurd other
@@ -111,7 +114,7 @@ same_fault f w k LatestStep image = same_tried w k
 same_fault f w k (BeginStep name) image = same_either w.readers _ w (is_latest name) (same_tried w k) refl
 same_fault f w k (ReadStep (CommitTest name)) image = same_left w name (fin.get w.blobs (f.names.text name)) (told_blob f image name)
 same_fault f w k (AskStep (Snapshot name indices moment)) image = same_fallen f w _ image (same_step f w k (AskStep (Snapshot name indices moment)) HasEnded image tt)
-same_fault f w k (AskStep (Clone source name indices moment)) image = same_fallen f w w image refl
+same_fault f w k (AskStep (Clone source name indices moment taken)) image = same_fallen f w (asked w (Clone source name indices moment taken)) image (same_asked w (Clone source name indices moment taken))
 same_fault f w k (AskStep (DeleteSnapshots names)) image = same_fallen f w (asked w (DeleteSnapshots names)) image (same_step f w k (AskStep (DeleteSnapshots names)) HasEnded image tt)
 same_fault f w k (AskStep (Restore name place)) image = refl
 same_fault f w k (AskStep Cleanup) image = same_fallen f w w image refl
@@ -143,6 +146,8 @@ given_restore w o index number (Some r) q apart = given_restore_shard w o r (res
 pub others_taken : (f : Formats) (w : World) (o : ℕ) (unit : Given) (op : Option Op) (q : ℕ) → q ≢ w.next_ticket → held (taken_by f w o unit op) q ≡ held w q
 others_taken f w o (GivenShard index number base) (Some op) q apart = ap (λ (m : Readers). fin.get m q) (given_shard w o op base (shard_of op.shards index number))
 others_taken f w o (GivenShard index number base) None q apart = refl
+others_taken f w o (GivenClone index number source base) (Some op) q apart = ap (λ (m : Readers). fin.get m q) (given_shard w o op base (shard_of op.shards index number))
+others_taken f w o (GivenClone index number source base) None q apart = refl
 others_taken f w o (GivenFinalize info results) (Some op) q apart = refl
 others_taken f w o (GivenFinalize info results) None q apart = refl
 others_taken f w o GivenDrop op q apart = refl

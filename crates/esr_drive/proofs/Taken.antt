@@ -17,6 +17,7 @@ use Rattle.esr_drive.specs.Stopped.{HasEnded}
 
 pub took_out : (work : Work) (new : Option Root) (op : ℕ) (copy : Copied) (t : Ticket) → TookWork work new op copy t → t.out ≡ true
 took_out (works.Shard uuid shard index place) new op copy t took = let (term, is, few) = took in ap (λ (x : Ticket). x.out) is
+took_out (works.CloneShard source uuid shard index) new op copy t took = let (term, place, is, few) = took in ap (λ (x : Ticket). x.out) is
 took_out (works.Finalize info shards) new op copy t took = let (term, made, is, root) = took in ap (λ (x : Ticket). x.out) is
 took_out works.Drop new op copy t took = let (term, is) = took in ap (λ (x : Ticket). x.out) is
 took_out (works.Delete uuids) new op copy t took = let (term, is) = took in ap (λ (x : Ticket). x.out) is

@@ -56,6 +56,7 @@ fn do_op_unit<Q: DeleteDesk<Shard = S::Shard>, S: Sources, G: Gate>(
 {
     match &unit.ready.work {
         Work::Shard { .. } => esr_upload::run_unit(alloc, desk, unit, sources, gate, part_size),
+        Work::CloneShard { .. } => esr_clone::run_unit(alloc, desk, unit),
         Work::Finalize { .. } => esr_finish::run_unit(alloc, desk, unit),
         Work::Drop => drop_op(alloc, desk, unit),
         Work::Delete { .. } => esr_delete::run_unit(alloc, desk, unit),

@@ -3,7 +3,6 @@ use Rattle.std.proofs.Common.{◌≡◌, inl, inr, ℕ, true, List, [], ◌∷�
 use Rattle.esr_model.specs.Names.{BlobName, Root, Snap, Meta, IndexMeta}
 use Rattle.esr_model.specs.Values.{Bytes, Has, IndexRef, RootData, SnapInfo, Formats}
 use Rattle.esr_model.specs.Finalize.{finalized_root}
-use Rattle.esr_model.specs.Shelf.{Create}
 use Rattle.esr_core.specs.World.{Ticket, Swap, Finalize, Deleting, swap, metadata}
 use Rattle.esr_core.specs.Ready.{IsShard, IsMaster}
 use Rattle.esr_root.specs.Root as code
@@ -98,7 +97,7 @@ took_may s t info shards root op copy (term, made, is, root_is) =
     let i = info_of_code info in
     let results = map result_of shards in
     let old = root_of copy.root in
-    let change : Swap = record { root = finalized_root old i results; own = metadata f i; commands = Create made ∷ [] } in
+    let change : Swap = record { root = finalized_root old i results; own = metadata f i; commands = made ∷ [] } in
     let new : Ticket = fresh (Finalize i results made) op info.uuid.number [] [] term copy in
     let has : HasSwap s new change = record { out = refl; is = refl; unsettled = refl } in
     record {

@@ -95,3 +95,8 @@ shard_blobs f part_size base index shard uuid first files =
     new_blobs f part_size base index shard first files
     ++ (ShardSnap index shard uuid, f.shard_snap.text (record { uuid = uuid; files = entries }))
     ∷ (ShardIndex index shard (id_after f base first files), f.shard_index.text (with_snap base uuid entries)) ∷ []
+
+-- all that the unit of a clone's shard writes: the snapshot of the shard with the files of its source, and its index under the one id
+abbrev pub clone_blobs : Formats → ShardFiles → ℕ → ℕ → ℕ → ℕ → List FileEntry → List (BlobName × Bytes)
+clone_blobs f base index shard uuid g files =
+    (ShardSnap index shard uuid, f.shard_snap.text (record { uuid = uuid; files = files })) ∷ (ShardIndex index shard g, f.shard_index.text (with_snap base uuid files)) ∷ []

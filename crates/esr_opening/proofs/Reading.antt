@@ -3,7 +3,7 @@ use Rattle.std.proofs.Common.{◌≡◌, ℕ, List, Option, Some, None, Result, 
 use Rattle.std.specs.FinMap as fin
 use Rattle.esr_model.specs.Values.{Bytes}
 use Rattle.esr_depot.specs.Image.{Image as Held, blob_known, IsTaken}
-use Rattle.esr_fetch.specs.Told.{Tells}
+use Rattle.esr_depot.specs.Told.{Tells}
 use Rattle.esr_json.specs.declared.refusal.Reason.{Reason}
 use Rattle.esr_json.specs.declared.refusal.ReadRefusal.{ReadRefusal}
 use Rattle.esr_json.specs.declared.refusal.ReadRefusal.TheVariants as reads

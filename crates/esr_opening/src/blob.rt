@@ -7,8 +7,7 @@ ghost use Rattle.esr_opening.specs.Refusals.{unread};
 ghost use Rattle.esr_opening.specs.Spent.{has_fault, Spends};
 
 use crate::{OpenRefusal, Why};
-use esr_depot::{CallError, Depot};
-use esr_fetch::read_whole;
+use esr_depot::{CallError, Depot, read_whole};
 use esr_json::ReadRefusal;
 use esr_seq::{Bytes, Text};
 use std::alloc::Global;

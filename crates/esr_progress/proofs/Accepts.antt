@@ -34,7 +34,7 @@ use Rattle.esr_progress.proofs.Numbers.{entries_from, len_from, found_member}
 use Rattle.esr_progress.proofs.Finds.{are_known, found, missed, same_true, same_false, either_some, neither}
 use Rattle.esr_progress.proofs.Drawn.{refs-same, new-same, refs_apart, length-refs_by}
 
-not-false : (b : Bool) → not b ≡ false → b ≡ true
+pub not-false : (b : Bool) → not b ≡ false → b ≡ true
 not-false true e = refl
 not-false false e = sym e
 
@@ -98,10 +98,10 @@ module _ (ops : List (ℕ × Op)) (deletes : List (ℕ × Deletion)) (p : Plan) 
 
   -- ---- the first rule that refuses
 
-  full_is : not (nat_lt (length ops + length deletes) 1000) ≡ true → 1000 ≤ open_count w
+  pub full_is : not (nat_lt (length ops + length deletes) 1000) ≡ true → 1000 ≤ open_count w
   full_is e = elim (cases_lt (length ops + length deletes) 1000) [ inl lt ↦ absurd (true≢false (sym e ∙ ap not ((Decides-ltb _ _).1 lt))) | inr le ↦ omega (arith, count) ]
 
-  room_is : not (nat_lt (length ops + length deletes) 1000) ≡ false → open_count w < 1000
+  pub room_is : not (nat_lt (length ops + length deletes) 1000) ≡ false → open_count w < 1000
   room_is e = let lt : length ops + length deletes < 1000 = (Decides-ltb _ _).0 (not-false _ e) in omega (arith, count)
 
   module _ (name : Bytes) (command : Asked) where

@@ -36,17 +36,19 @@ module _ (P : OpenShard → Type 0) where
       let most = apart.1 in
       all_append P (shards_from at r.id 0 r.shards) (shards_of (suc at) refs) (all_from at r.id 0 r.shards (λ k lt. h at k r.id (omega arith) (omega arith))) (all_of (suc at) refs apart.3 (λ j k index lt. h j k index (omega arith)))
 
-pub open_begun : (m : Making) (asked : List CodeAsked) (places : List Bytes) (shards : List OpenShard) → IsMaking m → AreApart (map ref_of_code m.indices) → length m.indices ≡ length asked
-    → places ≡ map (λ (a : CodeAsked). a.place) asked → shards ≡ shards_of 0 m.indices → IsOpenOp m places shards
-open_begun m asked places shards valid apart same are is =
-    let placed : length places ≡ length m.indices = ap length are ∙ length-map asked (λ (a : CodeAsked). a.place) ∙ sym same in
+pub begun_open : (m : Making) (places : List Bytes) (shards : List OpenShard) → IsMaking m → AreApart (map ref_of_code m.indices) → length places ≡ length m.indices → shards ≡ shards_of 0 m.indices → IsOpenOp m places shards
+begun_open m places shards valid apart placed is =
     let pending : AllByRecursion (λ (s : OpenShard). s.state ≡ states.Pending) shards = subst (AllByRecursion (λ (s : OpenShard). s.state ≡ states.Pending)) (sym is) (all_of (λ (s : OpenShard). s.state ≡ states.Pending) 0 m.indices apart (λ j k index lt few. refl)) in
     record {
       making = valid;
       placed = placed;
-      within = subst (AllByRecursion (Within places)) (sym is) (all_of (Within places) 0 m.indices apart (λ j k index lt few. (omega arith, few)));
+      within = subst (AllByRecursion (Within places)) (sym is) (all_of (Within places) 0 m.indices apart (λ j k index lt few. (omega (arith, lt, placed), few)));
       alike = λ a b ha hb i n. all_member _ shards pending a ha ∙ sym (all_member _ shards pending b hb);
     }
+
+pub open_begun : (m : Making) (asked : List CodeAsked) (places : List Bytes) (shards : List OpenShard) → IsMaking m → AreApart (map ref_of_code m.indices) → length m.indices ≡ length asked
+    → places ≡ map (λ (a : CodeAsked). a.place) asked → shards ≡ shards_of 0 m.indices → IsOpenOp m places shards
+open_begun m asked places shards valid apart same are is = begun_open m places shards valid apart (ap length are ∙ length-map asked (λ (a : CodeAsked). a.place) ∙ sym same) is
 
 -- ---- as the definitions see them
 

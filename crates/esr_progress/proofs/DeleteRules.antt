@@ -32,7 +32,7 @@ use Rattle.esr_progress.proofs.DeleteTickets.{and_apart, taken_is}
 -- ---- the first of a list
 
 -- the place at which something stands parts the list
-parts_at : {A : Type 0} (xs : List A) (i : ℕ) (x : A) → slice_get xs i ≡ Some x → (xs ≡ take i xs ++ x ∷ drop (suc i) xs) × (i ≡ length (take i xs))
+pub parts_at : {A : Type 0} (xs : List A) (i : ℕ) (x : A) → slice_get xs i ≡ Some x → (xs ≡ take i xs ++ x ∷ drop (suc i) xs) × (i ≡ length (take i xs))
 parts_at [] i x e = absurd (none_some x e)
 parts_at (y ∷ ys) zero x e = (ap (λ z. z ∷ ys) (some_same y x e), refl)
 parts_at (y ∷ ys) (suc i) x e = let (are, place) = parts_at ys i x e in (ap (λ zs. y ∷ zs) are, ap suc place)

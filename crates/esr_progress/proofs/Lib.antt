@@ -13,6 +13,7 @@ pub mod Begun
 pub mod Finds
 pub mod Drawn
 pub mod Accepts
+pub mod Cloned
 pub mod Changing
 pub mod Reporting
 pub mod Reading
@@ -30,3 +31,4 @@ pub mod NamedUuids
 pub mod DeleteTickets
 pub mod DeletePlans
 pub mod DeleteRules
+pub mod Clonables

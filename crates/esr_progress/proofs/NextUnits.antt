@@ -9,7 +9,7 @@ use Rattle.std.proofs.lemmas.Option.{slice_get_within, slice_get-get_or, get_or_
 use Rattle.esr_names.specs.declared.ids.Id.{Id}
 use Rattle.esr_names.specs.declared.blob.ShardId.{ShardId}
 use Rattle.esr_model.specs.Values.{Bytes, Has, RootData, ShardResult, Formats}
-use Rattle.esr_core.specs.Entry.{GivenShard}
+use Rattle.esr_core.specs.Entry.{GivenShard, GivenClone}
 use Rattle.esr_model.specs.Image.{Generation}
 use Rattle.esr_core.specs.World.{World, Op, Deletion, ShardState, Pending, Out, Done, GivenUp, ShardWork, Ticket, Work, Shard, Finalize, Deleting, Drop, AllDone, info_of}
 use Rattle.esr_core.specs.Ready.{Barrier, Goes, Stopped, Waits, Before, IsMaster, IsShard, SwapIsOut, UnitIsOut, ReadyShard, ReadyFinalize, ReadyDrop}
@@ -38,7 +38,7 @@ use Rattle.esr_progress.specs.Plan.{Plan, Seat, UnitKind, OfShard, OfFinalize, O
 use Rattle.esr_progress.specs.Seats.{seat_at, seat_in, told_in, holds, is_swap_out, is_unit_out, is_master, is_of_shard}
 use Rattle.esr_progress.specs.Ops.{has_stopped, is_free, IsDoneAt, Among, IsMost, IsShardWork, IsFinalWork}
 use Rattle.esr_progress.specs.Inside.{plan_with, seats_with, numbers_of, Rise, IsProgress}
-use Rattle.esr_progress.specs.Units.{given_by, given_of, IsCopyOf, ShardGiven, GivesWork, LeavesSnap, HasSnapReady, GivesLowest, LowestUnit, IsLowest}
+use Rattle.esr_progress.specs.Units.{given_by, given_of, IsCopyOf, ShardGiven, CloneGiven, GivesWork, LeavesSnap, HasSnapReady, GivesLowest, LowestUnit, IsLowest}
 use Rattle.esr_progress.specs.Choice.{barred, is_earliest, is_out_of, is_swapping, is_final, ready_of, NoneBefore, IsReadyAt, IsFirstReady, IsPossible, IsWorkFor, IsSeatOf, IsSeatFor, IsLiveIn, IsBaseFor, given_entry, AreShards}
 use Rattle.esr_progress.proofs.Lists.{Has-at, position-None, some_same, none_some}
 use Rattle.esr_progress.proofs.Entries.{FirstAt, first_at, from_set, get_from, find-member, eqb_is}
@@ -424,47 +424,87 @@ module _ (ops : List (ℕ × Op)) (deletes : List (ℕ × Deletion)) (completed 
           let same : is_free (take at ops) s ≡ is_free (take at ops) z = free_alike (take at ops) s z (id ∙ sym zid) (n ∙ sym zn) (rule.alike s z (Has-at e.1.shards i s here) hz (id ∙ sym zid) (n ∙ sym zn)) in
           clash _ (sym same ∙ (first_place (is_free (take at ops)) e.1.shards i s free_at here).0) (before_it z m))
 
-      gives_one : (index number uuid : ℕ) (name place : Bytes) (base : Option ℕ) → s.ref.id ≡ index → s.number ≡ number → uuid ≡ e.1.uuid → name ≡ s.ref.name → place ≡ s.place
-          → IsMost (IsLiveIn root ops s.ref.id s.number) base → ShardGiven w e.0 index number base uuid name place
-      gives_one index number uuid name place base id n uuid_is name_is place_is most = record {
-        gives = record {
+      -- the op gives it, whatever it copies
+      gives_at : (index number : ℕ) (source base : Option ℕ) → e.1.source ≡ source → s.ref.id ≡ index → s.number ≡ number → IsMost (IsLiveIn root ops s.ref.id s.number) base
+          → (g : GivesShard w e.0 index number source base) × (g.op ≡ e.1) × (g.s ≡ s)
+      gives_at index number source base source_is id n most = (
+        record {
           op = e.1;
+          source_is = source_is;
           s = s;
           found = is_found index number id n;
           ready = is_ready;
           first = λ z before r. clash _ (shard_ready at e there z r) (before_it z (stands_taken e.1.shards i z s here before));
           largest = largest_by s.ref.id s.number base (live s.ref.id s.number base most);
-        };
-        uuid_is = uuid_is;
-        name_is = name_is;
-        place_is = place_is;
-        few = subst (λ (k : ℕ). k < 1024) n (rule.few s (Has-at e.1.shards i s here));
-      }
+        },
+        refl,
+        refl,
+      )
+
+      few_at : (number : ℕ) → s.number ≡ number → number < 1024
+      few_at number n = subst (λ (k : ℕ). k < 1024) n (rule.few s (Has-at e.1.shards i s here))
+
+      gives_one : (index number uuid : ℕ) (name place : Bytes) (base : Option ℕ) → e.1.source ≡ None → s.ref.id ≡ index → s.number ≡ number → uuid ≡ e.1.uuid → name ≡ s.ref.name → place ≡ s.place
+          → IsMost (IsLiveIn root ops s.ref.id s.number) base → ShardGiven w e.0 index number base uuid name place
+      gives_one index number uuid name place base source_is id n uuid_is name_is place_is most =
+          let (g, op_is, s_is) = gives_at index number None base source_is id n most in
+          record {
+            gives = g;
+            uuid_is = uuid_is ∙ ap (λ (x : Op). x.uuid) (sym op_is);
+            name_is = name_is ∙ ap (λ (x : ShardWork). x.ref.name) (sym s_is);
+            place_is = place_is ∙ ap (λ (x : ShardWork). x.place) (sym s_is);
+            few = few_at number n;
+          }
+
+      gives_copy : (index number source uuid : ℕ) (name : Bytes) (base : Option ℕ) → e.1.source ≡ Some source → s.ref.id ≡ index → s.number ≡ number → uuid ≡ e.1.uuid → name ≡ s.ref.name
+          → IsMost (IsLiveIn root ops s.ref.id s.number) base → CloneGiven w e.0 index number source base uuid name
+      gives_copy index number source uuid name base source_is id n uuid_is name_is most =
+          let (g, op_is, s_is) = gives_at index number (Some source) base source_is id n most in
+          record { gives = g; uuid_is = uuid_is ∙ ap (λ (x : Op). x.uuid) (sym op_is); name_is = name_is ∙ ap (λ (x : ShardWork). x.ref.name) (sym s_is); few = few_at number n }
 
       -- the list in which it is given
-      takes_one : (index number : ℕ) (base : Option ℕ) (own : ShardId) → s.ref.id ≡ index → s.number ≡ number → s.ref.id ≡ own.index.number → s.number ≡ own.number
-          → (f : Formats) → IsPlanOf (taken_by f w e.0 (GivenShard index number base) (fin.get w.ops e.0)) (seated (kinds.Shard own) e at ticket)
-      takes_one index number base own id n own_id own_number f =
+      takes_at : (index number : ℕ) (base : Option ℕ) (own : ShardId) → s.ref.id ≡ index → s.number ≡ number → s.ref.id ≡ own.index.number → s.number ≡ own.number
+          → IsPlanOf (taken_shard w e.0 e.1 base (shard_of e.1.shards index number)) (seated (kinds.Shard own) e at ticket)
+      takes_at index number base own id n own_id own_number =
           let count : ticket ≡ w.next_ticket = ticket_is ∙ ap (λ (p : Plan). p.next_ticket) view ∙ is.plan.next_ticket in
           let put : fin.from_entries {R = nat_cmp} (set ops at (given_entry (kinds.Shard own) ticket e)) ≡ fin.insert w.ops e.0 (record e.1 { shards = map (given w.next_ticket s.ref.id s.number) e.1.shards }) =
           from_set ops e.0 at (record e.1 { shards = map (given ticket own.index.number own.number) e.1.shards }) (entry_at ops rise at e there)
           ∙ (λ j. fin.insert (ops_is j) e.0 (record e.1 { shards = map (given (count j) (sym own_id j) (sym own_number j)) e.1.shards })) in
-          subst (λ (o : Option Op). IsPlanOf (taken_by f w e.0 (GivenShard index number base) o) (seated (kinds.Shard own) e at ticket)) (sym (got at e there))
-          (subst (λ (o : Option ShardWork). IsPlanOf (taken_shard w e.0 e.1 base o) (seated (kinds.Shard own) e at ticket)) (sym (is_found index number id n))
+          subst (λ (o : Option ShardWork). IsPlanOf (taken_shard w e.0 e.1 base o) (seated (kinds.Shard own) e at ticket)) (sym (is_found index number id n))
           (ticketed (shard_ticket w e.0 e.1 s base) (seat_of_code (seat_for (kinds.Shard own) e.0)) _ _ put
-          (λ j. record { kind = OfShard (own_id j) (own_number j); op = e.0; term = is.term_is j; raised = None; settled = false; out = true })))
+          (λ j. record { kind = OfShard (own_id j) (own_number j); op = e.0; term = is.term_is j; raised = None; settled = false; out = true }))
+
+      takes_one : (index number : ℕ) (base : Option ℕ) (own : ShardId) → s.ref.id ≡ index → s.number ≡ number → s.ref.id ≡ own.index.number → s.number ≡ own.number
+          → (f : Formats) → IsPlanOf (taken_by f w e.0 (GivenShard index number base) (fin.get w.ops e.0)) (seated (kinds.Shard own) e at ticket)
+      takes_one index number base own id n own_id own_number f =
+          subst (λ (o : Option Op). IsPlanOf (taken_by f w e.0 (GivenShard index number base) o) (seated (kinds.Shard own) e at ticket)) (sym (got at e there)) (takes_at index number base own id n own_id own_number)
+
+      takes_copy : (index number source : ℕ) (base : Option ℕ) (own : ShardId) → s.ref.id ≡ index → s.number ≡ number → s.ref.id ≡ own.index.number → s.number ≡ own.number
+          → (f : Formats) → IsPlanOf (taken_by f w e.0 (GivenClone index number source base) (fin.get w.ops e.0)) (seated (kinds.Shard own) e at ticket)
+      takes_copy index number source base own id n own_id own_number f =
+          subst (λ (o : Option Op). IsPlanOf (taken_by f w e.0 (GivenClone index number source base) o) (seated (kinds.Shard own) e at ticket)) (sym (got at e there)) (takes_at index number base own id n own_id own_number)
+
+      most_at : (own : ShardId) → IsSeatOf s (kinds.Shard own) → IsBaseFor root ops (kinds.Shard own) copy.base → IsMost (IsLiveIn root ops s.ref.id s.number) (option_map number_of copy.base)
+      most_at own seat base =
+          subst (λ (a : ℕ). IsMost (IsLiveIn root ops a s.number) (option_map number_of copy.base)) (sym seat.0) (subst (λ (n : ℕ). IsMost (IsLiveIn root ops own.index.number n) (option_map number_of copy.base)) (sym seat.1) base)
 
       gives_shard : (work : CodeWork) (kind : SeatKind) → IsShardWork e.1 s work → IsSeatOf s kind → IsBaseFor root ops kind copy.base → IsGivenBy e at ticket work kind copy
-      gives_shard (works.Shard uuid shard index place) kinds.Finalize h seat base = absurd seat
-      gives_shard (works.Shard uuid shard index place) kinds.Delete h seat base = absurd seat
-      gives_shard (works.Shard uuid shard index place) kinds.Drop h seat base = absurd seat
-      gives_shard (works.Shard uuid shard index place) (kinds.Shard own) h seat base =
-          let most : IsMost (IsLiveIn root ops s.ref.id s.number) (option_map number_of copy.base) =
-          subst (λ (a : ℕ). IsMost (IsLiveIn root ops a s.number) (option_map number_of copy.base)) (sym seat.0) (subst (λ (n : ℕ). IsMost (IsLiveIn root ops own.index.number n) (option_map number_of copy.base)) (sym seat.1) base) in (
-            gives_one shard.index.number shard.number uuid.number index place (option_map number_of copy.base) (sym h.1) (sym h.2) h.0 h.3 h.4 most,
-            takes_one shard.index.number shard.number (option_map number_of copy.base) own (sym h.1) (sym h.2) seat.0 seat.1,
-          )
-      gives_shard work kind h seat base = absurd h
+      gives_shard work kinds.Finalize h seat base = absurd seat
+      gives_shard work kinds.Delete h seat base = absurd seat
+      gives_shard work kinds.Drop h seat base = absurd seat
+      gives_shard (works.Shard uuid shard index place) (kinds.Shard own) h seat base = (
+        gives_one shard.index.number shard.number uuid.number index place (option_map number_of copy.base) h.0 (sym h.2) (sym h.3) h.1 h.4 h.5 (most_at own seat base),
+        takes_one shard.index.number shard.number (option_map number_of copy.base) own (sym h.2) (sym h.3) seat.0 seat.1,
+      )
+      gives_shard (works.CloneShard source uuid shard index) (kinds.Shard own) h seat base = (
+        gives_copy shard.index.number shard.number source.number uuid.number index (option_map number_of copy.base) h.0 (sym h.2) (sym h.3) h.1 h.4 (most_at own seat base),
+        takes_copy shard.index.number shard.number source.number (option_map number_of copy.base) own (sym h.2) (sym h.3) seat.0 seat.1,
+      )
+      gives_shard (works.Finalize info shards) (kinds.Shard own) h seat base = absurd h
+      gives_shard works.Drop (kinds.Shard own) h seat base = absurd h
+      gives_shard (works.RestoreShard uuid shard index place) (kinds.Shard own) h seat base = absurd h
+      gives_shard (works.Delete uuids) (kinds.Shard own) h seat base = absurd h
+      gives_shard works.Cleanup (kinds.Shard own) h seat base = absurd h
 
     gives_any : (kind : Kind) → ready_of ops deletes completed seats term (take at ops) e ≡ Some kind → (work : CodeWork) (seat : SeatKind) → IsWorkFor e.1 kind work → IsSeatFor e.1 kind seat → IsBaseFor root ops seat copy.base
         → IsGivenBy e at ticket work seat copy

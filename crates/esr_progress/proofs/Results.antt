@@ -45,10 +45,10 @@ bytes_from : (n : ℕ) (rs : List CodeResult) → fold (λ (a : ℕ) (r : ShardR
 bytes_from n [] = refl
 bytes_from n (r ∷ rs) = bytes_from (n + r.bytes) rs
 
-pub final_info : (m : Making) (places : List Bytes) (shards : List OpenShard) (failed : Bool) (aborted : Option ℕ) (rs : List CodeResult) (i : Info)
+pub final_info : (m : Making) (places : List Bytes) (shards : List OpenShard) (failed : Bool) (source : Option Id) (aborted : Option ℕ) (rs : List CodeResult) (i : Info)
     → i.files ≡ min (sum_by (λ (r : CodeResult). r.files) rs) (2 ^ 63 - 1) → i.bytes ≡ min (sum_by (λ (r : CodeResult). r.bytes) rs) (2 ^ 63 - 1)
-    → i.indices ≡ m.indices → i.moment ≡ m.moment → i.name ≡ m.name → i.state ≡ 1 → i.uuid ≡ m.uuid → info_of_code i ≡ info_of (op_with m places shards failed aborted) (map result_of rs)
-final_info m places shards failed aborted rs i files bytes indices moment name state uuid = λ j. record {
+    → i.indices ≡ m.indices → i.moment ≡ m.moment → i.name ≡ m.name → i.state ≡ 1 → i.uuid ≡ m.uuid → info_of_code i ≡ info_of (op_with m places shards failed source aborted) (map result_of rs)
+final_info m places shards failed source aborted rs i files bytes indices moment name state uuid = λ j. record {
   name = name j;
   uuid = (uuid j).number;
   state = state j;
@@ -95,12 +95,12 @@ module _ {A : Type 0} (P : A → ℕ → Type 0) where
           elim (Has-either (take i xs) (get_or xs i d ∷ []) h.0 h.1) [ inl m ↦ inl (h.0, m, h.2) | inr m ↦ elim m [ inl e ↦ inr (subst (λ x. P x g) (sym e) h.2) | inr n ↦ absurd n ] ]
 
 -- the work that finalizes an op
-pub final_work : (m : Making) (places : List Bytes) (xs : List OpenShard) (failed : Bool) (aborted : Option ℕ) (rs : List CodeResult) (i : Info) (sums : ℕ × ℕ)
+pub final_work : (m : Making) (places : List Bytes) (xs : List OpenShard) (failed : Bool) (source : Option Id) (aborted : Option ℕ) (rs : List CodeResult) (i : Info) (sums : ℕ × ℕ)
     → rs ≡ filter_map (λ s. result_in s.state) xs → all_done (map (work_of_shard m.indices places) xs) ≡ true
     → sums ≡ (min (sum_by (λ (r : CodeResult). r.files) rs) (2 ^ 63 - 1), min (sum_by (λ (r : CodeResult). r.bytes) rs) (2 ^ 63 - 1)) → i.files ≡ sums.0 → i.bytes ≡ sums.1
     → i.indices ≡ m.indices → i.moment ≡ m.moment → i.name ≡ m.name → i.state ≡ 1 → i.uuid ≡ m.uuid
-    → AllDone (op_with m places xs failed aborted).shards (map result_of rs) × (info_of_code i ≡ info_of (op_with m places xs failed aborted) (map result_of rs))
-final_work m places xs failed aborted rs i sums are done is files bytes indices moment name state uuid = (
+    → AllDone (op_with m places xs failed source aborted).shards (map result_of rs) × (info_of_code i ≡ info_of (op_with m places xs failed source aborted) (map result_of rs))
+final_work m places xs failed source aborted rs i sums are done is files bytes indices moment name state uuid = (
   subst (λ zs. AllDone (map (work_of_shard m.indices places) xs) (map result_of zs)) (sym are) (all_results m.indices places xs done),
-  final_info m places xs failed aborted rs i (files ∙ ap (λ (p : ℕ × ℕ). p.0) is) (bytes ∙ ap (λ (p : ℕ × ℕ). p.1) is) indices moment name state uuid,
+  final_info m places xs failed source aborted rs i (files ∙ ap (λ (p : ℕ × ℕ). p.0) is) (bytes ∙ ap (λ (p : ℕ × ℕ). p.1) is) indices moment name state uuid,
 )

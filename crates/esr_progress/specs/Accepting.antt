@@ -8,7 +8,7 @@ use Rattle.esr_core.specs.Entry.{AskedIndex, Asked, Snapshot, Clone, DeleteSnaps
 use Rattle.esr_core.specs.After.{asked, asked_op, new_names}
 use Rattle.esr_core.specs.Generations.{OpTexts}
 use Rattle.esr_formats.specs.Formats.{formats}
-use Rattle.esr_core.specs.Allowed.{NoCleanup, IsNameOf, IsUnused, open_count, IsListed, IsSpared, IsBeingDeleted, AreNamed, IsFirstUnused, Copies, ReadsOne, IsLowest, MayDelete, IsNewDelete, AcceptsDelete}
+use Rattle.esr_core.specs.Allowed.{NoCleanup, IsNameOf, IsUnused, open_count, IsListed, IsSpared, IsBeingDeleted, IsFirstMissing, MayName, MayCopy, MayClone, AreNamed, IsFirstUnused, Copies, ReadsOne, IsLowest, MayDelete, IsNewDelete, AcceptsDelete}
 use Rattle.esr_core.specs.Deletes.{named_uuids, delete_number, asked_delete}
 use Rattle.esr_names.specs.declared.ids.Id.{Id}
 use Rattle.esr_progress.specs.declared.refusal.Refusal.{Refusal}
@@ -48,6 +48,7 @@ IsRefused w name command (refusals.CleanupRunning op) = (x : Deletion) × (fin.g
 IsRefused w name command (refusals.NameInUse uuid) = NoCleanup w × IsNameOf w name uuid.number
 IsRefused w name command (refusals.TooMany limit) = (limit ≡ 1000) × NoCleanup w × IsUnused w name × (1000 ≤ open_count w)
 IsRefused w name command (refusals.NoSnapshot place) = ⊥
+IsRefused w name command (refusals.NoIndex place) = ⊥
 IsRefused w name command (refusals.BeingDeleted op) = ⊥
 IsRefused w name command (refusals.CloneRunning op) = ⊥
 IsRefused w name command (refusals.RestoreRunning op) = ⊥
@@ -55,7 +56,7 @@ IsRefused w name command (refusals.IdsSpent next) = (next.number ≡ w.next_id) 
 
 abbrev pub name_asked : Asked → Bytes
 name_asked (Snapshot name indices moment) = name
-name_asked (Clone source name indices moment) = name
+name_asked (Clone source name indices moment taken) = name
 name_asked (DeleteSnapshots names) = []
 name_asked (Restore name place) = name
 name_asked Cleanup = []
@@ -68,6 +69,7 @@ IsRestoreRefused w name (refusals.NoSnapshot place) = (place ≡ 0) × ((uuid : 
 IsRestoreRefused w name (refusals.BeingDeleted op) = (uuid : ℕ) × IsListed w name uuid × IsBeingDeleted w uuid op
 IsRestoreRefused w name (refusals.TooMany limit) = (limit ≡ 1000) × ((uuid : ℕ) × IsListed w name uuid × IsSpared w uuid × (1000 ≤ fin.len w.restores))
 IsRestoreRefused w name refusals.Memory = ⊥
+IsRestoreRefused w name (refusals.NoIndex place) = ⊥
 IsRestoreRefused w name (refusals.CleanupRunning op) = ⊥
 IsRestoreRefused w name (refusals.NameInUse uuid) = ⊥
 IsRestoreRefused w name (refusals.IdsSpent next) = ⊥
@@ -78,6 +80,28 @@ IsRestoreRefused w name (refusals.RestoreRunning op) = ⊥
 abbrev pub Restorable : World → Bytes → Result Id Refusal → Type 0
 Restorable w name (Ok uuid) = IsListed w name uuid.number × IsSpared w uuid.number × (fin.len w.restores < 1000)
 Restorable w name (Err refusal) = IsRestoreRefused w name refusal
+
+-- ---- a clone
+
+-- the first rule that refuses a clone of the snapshot of this name, under another name, of the indices of these names
+abbrev pub IsCloneRefused : World → Bytes → Bytes → List Bytes → Refusal → Type 0
+IsCloneRefused w source name names (refusals.CleanupRunning op) = (x : Deletion) × (fin.get w.deletes op ≡ Some x) × (x.clean ≡ true)
+IsCloneRefused w source name names (refusals.NameInUse uuid) = NoCleanup w × IsNameOf w name uuid.number
+IsCloneRefused w source name names (refusals.NoSnapshot place) = (place ≡ 0) × MayName w name × ((uuid : ℕ) → IsListed w source uuid → ⊥)
+IsCloneRefused w source name names (refusals.BeingDeleted op) = MayName w name × ((uuid : ℕ) × IsListed w source uuid × IsBeingDeleted w uuid op)
+IsCloneRefused w source name names (refusals.NoIndex place) = (uuid : ℕ) × MayCopy w source name uuid × IsFirstMissing w uuid names place
+IsCloneRefused w source name names (refusals.TooMany limit) = (limit ≡ 1000) × ((uuid : ℕ) × MayClone w source name names uuid × (1000 ≤ open_count w))
+IsCloneRefused w source name names (refusals.IdsSpent next) = (next.number ≡ w.next_id) × ((uuid : ℕ) × MayClone w source name names uuid × (open_count w < 1000) × (first_id (suc w.term) ≤ suc w.next_id))
+IsCloneRefused w source name names refusals.Memory = ⊥
+IsCloneRefused w source name names (refusals.CloneRunning op) = ⊥
+IsCloneRefused w source name names (refusals.RestoreRunning op) = ⊥
+
+-- it may be cloned so, an op more may be open, and an id is left for it
+abbrev pub Clonable : World → Bytes → Bytes → List Bytes → Result Id Refusal → Type 0
+Clonable w source name names (Ok uuid) = MayClone w source name names uuid.number × (open_count w < 1000) × (suc w.next_id < first_id (suc w.term))
+Clonable w source name names (Err refusal) = IsCloneRefused w source name names refusal
+
+-- ---- a snapshot
 
 -- by the list of ops that is answered
 abbrev pub Accepting : World → Asked → Result (Plan × Accepted) Refusal → Type 0
@@ -95,6 +119,7 @@ IsDeleteRefused w names (refusals.CloneRunning op) = NoCleanup w × AreNamed w n
 IsDeleteRefused w names (refusals.RestoreRunning op) = NoCleanup w × AreNamed w names × ((o : ℕ) → Copies w (named_uuids w names) o → ⊥) × IsLowest (ReadsOne w (named_uuids w names)) op
 IsDeleteRefused w names (refusals.TooMany limit) = (limit ≡ 1000) × MayDelete w names × IsNewDelete w names × (1000 ≤ open_count w)
 IsDeleteRefused w names (refusals.NameInUse uuid) = ⊥
+IsDeleteRefused w names (refusals.NoIndex place) = ⊥
 IsDeleteRefused w names (refusals.BeingDeleted op) = ⊥
 IsDeleteRefused w names (refusals.IdsSpent next) = ⊥
 

@@ -1,5 +1,5 @@
 -- A command, as the definitions see it.
-use Rattle.std.specs.Prelude.{◌≤◌, ℕ, map}
+use Rattle.std.specs.Prelude.{◌≤◌, ℕ, None, map}
 use Rattle.std.specs.List.{AllByRecursion}
 use Rattle.esr_progress.specs.declared.command.AskedIndex.{AskedIndex as CodeAsked}
 use Rattle.esr_progress.specs.declared.command.Command.{Command}
@@ -10,9 +10,10 @@ use Rattle.esr_core.specs.Allowed.{AreDistinct}
 abbrev pub asked_index_of : CodeAsked → AskedIndex
 asked_index_of a = record { name = a.name; shards = a.shards; place = a.place }
 
+-- what a clone takes only the entry of its ask tells
 abbrev pub asked_of : Command → Asked
 asked_of (commands.Create name indices moment) = Snapshot name (map asked_index_of indices) moment
-asked_of (commands.Clone source name indices moment) = Clone source name indices moment
+asked_of (commands.Clone source name indices moment) = Clone source name indices moment None
 asked_of (commands.Delete names) = DeleteSnapshots names
 asked_of (commands.Restore name place) = Restore name place
 asked_of commands.Cleanup = Cleanup
@@ -21,8 +22,8 @@ asked_of commands.Cleanup = Cleanup
 abbrev pub HasShards : AskedIndex → Type 0
 HasShards a = (1 ≤ a.shards) × (a.shards ≤ 1024)
 
--- It asks for a snapshot; the names of its indices are distinct, and each has 1 to 1,024 shards. A restore and a delete
--- are asked for by steps of their own, and the other commands by none so far.
+-- It asks for a snapshot; the names of its indices are distinct, and each has 1 to 1,024 shards. A clone, a restore and a delete
+-- are asked for by steps of their own, and a cleanup by none so far.
 abbrev pub IsAskable : Asked → Type 0
 IsAskable (Snapshot name indices moment) = AreDistinct indices × AllByRecursion HasShards indices
 IsAskable command = ⊥

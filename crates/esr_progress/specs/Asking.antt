@@ -1,15 +1,17 @@
 -- What accepting a command looks up, and what it adds, over lists.
-use Rattle.std.specs.Prelude.{ℕ, zero, suc, Bool, true, false, List, [], ◌∷◌, ◌++◌, Option, Some, None, map, if◌then◌else◌}
+use Rattle.std.specs.Prelude.{ℕ, zero, suc, Bool, true, false, not, ◌&&◌, List, [], ◌∷◌, ◌++◌, Option, Some, None, map, if◌then◌else◌}
+use Rattle.std.specs.List.{list_any}
 use Rattle.esr_names.specs.declared.ids.Id.{Id}
 use Rattle.esr_names.specs.declared.index_ref.IndexRef.{IndexRef as CodeRef}
-use Rattle.esr_model.specs.Values.{Bytes, IndexRef, RootSnap, RootData}
+use Rattle.esr_model.specs.Values.{Bytes, IndexRef, RootSnap, RootIndex, RootData}
 use Rattle.esr_model.specs.Uploads.{same_bytes}
+use Rattle.esr_model.specs.Places.{places}
 use Rattle.esr_model.specs.Shelf.{names_uuid}
 use Rattle.esr_core.specs.Restores.{restore_of}
 use Rattle.esr_progress.specs.Plan.{RestorePlan, restore_plan}
 use Rattle.esr_core.specs.World.{Op, Deletion}
 use Rattle.esr_core.specs.Entry.{AskedIndex}
-use Rattle.esr_core.specs.After.{or_else, root_index_id, open_index_id, ref_by, next_by, all_pending}
+use Rattle.esr_core.specs.After.{or_else, root_index_id, open_index_id, ref_by, next_by, all_pending, copied_shard}
 use Rattle.esr_formats.specs.Ids.{id_of}
 use Rattle.esr_formats.specs.Refs.{ref_of_code}
 use Rattle.esr_record.specs.declared.op.Making.{Making}
@@ -53,6 +55,28 @@ first_refusal None (Some uuid) full = Some (refusals.NameInUse (id_of uuid))
 first_refusal None None true = Some (refusals.TooMany 1000)
 first_refusal None None false = None
 
+-- ---- look-ups of a clone
+
+-- the index has this name and the snapshot
+abbrev pub is_index_of : ℕ → Bytes → RootIndex → Bool
+is_index_of uuid name x = same_bytes x.name name && names_uuid x.snapshots uuid
+
+-- the snapshot has no index of this name
+abbrev pub lacks_index : List RootIndex → ℕ → Bytes → Bool
+lacks_index indices uuid name = not (list_any (is_index_of uuid name) indices)
+
+-- the first rule on its name that refuses a clone: a cleanup is open, something has the name
+abbrev pub name_refusal : Option ℕ → Option Id → Option Refusal
+name_refusal (Some op) user = Some (refusals.CleanupRunning op)
+name_refusal None (Some uuid) = Some (refusals.NameInUse uuid)
+name_refusal None None = None
+
+-- the first rule on its source: a delete names it, it has no index of the name at a place
+abbrev pub source_refusal : Option ℕ → Option ℕ → Option Refusal
+source_refusal (Some op) missing = Some (refusals.BeingDeleted op)
+source_refusal None (Some place) = Some (refusals.NoIndex place)
+source_refusal None None = None
+
 -- ---- what is added
 
 -- the indices with their ids, and how many of their names are new
@@ -77,6 +101,20 @@ shards_of at (r ∷ refs) = shards_from at r.id 0 r.shards ++ shards_of (suc at)
 -- a restore as it begins
 abbrev pub restore_begun : ℕ → Bytes → List IndexRef → RestorePlan
 restore_begun uuid place indices = restore_plan (restore_of uuid place indices)
+
+-- what a clone makes as it begins
+abbrev pub clone_begun : Making → ℕ → Op
+clone_begun m source =
+    record {
+      name = m.name;
+      uuid = m.uuid.number;
+      moment = m.moment;
+      indices = map ref_of_code m.indices;
+      shards = map copied_shard (places (map ref_of_code m.indices));
+      failed = false;
+      source = Some source;
+      aborted = None;
+    }
 
 -- what an op makes as it begins
 abbrev pub op_begun : Making → List AskedIndex → Op

@@ -1,10 +1,13 @@
 -- An open op, as the definitions see it.
-use Rattle.std.specs.Prelude.{◌≡◌, ◌<◌, ◌≤◌, ◌||◌, ◌&&◌, not, ℕ, Bool, List, Option, Some, None, is_some, map, length, max}
+use Rattle.std.specs.Prelude.{◌≡◌, ◌<◌, ◌≤◌, ◌||◌, ◌&&◌, not, ℕ, Bool, List, Option, Some, None, is_some, option_map, map, length, max}
 use Rattle.std.specs.List.{AllByRecursion, list_any}
+use Rattle.esr_names.specs.declared.ids.Id.{Id}
+use Rattle.esr_names.specs.declared.blob.ShardId.{ShardId}
 use Rattle.esr_record.specs.declared.op.Making.{Making}
 use Rattle.esr_record.specs.Op.{IsMaking}
-use Rattle.esr_model.specs.Values.{Bytes, Has, ShardResult}
+use Rattle.esr_model.specs.Values.{Bytes, Has, ShardResult, RecordWork, Creating, Cloning}
 use Rattle.esr_core.specs.World.{Op, ShardWork, Done, AllDone, info_of}
+use Rattle.esr_formats.specs.Ids.{number_of}
 use Rattle.esr_formats.specs.Refs.{ref_of_code}
 use Rattle.esr_formats.specs.Infos.{info_of_code}
 use Rattle.esr_progress.specs.declared.shard.OpenShard.{OpenShard}
@@ -13,10 +16,24 @@ use Rattle.esr_progress.specs.declared.unit.Work.TheVariants as works
 use Rattle.esr_results.specs.Results.{result_of}
 use Rattle.esr_progress.specs.Shards.{work_of_shard, is_pending, waits_for, AreAlike}
 
--- what an open op makes, and how far it is
-abbrev pub op_with : Making → List Bytes → List OpenShard → Bool → Option ℕ → Op
-op_with m places shards failed aborted =
-    record { name = m.name; uuid = m.uuid.number; moment = m.moment; indices = map ref_of_code m.indices; shards = map (work_of_shard m.indices places) shards; failed = failed; source = None; aborted = aborted }
+-- what an open op makes, how far it is, and the snapshot that it copies where it is a clone
+abbrev pub op_with : Making → List Bytes → List OpenShard → Bool → Option Id → Option ℕ → Op
+op_with m places shards failed source aborted =
+    record {
+      name = m.name;
+      uuid = m.uuid.number;
+      moment = m.moment;
+      indices = map ref_of_code m.indices;
+      shards = map (work_of_shard m.indices places) shards;
+      failed = failed;
+      source = option_map number_of source;
+      aborted = aborted;
+    }
+
+-- what is made, as the cluster record tells it: of a clone with its source
+abbrev pub making_told : Making → Option ℕ → RecordWork
+making_told m None = Creating m.name m.uuid.number m.moment (map ref_of_code m.indices)
+making_told m (Some source) = Cloning m.name m.uuid.number m.moment (map ref_of_code m.indices) source
 
 -- the shard names an index of the list, and its number is one of the layout
 abbrev pub Within : List Bytes → OpenShard → Type 0
@@ -44,9 +61,19 @@ has_stopped op = op.failed || is_some op.aborted
 abbrev pub is_free : List (ℕ × Op) → ShardWork → Bool
 is_free before s = is_pending s.state && not (list_any (λ (e : ℕ × Op). list_any (waits_for s.ref.id s.number) e.1.shards) before)
 
--- the work on a shard of the op
+-- these are the shard, the name of its index and the place of its files
+abbrev pub AreParts : ShardWork → ShardId → Bytes → Bytes → Type 0
+AreParts s shard name place = (shard.index.number ≡ s.ref.id) × (shard.number ≡ s.number) × (name ≡ s.ref.name) × (place ≡ s.place)
+
+-- the unit of a shard: of a clone it lists what its source has, else it stores the files at the place
+abbrev pub work_by_source : Option Id → Id → ShardId → Bytes → Bytes → Work
+work_by_source None uuid shard index place = works.Shard uuid shard index place
+work_by_source (Some source) uuid shard index place = works.CloneShard source uuid shard index
+
+-- the work on a shard of the op, of a clone with its source
 abbrev pub IsShardWork : Op → ShardWork → Work → Type 0
-IsShardWork op s (works.Shard uuid shard index place) = (uuid.number ≡ op.uuid) × (shard.index.number ≡ s.ref.id) × (shard.number ≡ s.number) × (index ≡ s.ref.name) × (place ≡ s.place)
+IsShardWork op s (works.Shard uuid shard index place) = (op.source ≡ None) × (uuid.number ≡ op.uuid) × (shard.index.number ≡ s.ref.id) × (shard.number ≡ s.number) × (index ≡ s.ref.name) × (place ≡ s.place)
+IsShardWork op s (works.CloneShard source uuid shard index) = (op.source ≡ Some source.number) × (uuid.number ≡ op.uuid) × (shard.index.number ≡ s.ref.id) × (shard.number ≡ s.number) × (index ≡ s.ref.name)
 IsShardWork op s work = ⊥
 
 -- the op's shards are done with these results, of which the info tells

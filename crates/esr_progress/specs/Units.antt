@@ -38,10 +38,17 @@ pub record IsCopyOf (w : World) (copy : Copied) : Type 0 where
 
 -- the unit of a shard carries the uuid of its op, the name of its index and the place of its files
 pub record ShardGiven (w : World) (o index number : ℕ) (base : Option ℕ) (uuid : ℕ) (name place : Bytes) : Type 0 where
-  pub gives : GivesShard w o index number base
+  pub gives : GivesShard w o index number None base
   pub uuid_is : uuid ≡ gives.op.uuid
   pub name_is : name ≡ gives.s.ref.name
   pub place_is : place ≡ gives.s.place
+  pub few : number < 1024
+
+-- that of a clone's shard the uuids of its source and of its op, and the name of its index
+pub record CloneGiven (w : World) (o index number source : ℕ) (base : Option ℕ) (uuid : ℕ) (name : Bytes) : Type 0 where
+  pub gives : GivesShard w o index number (Some source) base
+  pub uuid_is : uuid ≡ gives.op.uuid
+  pub name_is : name ≡ gives.s.ref.name
   pub few : number < 1024
 
 -- the unit of a restore's shard carries the name of its index and the place of the restore
@@ -54,12 +61,13 @@ pub record RestoreGiven (w : World) (o index number uuid : ℕ) (name place : By
 -- a finalization carries its info, with the sums, and the results of its shards
 abbrev pub GivesWork : World → ℕ → Work → Copied → Type 0
 GivesWork w o (works.Shard uuid shard index place) copy = ShardGiven w o shard.index.number shard.number (option_map number_of copy.base) uuid.number index place
+GivesWork w o (works.CloneShard source uuid shard index) copy = CloneGiven w o shard.index.number shard.number source.number (option_map number_of copy.base) uuid.number index
 GivesWork w o (works.Finalize info shards) copy = (op : Op) × ReadyFinalize w o op (map result_of shards) × (info_of_code info ≡ info_of op (map result_of shards))
 GivesWork w o works.Drop copy = ReadyDrop w o
 GivesWork w o (works.RestoreShard uuid shard index place) copy = RestoreGiven w o shard.index.number shard.number uuid.number index place
 GivesWork w o (works.Delete uuids) copy = (x : Deletion) × ReadyDelete w o x × (map number_of uuids ≡ x.uuids)
--- the others are not given so far
-GivesWork w o work copy = ⊥
+-- a cleanup is not given so far
+GivesWork w o works.Cleanup copy = ⊥
 
 -- the ready unit of the lowest op is given
 pub record GivesUnit (w : World) (u : ReadyUnit) : Type 0 where

@@ -73,7 +73,7 @@ impl Progress {
     }
 
     /// The list with a new op, which completes where it has no shards.
-    fn with_op(&self, alloc: Global, op: OpenOp) -> Result<Progress, AllocError>
+    pub(crate) fn with_op(&self, alloc: Global, op: OpenOp) -> Result<Progress, AllocError>
         requires number { op.0 ≡ self.now.next_op }
         requires room { self.now.next_op < 2 ^ 62 }
         ensures { IfOk result (λ p. p ≡ record self.now { ops = fin.insert self.now.ops op.0 op.1; completed = completing self.now.completed op.0 op.1.shards; next_op = suc self.now.next_op }) }
@@ -274,7 +274,7 @@ fn begin(
 {
     let places = places(alloc, asked)?;
     let shards = shards(alloc, making.indices.as_slice())?;
-    Ok(OpenOp::new(number, making, places, shards))
+    Ok(OpenOp::new(number, making, places, shards, None))
 }
 
 /// Where the files of each index are.

@@ -15,7 +15,7 @@ pub struct AskedIndex {
 /// The indices of a snapshot, in the order of the command.
 pub type AskedIndices = Seq<AskedIndex>;
 
-/// A command. Clones and cleanups are not accepted so far.
+/// A command. Cleanups are not accepted so far.
 #[derive(Debug, Drop)]
 pub enum Command {
     /// Makes a snapshot of these indices.

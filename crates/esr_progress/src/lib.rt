@@ -4,6 +4,7 @@
 mod accept;
 mod accept_delete;
 mod changes;
+mod cloning;
 mod command;
 mod delete;
 mod infos;
@@ -20,6 +21,7 @@ mod seats;
 mod shard;
 mod unit;
 
+pub use cloning::chosen;
 pub use command::{Accepted, AskedIndex, AskedIndices, Command};
 pub use delete::OpenDelete;
 pub use open_op::OpenOp;

@@ -6,11 +6,11 @@ ghost use Rattle.esr_core.specs.Steps.{given, all_done};
 ghost use Rattle.esr_core.specs.Turns.{fails};
 ghost use Rattle.esr_core.specs.After.{index_id};
 ghost use Rattle.esr_formats.specs.Ids.{number_of};
-ghost use Rattle.esr_formats.specs.Clusters.{op_of};
-ghost use Rattle.esr_record.specs.Op.{IsWork};
+ghost use Rattle.esr_formats.specs.Clusters.{op_of, work_of_code};
+ghost use Rattle.esr_record.specs.Op.{IsMaking, IsWork};
 ghost use Rattle.esr_model.specs.Values.{ShardResult as Outcome};
 ghost use Rattle.esr_progress.specs.Shards.{state_of, waits_on};
-ghost use Rattle.esr_progress.specs.Ops.{op_with, IsOpenOp, IsMakingOf, has_stopped, is_free, IsDoneAt, Among, IsMost, later_of, IsShardWork, IsFinalWork};
+ghost use Rattle.esr_progress.specs.Ops.{op_with, IsOpenOp, IsMakingOf, has_stopped, is_free, IsDoneAt, Among, IsMost, later_of, AreParts, work_by_source, IsShardWork, IsFinalWork, making_told};
 ghost use Rattle.esr_progress.specs.Choice.{AreShards};
 
 use crate::Work;
@@ -23,7 +23,8 @@ use esr_seq::{Seq, Text};
 use std::alloc::{AllocError, Global};
 use std::marker::Model;
 
-/// An open snapshot: its number, what it makes, the place of each index's files, and its shards in order.
+/// An open snapshot: its number, what it makes, the place of each index's files, its shards in order, and the snapshot that it
+/// copies where it is a clone.
 #[derive(Debug, Drop)]
 pub struct OpenOp {
     number: u64,
@@ -31,6 +32,7 @@ pub struct OpenOp {
     places: Seq<Text>,
     shards: Vec<OpenShard>,
     failed: bool,
+    source: Option<Id>,
     aborted: Option<u64>,
 }
 
@@ -41,7 +43,7 @@ impl Model for OpenOp {
 
     ghost Value = { ℕ × Op };
 
-    ghost view = { λ a. (a.number, op_with a.making a.places a.shards.items a.failed a.aborted) };
+    ghost view = { λ a. (a.number, op_with a.making a.places a.shards.items a.failed a.source a.aborted) };
 
     ghost invariant = { λ a. IsOpenOp a.making a.places a.shards.items };
 }
@@ -53,9 +55,10 @@ impl OpenOp {
         making: Making,
         places: Seq<Text>,
         shards: Vec<OpenShard>,
+        source: Option<Id>,
     ) -> OpenOp
         requires { IsOpenOp making places shards.items }
-        ensures { result ≡ (number, op_with making places shards.items false None) }
+        ensures { result ≡ (number, op_with making places shards.items false source None) }
     {
         OpenOp {
             number,
@@ -63,6 +66,7 @@ impl OpenOp {
             places,
             shards,
             failed: false,
+            source,
             aborted: None,
         }
     }
@@ -87,12 +91,11 @@ impl OpenOp {
         self.making.uuid
     }
 
-    /// The snapshot that it copies, where it is a clone: none is begun so far.
+    /// The snapshot that it copies, where it is a clone.
     pub(crate) fn source(&self) -> Option<Id>
         ensures { option_map number_of result ≡ self.now.1.source }
     {
-        let _making = &self.making;
-        None
+        self.source
     }
 
     /// The id of its index of this name.
@@ -164,20 +167,31 @@ impl OpenOp {
         let _shards = &self.shards;
     }
 
+    /// The shard at a place, with the name of its index and the place of its files.
+    fn shard_parts(
+        &self,
+        alloc: Global,
+        at: usize,
+    ) -> Result<(ShardId, IndexName, Text), AllocError>
+        requires { at < length self.now.1.shards }
+        ensures { IfOk result (λ p. IfSome (slice_get self.now.1.shards at) (λ s. AreParts s p.0 p.1 p.2)) }
+    {
+        let open = &self.shards[at];
+        let index = self.making.indices.as_slice()[open.at]
+            .name
+            .try_clone(alloc)?;
+        let place = self.places.as_slice()[open.at].try_clone(alloc)?;
+        Ok((open.shard, index, place))
+    }
+
     /// The unit of the shard at a place.
     pub(crate) fn shard_work(&self, alloc: Global, at: usize) -> Result<Work, AllocError>
         requires { at < length self.now.1.shards }
         ensures { IfOk result (λ work. IfSome (slice_get self.now.1.shards at) (λ s. IsShardWork self.now.1 s work)) }
     {
-        let open = &self.shards[at];
-        Ok(Work::Shard {
-            uuid: self.making.uuid,
-            shard: open.shard,
-            index: self.making.indices.as_slice()[open.at]
-                .name
-                .try_clone(alloc)?,
-            place: self.places.as_slice()[open.at].try_clone(alloc)?,
-        })
+        let (shard, index, place) = self.shard_parts(alloc, at)?;
+        let uuid = self.making.uuid;
+        Ok(work_by_source(self.source, uuid, shard, index, place))
     }
 
     /// The unit that finalizes it, where all its shards are done.
@@ -241,6 +255,7 @@ impl OpenOp {
             places: copy_places(alloc, self.places.as_slice())?,
             shards: Vec::from_slice(alloc, self.shards.as_slice())?,
             failed: self.failed,
+            source: self.source,
             aborted: self.aborted,
         })
     }
@@ -259,12 +274,52 @@ impl OpenOp {
         ensures told { IfOk result (λ o. op_of o ≡ (self.now.0, work_of self.now.1)) }
         ensures valid { IfOk result (λ o. IsWork o.work) }
     {
+        let info = self.making.try_clone(alloc)?;
         Ok(RecordOp {
             op: self.number,
-            work: OpWork::Create {
-                info: self.making.try_clone(alloc)?,
-            },
+            work: making_work(info, self.source),
         })
+    }
+}
+
+/// The unit of a shard: of a clone it lists what its source has, else it stores the files at the place.
+fn work_by_source(
+    source: Option<Id>,
+    uuid: Id,
+    shard: ShardId,
+    index: IndexName,
+    place: Text,
+) -> Work
+    ensures { result ≡ work_by_source source uuid shard index place }
+{
+    match source {
+        Some(source) => Work::CloneShard {
+            source,
+            uuid,
+            shard,
+            index,
+        },
+        None => Work::Shard {
+            uuid,
+            shard,
+            index,
+            place,
+        },
+    }
+}
+
+/// What is made, as the cluster record tells it: a clone copies its source.
+fn making_work(info: Making, source: Option<Id>) -> OpWork
+    requires { IsMaking info }
+    ensures told { work_of_code result ≡ making_told info (option_map number_of source) }
+    ensures valid { IsWork result }
+{
+    match source {
+        Some(source) => {
+            let _number = source.number;
+            OpWork::Clone { info, source }
+        }
+        None => OpWork::Create { info },
     }
 }
 

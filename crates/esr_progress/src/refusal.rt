@@ -16,6 +16,8 @@ pub enum Refusal {
     IdsSpent { next: Id },
     /// No snapshot has the name at this place of the command: for a restore none is listed, for a delete none is made either.
     NoSnapshot { place: u64 },
+    /// The snapshot has no index of the name at this place of the command.
+    NoIndex { place: u64 },
     /// This open delete names the snapshot.
     BeingDeleted { op: u64 },
     /// This open clone copies one of the snapshots.

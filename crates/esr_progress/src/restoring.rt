@@ -74,7 +74,7 @@ fn is_full(restores: &[OpenRestore]) -> bool
 }
 
 /// The uuid of the listed snapshot of a name.
-fn listed(root: &RootData, name: &SnapName) -> Option<Id>
+pub(crate) fn listed(root: &RootData, name: &SnapName) -> Option<Id>
     ensures { option_map number_of result ≡ snap_uuid (root_of root.now).snapshots name.now }
 {
     snap_uuid(root.snapshots.as_slice(), name)
@@ -92,7 +92,7 @@ fn push_waiting(restores: &mut Vec<OpenRestore>, restore: OpenRestore) -> Result
 }
 
 /// The number of the first open delete that names the snapshot.
-fn deleting(deletes: &[OpenDelete], uuid: Id) -> Option<u64>
+pub(crate) fn deleting(deletes: &[OpenDelete], uuid: Id) -> Option<u64>
     ensures { result ≡ deleting deletes.now uuid.number }
 {
     for delete in deletes {

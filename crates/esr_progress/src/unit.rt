@@ -33,7 +33,7 @@ pub enum Work {
         index: IndexName,
         place: Text,
     },
-    /// Lists the files that the snapshot `source` has of a shard for the snapshot `uuid`. Not given so far.
+    /// Lists the files that the snapshot `source` has of a shard for the snapshot `uuid`.
     CloneShard {
         source: Id,
         uuid: Id,

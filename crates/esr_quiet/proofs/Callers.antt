@@ -8,7 +8,7 @@ use Rattle.esr_model.specs.Image.{Image}
 use Rattle.esr_core.specs.World.{World, Op, ShardWork, ReadState, RestoreShard, Restoring, Reader, Caller, Ticket, Swap, swap}
 use Rattle.esr_core.specs.Restores.{restore_shard}
 use Rattle.esr_core.specs.Steps.{with_ticket}
-use Rattle.esr_core.specs.Entry.{Asked, Snapshot, DeleteSnapshots, Restore, Given, GivenShard, GivenFinalize, GivenDrop, GivenRestore, Read, ReadBlob, RestoredShard, DrawTest, CommitTest, ReadFails, Step, AskStep, TakeStep, DrawStep, BeginStep, CommitStep, LatestStep, FetchStep, RaiseStep, SettleStep, DoneStep, FailedStep, FinishStep, DroppedStep, ElectStep, LookStep, ReadStep, DepotFault, Reply, Gave, DrawnFrom, WasDone, WasThere, WasFetched, HasEnded, Refused, AcceptedRestore, Moment, PruneStep}
+use Rattle.esr_core.specs.Entry.{Asked, Snapshot, Clone, DeleteSnapshots, Restore, Given, GivenShard, GivenFinalize, GivenDrop, GivenRestore, GivenClone, Read, ReadBlob, RestoredShard, DrawTest, CommitTest, ReadFails, Step, AskStep, TakeStep, DrawStep, BeginStep, CommitStep, LatestStep, FetchStep, RaiseStep, SettleStep, DoneStep, FailedStep, FinishStep, DroppedStep, ElectStep, LookStep, ReadStep, DepotFault, Reply, Gave, DrawnFrom, WasDone, WasThere, WasFetched, HasEnded, Refused, AcceptedRestore, Moment, PruneStep}
 use Rattle.esr_core.specs.After.{shard_of, taken_shard, taken_restore_shard, taken_restore, taken_by, with_given, change, told_blob, settled_by, settled_of, done_by, done_of, is_stale, failed_by, failed_of, dropped_of, read_told, shard_over, read_over, read_step, read_by, done_step, swaps_record, fallen, is_latest, tried, test_left, faulted, answered, caller_after, after}
 use Rattle.esr_core.specs.Allowed as allowed
 use Rattle.esr_core.specs.Allowed.{ReadAllows, VerifyAllows, Allows, Allowed}
@@ -46,6 +46,8 @@ module _ (f : Formats) (w : World) where
   taken_same : (o : ℕ) (unit : Given) (op : Option Op) → (taken_by f w o unit op).caller ≡ w.caller
   taken_same o (GivenShard index number base) (Some op) = taken_shard_same o op base (shard_of op.shards index number)
   taken_same o (GivenShard index number base) None = refl
+  taken_same o (GivenClone index number source base) (Some op) = taken_shard_same o op base (shard_of op.shards index number)
+  taken_same o (GivenClone index number source base) None = refl
   taken_same o (GivenFinalize info results) (Some op) = refl
   taken_same o (GivenFinalize info results) None = refl
   taken_same o GivenDrop op = refl
@@ -112,6 +114,8 @@ module _ (f : Formats) (w : World) where
 
   step_same : (k : ℕ) (step : Step) (reply : Reply) (image : Option Image) → (done_step f w k step reply image).caller ≡ w.caller
   step_same k (AskStep (Snapshot name indices moment)) reply image = refl
+  step_same k (AskStep (Clone source name indices moment None)) reply image = refl
+  step_same k (AskStep (Clone source name indices moment (Some taken))) reply image = refl
   step_same k (AskStep (Restore name place)) (AcceptedRestore o uuid indices) image = refl
   step_same k (AskStep (DeleteSnapshots names)) reply image = ap (λ (x : World). x.caller) (delete_leaves w names)
   step_same k (AskStep command) reply image = refl
@@ -167,9 +171,10 @@ module _ (f : Formats) (w : World) where
 
 -- ---- who asks and looks
 
-ask_zero : (f : Formats) (size : ℕ) (w : World) (who : ℕ) (command : Asked) (reply : Reply) (image : Option Image) → Allows f size w who (AskStep command) reply image → who ≡ 0
+pub ask_zero : (f : Formats) (size : ℕ) (w : World) (who : ℕ) (command : Asked) (reply : Reply) (image : Option Image) → Allows f size w who (AskStep command) reply image → who ≡ 0
 ask_zero f size w who command reply image (allowed.Accepting name indices moment o im acc same) = refl
 ask_zero f size w who command reply image (allowed.AskingRestore name place rep im h same) = refl
+ask_zero f size w who command reply image (allowed.AskingClone source name names moment taken rep im h same) = refl
 ask_zero f size w who command reply image (allowed.AskingDelete names rep im h same) = refl
 ask_zero f size w who command reply image (allowed.Cleaning asked d x im recorded there clean same) = refl
 ask_zero f size w who command reply image (allowed.Used name indices moment uuid im clear is same) = refl

@@ -7,7 +7,7 @@ use Rattle.esr_model.specs.Names.{BlobName, ShardIndex}
 use Rattle.esr_model.specs.Values.{Bytes, Has, ShardFiles, Formats, Kind}
 use Rattle.esr_model.specs.Image.{Image}
 use Rattle.esr_core.specs.World.{World, Shard, Ticket}
-use Rattle.esr_core.specs.Steps.{IsOut}
+use Rattle.esr_core.specs.Steps.{IsOut, IsToFetch}
 use Rattle.esr_core.specs.Entry.{Reason, Why, OfDepot, OfSource, OfChange, OfAbsence, OfUnreadable, OfAhead, OfTaken, OfIdsSpent, OfGenerationsSpent, OfTarget, OfPrint, OfDisagreement, Step, FetchStep, FailedStep, Refusal, NameTaken, IdsSpent, GenerationsSpent, Reply, WasAbsent, HasEnded, Refused, Moment}
 use Rattle.esr_core.specs.Allowed as allowed
 use Rattle.esr_core.specs.Allowed.{Told, Fetches, Fails, Allows, Allowed}
@@ -25,8 +25,10 @@ use Rattle.esr_desk.specs.Shown.{Counts, DepotShown, SourceShown, ReadShown, Ste
 use Rattle.esr_quiet.specs.Caused.{AreCaused}
 use Rattle.esr_quiet.specs.Smooth.{IsSpent, IsSmooth, NoneFailed}
 use Rattle.esr_quiet.specs.Prefixes.{Prefixes}
+use Rattle.esr_quiet.proofs.Maps.{some_none}
 use Rattle.esr_quiet.proofs.Prefixes.{told_at, place_of, has_front, has_at}
 use Rattle.esr_quiet.proofs.Passing.{quiet_at, legal_at}
+use Rattle.esr_quiet.proofs.Uncloned.{opened_no_clones, world_no_clones}
 use Rattle.esr_quiet.proofs.Bases.{is_there, does_read, not_ahead}
 use Rattle.esr_quiet.proofs.Rules.{by_rule, no_rule}
 
@@ -84,7 +86,7 @@ module _ (s : Start) (log : List Moment) (smooth : IsSmooth s log) (prefixes : P
   no_fault : (front : List Moment) (who : ℕ) → ((m : Moment) → Has front m → Has log m) → HadFault s front who → ⊥
   no_fault front who within h = smooth.calm h.moment (within h.moment (subst (λ (l : List Moment). Has l h.moment) (sym h.is) (has_at h.front h.back h.moment))) h.reply
 
-  depot : {S F H T : Type 0} (c : Counts S F H T) (front : List Moment) (who : ℕ) → ((m : Moment) → Has front m → Has log m) → (b : By S F H T) → DepotShown c s front who b → ⊥
+  pub depot : {S F H T : Type 0} (c : Counts S F H T) (front : List Moment) (who : ℕ) → ((m : Moment) → Has front m → Has log m) → (b : By S F H T) → DepotShown c s front who b → ⊥
   depot c front who within (by.Object (objects.Stage stage)) h = true≢false (sym smooth.quiet ∙ h.1)
   depot c front who within (by.Object (objects.Fetch fetch)) h = true≢false (sym smooth.quiet ∙ h.1)
   depot c front who within (by.Object (objects.Shard shard)) h = h
@@ -107,6 +109,21 @@ module _ (s : Start) (log : List Moment) (smooth : IsSmooth s log) (prefixes : P
   untold : (t : Ticket) → IsUntold s t → ⊥
   untold t (index, number, work, unknown) = true≢false (sym (smooth.known t.place t.name number) ∙ ap (λ (known : Bytes → Bytes → ℕ → Bool). known t.place t.name number) (known_is s) ∙ unknown)
 
+  -- no ticket copies a snapshot
+  uncopied : (front back : List Moment) → log ≡ front ++ back → (who : ℕ) (t : Ticket) → IsOut (world_of s front) who t → (index number : ℕ) → t.work ≡ Shard index number → t.source ≡ None
+  uncopied front back is who t out index number work =
+      let x = (prefixes.lawful front back is).1.lawful.sound.carried.shards who t out.there out.out index number work in
+      x.source_is
+      ∙ world_no_clones (formats_of s) front s.world (opened_no_clones (formats_of s) smooth.image s.world smooth.opened)
+      (λ m h. smooth.no_clone_asked m (subst (λ (l : List Moment). Has l m) (sym is) (has_front front back m h))) t.op x.op x.op_there
+
+  -- so what it fetches is its base
+  as_base : (front back : List Moment) → log ≡ front ++ back → (who : ℕ) (t : Ticket) → IsOut (world_of s front) who t → (name : BlobName) → IsToFetch t name → IsBase t name
+  as_base front back is who t out name (index, number, work, from) = elim from [
+    | inl h ↦ record { index = index; number = number; base = h.0; work = work; base_is = h.1; name_is = h.2 }
+    | inr h ↦ absurd (some_none h.0 (sym h.1 ∙ uncopied front back is who t out index number work))
+  ]
+
   -- each base is there
   found : (front rest : List Moment) (m : Moment) → log ≡ front ++ m ∷ rest → (name : BlobName) → m.entry.step ≡ FetchStep name → m.entry.reply ≡ WasAbsent → ⊥
   found front rest m is name step reply =
@@ -114,7 +131,8 @@ module _ (s : Start) (log : List Moment) (smooth : IsSmooth s log) (prefixes : P
       let at = misses_at (formats_of s) s.part_size (world_of s front) m name (quiet_at s log smooth front (m ∷ rest) is).present (legal_at s log smooth front rest m is) step reply told.0 told.1 in
       let g = at.0 in
       let law = prefixes.lawful front (m ∷ rest) is in
-      is_there (formats_of s) (world_of s front) law.0 law.1 m.entry.who g.t g.out g.index g.shard g.base g.work g.base_is (ap (λ (n : BlobName). fin.get (world_of s front).blobs ((formats_of s).names.text n)) (sym g.name_is) ∙ at.1)
+      let base = as_base front (m ∷ rest) is m.entry.who g.t g.out name g.to_fetch in
+      is_there (formats_of s) (world_of s front) law.0 law.1 m.entry.who g.t g.out base.index base.number base.base base.work base.base_is (ap (λ (n : BlobName). fin.get (world_of s front).blobs ((formats_of s).names.text n)) (sym base.name_is) ∙ at.1)
 
   missing : (front back : List Moment) → log ≡ front ++ back → (who : ℕ) (name : BlobName) → HadFetch front who name WasAbsent → ⊥
   missing front back is who name h = found h.front (h.back ++ back) h.moment (is ∙ ap (λ (l : List Moment). l ++ back) h.is ∙ append_assoc h.front (h.moment ∷ h.back) back) name h.step h.reply
@@ -140,11 +158,11 @@ module _ (s : Start) (log : List Moment) (smooth : IsSmooth s log) (prefixes : P
   had front back is who refusal h = subst (λ (l : List Moment). Has l h.moment) (sym is) (has_front front back h.moment (subst (λ (l : List Moment). Has l h.moment) (sym h.is) (has_at h.front h.back h.moment)))
 
   -- no name is taken
-  untaken : (front back : List Moment) → log ≡ front ++ back → (who : ℕ) (name : BlobName) → HadRefusal front who (NameTaken name) → ⊥
+  pub untaken : (front back : List Moment) → log ≡ front ++ back → (who : ℕ) (name : BlobName) → HadRefusal front who (NameTaken name) → ⊥
   untaken front back is who name h = let x = by_rule s log smooth prefixes h.moment (NameTaken name) (had front back is who (NameTaken name) h) h.reply in no_rule x.0.0 name x.1
 
   -- and no number is spent
-  unspent : (front back : List Moment) → log ≡ front ++ back → (who : ℕ) (refusal : Refusal) → IsSpent (Refused refusal) → HadRefusal front who refusal → ⊥
+  pub unspent : (front back : List Moment) → log ≡ front ++ back → (who : ℕ) (refusal : Refusal) → IsSpent (Refused refusal) → HadRefusal front who refusal → ⊥
   unspent front back is who refusal spent h = smooth.unspent h.moment (had front back is who refusal h) (subst IsSpent (sym h.reply) spent)
 
   -- no cause is shown
@@ -153,7 +171,7 @@ module _ (s : Start) (log : List Moment) (smooth : IsSmooth s log) (prefixes : P
   shows c front back is who out OfSource b h = source c (ticket_of s front who) ((quiet_at s log smooth front back is).tickets who (ticket_of s front who) out.there).steady b h
   shows c front back is who out (OfChange first_len first_digest second_len second_digest) b h = untold (ticket_of s front who) (read_shown b _ h).1
   shows c front back is who out (OfAbsence name) b h = let x = read_shown b _ h in missing front back is who name x.1
-  shows c front back is who out (OfUnreadable name reason) b h = let x = read_shown b _ h in unread front back is who out name x.0 reason x.1
+  shows c front back is who out (OfUnreadable name reason) b h = let x = read_shown b _ h in unread front back is who out name (as_base front back is who (ticket_of s front who) out name x.0) reason x.1
   shows c front back is who out (OfAhead name) b h = let x = read_shown b _ h in ahead front back is who out name x.0 x.1
   shows c front back is who out (OfTaken name) b h = untaken front back is who name (step_shown b _ h)
   shows c front back is who out (OfIdsSpent next) b h = unspent front back is who (IdsSpent next) tt (step_shown b _ h)

@@ -1,5 +1,5 @@
 -- A blob that a ticket commits is its own: what else is to be written stays free.
-use Rattle.std.proofs.Common.{◌≡◌, ◌⊎◌, ℕ, ◌<◌, List, [], true, Some, None, refl, sym, ap, ◌∙◌, subst, inl, inr, arith}
+use Rattle.std.proofs.Common.{◌≡◌, ◌⊎◌, ℕ, ◌+◌, ◌<◌, ◌≤◌, List, [], true, Option, Some, None, refl, sym, ap, ◌∙◌, subst, inl, inr, arith}
 use Rattle.std.specs.FinMap as fin
 use Rattle.esr_model.specs.Names.{BlobName, Root, ShardSnap, ShardIndex}
 use Rattle.esr_model.specs.Values.{Bytes, Has, SnapInfo, SnapList, ShardFiles, Formats}
@@ -8,7 +8,7 @@ use Rattle.esr_model.specs.Image.{IsStored, Blobs, At, Present, Reads, IndexStan
 use Rattle.esr_core.specs.World.{World, Op, ShardWork, Pending, Work, Shard, Finalize, Deleting, Drop, Ticket, Swap, swap, swap_of, HeldIn}
 use Rattle.esr_core.specs.Generations.{Base, ShardLaw}
 use Rattle.esr_core.specs.Restores.{IsTestOf}
-use Rattle.esr_core.specs.Steps.{IsOut, SwapCommits, ShardCommits, MayCommit}
+use Rattle.esr_core.specs.Steps.{IsOut, Drew, SwapCommits, ShardCommits, MayCommit}
 use Rattle.esr_core.specs.Ids.{Law}
 use Rattle.esr_core.proofs.Adds.{at_kept, at_was}
 use Rattle.esr_core.proofs.Evolving.{pending_out}
@@ -17,8 +17,8 @@ use Rattle.esr_core.proofs.Reading.{some_same, none_some}
 use Rattle.esr_core.proofs.SettleShards.{of_swap}
 use Rattle.esr_core.proofs.Take.{Kinds, IsSnap, IsMeta, IsIndex, kinds}
 use Rattle.esr_quiet.specs.Free.{IsInUse}
-use Rattle.esr_quiet.proofs.FreeFrame.{IsFree, Follows}
-use Rattle.esr_quiet.proofs.FreeNames.{one_place, commits_no_test}
+use Rattle.esr_quiet.proofs.FreeFrame.{IsFree, Own, own_all, Follows}
+use Rattle.esr_quiet.proofs.FreeNames.{IsDrawnIndex, drawn_like, one_place, commits_no_test}
 use Rattle.esr_quiet.proofs.FreeParts.{own_put}
 
 -- ---- generations in use
@@ -41,26 +41,58 @@ module _ (f : Formats) (w : World) (shelf : List Shelved) (law : Law f w shelf) 
 one_root : (n m : ℕ) → Root n ≡ Root m → n ≡ m
 one_root n m e = cc
 
+one_index : (i n g j m h : ℕ) → ShardIndex i n g ≡ ShardIndex j m h → g ≡ h
+one_index i n g j m h e = cc
+
+snap_no_index : (i n u j m g : ℕ) → ShardSnap i n u ≡ ShardIndex j m g → ⊥
+snap_no_index i n u j m g e = cc
+
+from_one : (g : ℕ) → g ≤ g
+from_one g = omega arith
+
+below_one : (g : ℕ) → g < g + 1
+below_one g = omega arith
+
+-- a ticket of this shard that drew this id
+abbrev drawing : Ticket → ℕ → ℕ → ℕ → Ticket
+drawing t i n g = record t { work = Shard i n; first = g; drawn = 1 }
+
+drawing_commits : (t : Ticket) (i n g : ℕ) → ShardCommits (drawing t i n g) (ShardIndex i n g)
+drawing_commits t i n g = (refl, record { from = from_one g; below = below_one g })
+
 module _ (f : Formats) (w : World) (shelf : List Shelved) (law : Law f w shelf) (l : IsFree f w) (k : ℕ) (t : Ticket) (out : IsOut w k t) (name : BlobName) (bytes : Bytes) (may : MayCommit f t name bytes) where
   no_kind : (info : SnapInfo) (u : Ticket) → ShardCommits u name → Kinds f info name bytes → ⊥
   no_kind info u c (IsSnap e text) = subst (ShardCommits u) e c
   no_kind info u c (IsMeta e text) = subst (ShardCommits u) e c
   no_kind info u c (IsIndex r q e text) = subst (ShardCommits u) e c
 
-  -- a swap commits no name of a shard
-  no_swap : (s : Swap) → swap f t ≡ Some s → SwapCommits f s t name bytes → (u : Ticket) → ShardCommits u name → ⊥
-  no_swap s is (inr (n, e, root)) u c = subst (ShardCommits u) e c
-  no_swap s is (inl own) u c = by_work t.work refl
+  -- of the names of shards a swap commits those alone that a delete's plan has
+  of_plan : (s : Swap) → swap f t ≡ Some s → SwapCommits f s t name bytes → (u : Ticket) → ShardCommits u name → IsDrawnIndex t name
+  of_plan s is (inr (n, e, root)) u c = absurd (subst (ShardCommits u) e c)
+  of_plan s is (inl own) u c = by_work t.work refl
     where
-      by_work : (work : Work) → t.work ≡ work → ⊥
-      by_work (Shard i n) e = none_some s (sym (ap (λ x. swap_of f x t.root) e) ∙ is)
-      by_work Drop e = none_some s (sym (ap (λ x. swap_of f x t.root) e) ∙ is)
-      by_work (Deleting uuids plan) e = l.no_deletes k t uuids plan out.there e
-      by_work (Finalize info results made) e = no_kind info u c (kinds f info name bytes (subst (λ (x : Swap). Has x.own (name, bytes)) (sym (of_swap f t.work t.root s is info results made e)) own))
+      by_work : (work : Work) → t.work ≡ work → IsDrawnIndex t name
+      by_work (Shard i n) e = absurd (none_some s (sym (ap (λ x. swap_of f x t.root) e) ∙ is))
+      by_work Drop e = absurd (none_some s (sym (ap (λ x. swap_of f x t.root) e) ∙ is))
+      by_work (Deleting uuids plan) e =
+          let planned : plan ≡ Some s = sym (ap (λ x. swap_of f x t.root) e) ∙ is in
+          l.drawn k t uuids s name bytes out.there (e ∙ ap (λ (p : Option Swap). Deleting uuids p) planned) own
+      by_work (Finalize info results made) e = absurd (no_kind info u c (kinds f info name bytes (subst (λ (x : Swap). Has x.own (name, bytes)) (sym (of_swap f t.work t.root s is info results made e)) own)))
 
-  -- what some shard's ticket may commit it commits as a shard's
-  as_shard : (u : Ticket) → ShardCommits u name → ShardCommits t name
-  as_shard u c = elim may [ inl h ↦ absurd (no_swap h.0 h.1 h.2 u c) | inr h ↦ h.1 ]
+  -- what some shard's ticket may commit it commits as a shard's, or by its plan
+  as_shard : (u : Ticket) → ShardCommits u name → IsDrawnIndex t name ⊎ ShardCommits t name
+  as_shard u c = elim may [ inl h ↦ inl (of_plan h.0 h.1 h.2 u c) | inr h ↦ inr h.1 ]
+
+  -- the index of a shard it commits under an id that it drew
+  drew_index : (i n g : ℕ) → name ≡ ShardIndex i n g → Drew t g
+  drew_index i n g e = elim (as_shard (drawing t i n g) (subst (ShardCommits (drawing t i n g)) (sym e) (drawing_commits t i n g))) [
+    | inl d ↦ subst (Drew t) (one_index d.index d.number d.id i n g (sym d.name_is ∙ e)) d.drew
+    | inr mine ↦ (subst (ShardCommits t) e mine).1
+  ]
+
+  -- no plan of another has the name
+  plan_one : (j : ℕ) (u : Ticket) (uuids : List ℕ) (s : Swap) (b : Bytes) → fin.get w.tickets j ≡ Some u → u.work ≡ Deleting uuids (Some s) → Has s.own (name, b) → j ≡ k
+  plan_one j u uuids s b e work own = let d = l.drawn j u uuids s name b e work own in l.own_ids j k d.id u t e out.there d.drew (drew_index d.index d.number d.id d.name_is)
 
   -- and no test blob
   no_test : (id : ℕ) → IsTestOf id name → ⊥
@@ -84,7 +116,10 @@ module _ (f : Formats) (w : World) (shelf : List Shelved) (law : Law f w shelf) 
 
   -- it alone may commit the name
   only_one : (j : ℕ) (u : Ticket) → fin.get w.tickets j ≡ Some u → u.out ≡ true → ShardCommits u name → j ≡ k
-  only_one j u e u_out c = let (i, n, a, b) = one_place t u name (as_shard u c) c in law.lawful.sound.carried.one_shard j k u t e out.there u_out out.out i n b a
+  only_one j u e u_out c = elim (as_shard u c) [
+    | inl d ↦ l.own_ids j k d.id u t e out.there (subst (ShardCommits u) d.name_is c).1 d.drew
+    | inr mine ↦ let (i, n, a, b) = one_place t u name mine c in law.lawful.sound.carried.one_shard j k u t e out.there u_out out.out i n b a
+  ]
 
   -- its shard isn't pending
   not_pending : (o : ℕ) (op : Op) (s : ShardWork) → fin.get w.ops o ≡ Some op → Has op.shards s → s.state ≡ Pending → t.work ≡ Shard s.ref.id s.number → op.uuid ≡ t.uuid → ⊥
@@ -101,11 +136,13 @@ module _ (f : Formats) (w : World) (shelf : List Shelved) (law : Law f w shelf) 
   no_snap : (o : ℕ) (op : Op) (s : ShardWork) → fin.get w.ops o ≡ Some op → Has op.shards s → s.state ≡ Pending → ShardSnap s.ref.id s.number op.uuid ≡ name → ⊥
   no_snap o op s there m state is =
       let u : Ticket = record t { work = Shard s.ref.id s.number; uuid = op.uuid } in
-      let c : ShardCommits t (ShardSnap s.ref.id s.number op.uuid) = subst (ShardCommits t) (sym is) (as_shard u (subst (ShardCommits u) is (refl, refl))) in
-      not_pending o op s there m state c.0 c.1
+      elim (as_shard u (subst (ShardCommits u) is (refl, refl))) [
+        | inl d ↦ snap_no_index s.ref.id s.number op.uuid d.index d.number d.id (is ∙ d.name_is)
+        | inr mine ↦ let c : ShardCommits t (ShardSnap s.ref.id s.number op.uuid) = subst (ShardCommits t) (sym is) mine in not_pending o op s there m state c.0 c.1
+      ]
 
 module _ (f : Formats) (w : World) (shelf : List Shelved) (law : Law f w shelf) (l : IsFree f w) (k : ℕ) (t : Ticket) (out : IsOut w k t) (name : BlobName) (bytes : Bytes) (may : MayCommit f t name bytes)
-    (named : IsStored f name) (absent : fin.get w.blobs (f.names.text name) ≡ None) (v : Ticket) (like : Follows f w t v) (mine : Has v.noted name) (raised_same : v.raised ≡ t.raised) where
+    (named : IsStored f name) (absent : fin.get w.blobs (f.names.text name) ≡ None) (v : Ticket) (like : Follows f w t v) (mine : Has v.noted name) (raised_same : v.raised ≡ t.raised) (first_same : v.first ≡ t.first) (drawn_same : v.drawn ≡ t.drawn) where
   abbrev added : Blobs
   added = fin.insert w.blobs (f.names.text name) bytes
 
@@ -124,6 +161,30 @@ module _ (f : Formats) (w : World) (shelf : List Shelved) (law : Law f w shelf) 
     | inr x ↦ elim (at_old m p.0 p.1) [
       | inl is ↦ absurd (x.0 (only_one f w shelf law l k t out name bytes may j u x.1 u_out (subst (ShardCommits u) is c)))
       | inr old ↦ l.free.shards j u m x.1 u_out c (p.0, old)
+    ]
+  ]
+
+  drawn_on : (j : ℕ) (u : Ticket) (uuids : List ℕ) (s : Swap) (m : BlobName) (b : Bytes) → fin.get (fin.insert w.tickets k v) j ≡ Some u → u.work ≡ Deleting uuids (Some s) → Has s.own (m, b) → IsDrawnIndex u m
+  drawn_on j u uuids s m b e work own = elim (was_in w.tickets k v j u e) [
+    | inl x ↦ subst (λ (y : Ticket). IsDrawnIndex y m) x.1 (elim (like.plans uuids s (ap (λ (y : Ticket). y.work) x.1 ∙ work)) [
+      | inl same ↦ drawn_like t v m (l.drawn k t uuids s m b out.there same.work own) same.drew
+      | inr new ↦ (new m b own).0
+    ])
+    | inr x ↦ l.drawn j u uuids s m b x.1 work own
+  ]
+
+  plans_on : (j : ℕ) (u : Ticket) (uuids : List ℕ) (s : Swap) (m : BlobName) (b : Bytes) → fin.get (fin.insert w.tickets k v) j ≡ Some u → u.work ≡ Deleting uuids (Some s) → Has s.own (m, b) → Present f added m → Has u.noted m
+  plans_on j u uuids s m b e work own p = elim (was_in w.tickets k v j u e) [
+    | inl x ↦ subst (λ (y : Ticket). Has y.noted m) x.1 (elim (at_old m p.0 p.1) [
+      | inl is ↦ subst (Has v.noted) (sym is) mine
+      | inr old ↦ elim (like.plans uuids s (ap (λ (y : Ticket). y.work) x.1 ∙ work)) [
+        | inl same ↦ like.noted m (l.free.plans k t uuids s m b out.there same.work own (p.0, old))
+        | inr new ↦ absurd ((new m b own).1 (p.0, old))
+      ]
+    ])
+    | inr x ↦ elim (at_old m p.0 p.1) [
+      | inl is ↦ absurd (x.0 (plan_one f w shelf law l k t out name bytes may j u uuids s b x.1 work (subst (λ (n : BlobName). Has s.own (n, b)) is own)))
+      | inr old ↦ l.free.plans j u uuids s m b x.1 work own (p.0, old)
     ]
   ]
 
@@ -148,7 +209,7 @@ module _ (f : Formats) (w : World) (shelf : List Shelved) (law : Law f w shelf) 
   used_was : (index number g : ℕ) → IsInUse (record w { blobs = added; tickets = fin.insert w.tickets k v }) index number g → IsInUse w index number g
   used_was index number g (inl live) = inl live
   used_was index number g (inr b) = elim (was_in w.tickets k v b.ticket b.t b.there) [
-    | inl x ↦ inr (record { ticket = k; t = t; there = out.there; out = out.out; work = sym like.work ∙ ap (λ (y : Ticket). y.work) x.1 ∙ b.work; base_is = sym like.base ∙ ap (λ (y : Ticket). y.base) x.1 ∙ b.base_is })
+    | inl x ↦ inr (record { ticket = k; t = t; there = out.there; out = out.out; work = like.work index number (ap (λ (y : Ticket). y.work) x.1 ∙ b.work); base_is = sym like.base ∙ ap (λ (y : Ticket). y.base) x.1 ∙ b.base_is })
     | inr x ↦ inr (record { ticket = b.ticket; t = b.t; there = x.1; out = b.out; work = b.work; base_is = b.base_is })
   ]
 
@@ -161,23 +222,25 @@ module _ (f : Formats) (w : World) (shelf : List Shelved) (law : Law f w shelf) 
     | inr old ↦ record { bytes = reads.bytes; there = old; reads = reads.reads }
   ]
 
+  own : Own (fin.insert w.tickets k v)
+  own = own_put w.tickets (own_all f w l) k t v out.there raised_same first_same drawn_same
+
   pub free_committed : IsFree f (record w { blobs = fin.insert w.blobs (f.names.text name) bytes; tickets = fin.insert w.tickets k v })
   free_committed =
       record {
         free = record {
           shards = shards_on;
+          plans = plans_on;
           pending = pending_on;
           roots = roots_on;
-          own_root = own_put w.tickets l.free.own_root k t v out.there raised_same;
+          own_root = own.0;
           unlisted = λ o op s g held list there m waits used reads in_list.
               let was = used_was s.ref.id s.number g used in
               l.free.unlisted o op s g held list there m waits was (reads_was s.ref.id s.number g held was reads) in_list;
           tests = λ id m drawn test p. elim (at_old m p.0 p.1) [ inl is ↦ absurd (no_test f w shelf law l k t out name bytes may id (subst (IsTestOf id) is test)) | inr old ↦ l.free.tests id m drawn test (p.0, old) ];
           wrote = λ m b h left. at_kept f w.blobs name bytes named absent [] m b (l.free.wrote m b h left);
         };
-        no_deletes = λ j u uuids plan e work. elim (was_in w.tickets k v j u e) [
-          | inl x ↦ l.no_deletes k t uuids plan out.there (sym like.work ∙ ap (λ (y : Ticket). y.work) x.1 ∙ work)
-          | inr x ↦ l.no_deletes j u uuids plan x.1 work
-        ];
+        own_ids = own.1;
+        drawn = drawn_on;
         wrote_tests = l.wrote_tests;
       }

@@ -3,7 +3,7 @@ use Rattle.std.proofs.Common.{◌≡◌, ◌≢◌, ◌⊎◌, ℕ, List, [], �
 use Rattle.std.specs.FinMap as fin
 use Rattle.esr_model.specs.Names.{ShardIndex}
 use Rattle.esr_model.specs.Values.{Has, SnapList, ShardFiles, ShardResult, Formats}
-use Rattle.esr_model.specs.Shelf.{Shelved, Create}
+use Rattle.esr_model.specs.Shelf.{Shelved}
 use Rattle.esr_model.specs.Finalize.{Finalizes, finalized_root, done_at}
 use Rattle.esr_model.specs.Image.{Blobs, At, Reads}
 use Rattle.esr_model.specs.Uploads.{entries_from, id_after, new_blobs, with_snap}
@@ -21,7 +21,7 @@ use Rattle.esr_core.proofs.Reading.{some_same, Has-append, Has-mapped, Has-right
 use Rattle.esr_core.proofs.Results.{done_same, found_done}
 use Rattle.esr_core.proofs.SettleShards.{of_swap}
 use Rattle.esr_core.proofs.Staging.{larger_is}
-use Rattle.esr_quiet.proofs.FreeFrame.{IsFree, ListsDone, Waited, framed}
+use Rattle.esr_quiet.proofs.FreeFrame.{IsFree, own_all, ListsDone, Waited, framed}
 use Rattle.esr_quiet.proofs.FreeParts.{Back, tests_was, follows_same, came_put, own_put, WaitedBy, waited_as, waited_map, live_left}
 
 -- ---- a shard is done
@@ -136,7 +136,7 @@ module _ (f : Formats) (size : ℕ) (w : World) (shelf : List Shelved) (law : La
   free_done blobs back =
       framed f w (record new { blobs = blobs }) l
       (came_put f w k t (record t { out = false }) out.there (follows_same f w t (record t { out = false }) refl refl (λ e. absurd (true≢false (sym e))) (λ name h. h) refl refl refl refl))
-      (own_put w.tickets l.free.own_root k t (record t { out = false }) out.there refl)
+      (own_put w.tickets (own_all f w l) k t (record t { out = false }) out.there refl refl refl)
       (λ p q s e m waits. inl (waited_map w t.op op op_now (marked k (Done r)) op_there refl refl (λ x x_there x_waits. marked_waits k r x x_waits) p q s e m waits))
       live_done back.were (tests_was f w l blobs back)
 
@@ -149,7 +149,7 @@ module _ (f : Formats) (w : World) (shelf : List Shelved) (law : Law f w shelf) 
   finalizes_it : Finalizes w.root (info_of its_law.op s.results) s.results s.s.root
   finalizes_it =
       let x : FinalLaw f w.root w.ops s.t s.info s.results s.made = its_law in
-      let same : record { root = finalized_root s.t.root s.info s.results; own = metadata f s.info; commands = Create s.made ∷ [] } ≡ s.s = of_swap f s.t.work s.t.root s.s s.may.is s.info s.results s.made s.work in
+      let same : record { root = finalized_root s.t.root s.info s.results; own = metadata f s.info; commands = s.made ∷ [] } ≡ s.s = of_swap f s.t.work s.t.root s.s s.may.is s.info s.results s.made s.work in
       subst (Finalizes w.root (info_of x.op s.results) s.results) ((λ i. finalized_root (sym x.root_is i) (sym x.info_is i) s.results) ∙ ap (λ (y : Swap). y.root) same)
       (finalizes f (HeldIn f w) w.root x.op s.results (law.lawful.sound.carried.ops s.t.op x.op x.op_there) (root_one_each f (HeldIn f w) w.safe w.root law.lawful.sound.carried.root_is) x.done)
 

@@ -1,5 +1,5 @@
 -- Where a step adds no blob but a test blob, what is free stays free.
-use Rattle.std.proofs.Common.{◌≡◌, ◌≢◌, ◌⊎◌, ℕ, List, true, Option, Some, None, refl, sym, ◌∙◌, subst, inl, inr}
+use Rattle.std.proofs.Common.{◌≡◌, ◌≢◌, ◌⊎◌, ℕ, List, true, Some, None, refl, sym, ◌∙◌, subst, inl, inr}
 use Rattle.std.specs.Ordering.{nat_cmp}
 use Rattle.std.specs.FinMap.{FinMap}
 use Rattle.std.specs.FinMap as fin
@@ -10,14 +10,18 @@ use Rattle.esr_core.specs.World.{World, Op, ShardWork, Pending, Shard, Deleting,
 use Rattle.esr_core.specs.Generations.{IsLive}
 use Rattle.esr_core.specs.Ready.{Waits}
 use Rattle.esr_core.specs.Restores.{IsTestOf}
-use Rattle.esr_core.specs.Steps.{ShardCommits}
+use Rattle.esr_core.specs.Steps.{Drew, ShardCommits}
 use Rattle.esr_core.proofs.Reading.{none_some}
 use Rattle.esr_quiet.specs.Free.{IsInUse, AreOwnTests, Free}
-use Rattle.esr_quiet.proofs.FreeNames.{commits_no_test}
+use Rattle.esr_quiet.proofs.FreeNames.{IsDrawnIndex, drawn_like, index_no_test, commits_no_test}
 
--- no ticket is that of a delete
-abbrev pub NoDeletes : World → Type 0
-NoDeletes w = (k : ℕ) (t : Ticket) (uuids : List ℕ) (plan : Option Swap) → fin.get w.tickets k ≡ Some t → t.work ≡ Deleting uuids plan → ⊥
+-- what the plan of a delete's ticket writes are indices of shards, under ids that the ticket drew
+abbrev pub ArePlansDrawn : FinMap nat_cmp Ticket → Type 0
+ArePlansDrawn tickets = (k : ℕ) (t : Ticket) (uuids : List ℕ) (s : Swap) (name : BlobName) (bytes : Bytes) → fin.get tickets k ≡ Some t → t.work ≡ Deleting uuids (Some s) → Has s.own (name, bytes) → IsDrawnIndex t name
+
+-- no id was drawn by two tickets
+abbrev pub OwnIds : FinMap nat_cmp Ticket → Type 0
+OwnIds tickets = (j k id : ℕ) (t u : Ticket) → fin.get tickets j ≡ Some t → fin.get tickets k ≡ Some u → Drew t id → Drew u id → j ≡ k
 
 -- what a verification wrote and hasn't removed stands
 abbrev pub IsStanding : Formats → Blobs → Caller → Type 0
@@ -32,16 +36,34 @@ Tests f blobs caller = AreOwnTests f blobs caller × IsStanding f blobs caller �
 
 pub record IsFree (f : Formats) (w : World) : Type 0 where
   pub free : Free f w
-  pub no_deletes : NoDeletes w
+  pub own_ids : OwnIds w.tickets
+  pub drawn : ArePlansDrawn w.tickets
   pub wrote_tests : WroteTests w.caller
 
 -- each ticket raised a root of its own
 abbrev pub OwnRoots : FinMap nat_cmp Ticket → Type 0
 OwnRoots tickets = (j k n : ℕ) (t u : Ticket) → fin.get tickets j ≡ Some t → fin.get tickets k ≡ Some u → t.raised ≡ Some n → u.raised ≡ Some n → j ≡ k
 
+-- and drew ids of its own
+abbrev pub Own : FinMap nat_cmp Ticket → Type 0
+Own tickets = OwnRoots tickets × OwnIds tickets
+
+pub own_all : (f : Formats) (w : World) → IsFree f w → Own w.tickets
+own_all f w l = (l.free.own_root, l.own_ids)
+
+-- a plan that was there, with the ids for it
+pub record IsSamePlan (t v : Ticket) (uuids : List ℕ) (s : Swap) : Type 0 where
+  pub work : t.work ≡ Deleting uuids (Some s)
+  pub drew : (id : ℕ) → Drew t id → Drew v id
+
+-- a plan that is new: no blob has a name of its indices
+abbrev pub IsNewPlan : Formats → World → Ticket → Swap → Type 0
+IsNewPlan f w v s = (name : BlobName) (bytes : Bytes) → Has s.own (name, bytes) → IsDrawnIndex v name × (Present f w.blobs name → ⊥)
+
 -- A ticket that goes on: what it may commit or has raised was so before, or no blob has that name.
 pub record Follows (f : Formats) (w : World) (t v : Ticket) : Type 0 where
-  pub work : v.work ≡ t.work
+  pub work : (index number : ℕ) → v.work ≡ Shard index number → t.work ≡ Shard index number
+  pub plans : (uuids : List ℕ) (s : Swap) → v.work ≡ Deleting uuids (Some s) → IsSamePlan t v uuids s ⊎ IsNewPlan f w v s
   pub base : v.base ≡ t.base
   pub out : v.out ≡ true → t.out ≡ true
   pub noted : (name : BlobName) → Has t.noted name → Has v.noted name
@@ -53,7 +75,7 @@ pub record IsNewTicket (f : Formats) (w : World) (v : Ticket) : Type 0 where
   pub commits : (name : BlobName) → ShardCommits v name → Present f w.blobs name → ⊥
   pub unraised : v.raised ≡ None
   pub base : (index number g : ℕ) → v.work ≡ Shard index number → v.base ≡ Some g → IsLive w.root w.ops index number g
-  pub no_delete : (uuids : List ℕ) (plan : Option Swap) → v.work ≡ Deleting uuids plan → ⊥
+  pub no_plan : (uuids : List ℕ) (s : Swap) → v.work ≡ Deleting uuids (Some s) → ⊥
 
 abbrev pub Came : Formats → World → ℕ → Ticket → Type 0
 Came f w k v = ((t : Ticket) × (fin.get w.tickets k ≡ Some t) × Follows f w t v) ⊎ IsNewTicket f w v
@@ -83,7 +105,7 @@ ListsDone f w v index number g =
     → Reads (At f w.blobs) (ShardIndex index number g) f.shard_index held → Has held.snapshots l → l.uuid ≢ op.uuid
 
 module _ (f : Formats) (w v : World) (l : IsFree f w)
-    (tickets : (k : ℕ) (t : Ticket) → fin.get v.tickets k ≡ Some t → Came f w k t) (own : OwnRoots v.tickets)
+    (tickets : (k : ℕ) (t : Ticket) → fin.get v.tickets k ≡ Some t → Came f w k t) (own : Own v.tickets)
     (ops : (o : ℕ) (op : Op) (s : ShardWork) → fin.get v.ops o ≡ Some op → Has op.shards s → Waits s.state → Waited w op s ⊎ IsNewShard f w op s)
     (live : (index number g : ℕ) → IsLive v.root v.ops index number g → IsLive w.root w.ops index number g ⊎ ListsDone f w v index number g)
     (blobs : (name : BlobName) (b : Bytes) → ((id : ℕ) → IsTestOf id name → ⊥) → At f v.blobs name b → At f w.blobs name b) (tests : Tests f v.blobs v.caller) where
@@ -101,6 +123,26 @@ module _ (f : Formats) (w v : World) (l : IsFree f w)
     ]
     | inr new ↦ absurd (new.commits name commits (was name (commits_no_test t name commits) p))
   ]
+
+  drawn_on : ArePlansDrawn v.tickets
+  drawn_on k t uuids s name bytes there work own_has = elim (tickets k t there) [
+    | inl h ↦ elim (h.2.plans uuids s work) [
+      | inl same ↦ drawn_like h.0 t name (l.drawn k h.0 uuids s name bytes h.1 same.work own_has) same.drew
+      | inr new ↦ (new name bytes own_has).0
+    ]
+    | inr new ↦ absurd (new.no_plan uuids s work)
+  ]
+
+  plans_on : (k : ℕ) (t : Ticket) (uuids : List ℕ) (s : Swap) (name : BlobName) (bytes : Bytes) → fin.get v.tickets k ≡ Some t → t.work ≡ Deleting uuids (Some s) → Has s.own (name, bytes) → Present f v.blobs name → Has t.noted name
+  plans_on k t uuids s name bytes there work own_has p =
+      let before : Present f w.blobs name = was name (index_no_test t name (drawn_on k t uuids s name bytes there work own_has)) p in
+      elim (tickets k t there) [
+        | inl h ↦ elim (h.2.plans uuids s work) [
+          | inl same ↦ h.2.noted name (l.free.plans k h.0 uuids s name bytes h.1 same.work own_has before)
+          | inr new ↦ absurd ((new name bytes own_has).1 before)
+        ]
+        | inr new ↦ absurd (new.no_plan uuids s work)
+      ]
 
   pending_on : (o : ℕ) (op : Op) (s : ShardWork) → fin.get v.ops o ≡ Some op → Has op.shards s → s.state ≡ Pending → Present f v.blobs (ShardSnap s.ref.id s.number op.uuid) → ⊥
   pending_on o op s there m state p = elim (ops o op s there m (subst Waits (sym state) tt)) [
@@ -135,7 +177,7 @@ module _ (f : Formats) (w v : World) (l : IsFree f w)
   ]
   unlisted_on o op s g held list there m waits (inr b) reads in_list =
       unlisted_by op s g held list (ops o op s there m waits) (elim (tickets b.ticket b.t b.there) [
-        | inl h ↦ inr (record { ticket = b.ticket; t = h.0; there = h.1; out = h.2.out b.out; work = sym h.2.work ∙ b.work; base_is = sym h.2.base ∙ b.base_is })
+        | inl h ↦ inr (record { ticket = b.ticket; t = h.0; there = h.1; out = h.2.out b.out; work = h.2.work s.ref.id s.number b.work; base_is = sym h.2.base ∙ b.base_is })
         | inr new ↦ inl (new.base s.ref.id s.number g b.work b.base_is)
       ]) (reads_was s.ref.id s.number g held reads) in_list
 
@@ -143,16 +185,14 @@ module _ (f : Formats) (w v : World) (l : IsFree f w)
   pub framed_aside : IsFree f v
   framed_aside =
       record {
-        free = record { shards = shards_on; pending = pending_on; roots = roots_on; own_root = own; unlisted = unlisted_on; tests = tests.0; wrote = tests.1 };
-        no_deletes = λ k t uuids plan there work. elim (tickets k t there) [
-          | inl h ↦ l.no_deletes k h.0 uuids plan h.1 (sym h.2.work ∙ work)
-          | inr new ↦ new.no_delete uuids plan work
-        ];
+        free = record { shards = shards_on; plans = plans_on; pending = pending_on; roots = roots_on; own_root = own.0; unlisted = unlisted_on; tests = tests.0; wrote = tests.1 };
+        own_ids = own.1;
+        drawn = drawn_on;
         wrote_tests = tests.2;
       }
 
 module _ (f : Formats) (w v : World) (l : IsFree f w)
-    (tickets : (k : ℕ) (t : Ticket) → fin.get v.tickets k ≡ Some t → Came f w k t) (own : OwnRoots v.tickets)
+    (tickets : (k : ℕ) (t : Ticket) → fin.get v.tickets k ≡ Some t → Came f w k t) (own : Own v.tickets)
     (ops : (o : ℕ) (op : Op) (s : ShardWork) → fin.get v.ops o ≡ Some op → Has op.shards s → Waits s.state → Waited w op s ⊎ IsNewShard f w op s)
     (live : (index number g : ℕ) → IsLive v.root v.ops index number g → IsLive w.root w.ops index number g ⊎ ListsDone f w v index number g)
     (blobs : (name : BlobName) (b : Bytes) → At f v.blobs name b → At f w.blobs name b) (tests : Tests f v.blobs v.caller) where

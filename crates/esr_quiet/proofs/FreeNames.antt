@@ -6,7 +6,22 @@ use Rattle.esr_core.specs.World.{Shard, Ticket}
 use Rattle.esr_core.specs.Restores.{IsTestOf}
 use Rattle.esr_core.specs.Steps.{Drew, ShardCommits}
 
-drew_same : (t v : Ticket) (id : ℕ) → v.first ≡ t.first → v.drawn ≡ t.drawn → Drew v id → Drew t id
+-- the name is that of an index of a shard, under an id that the ticket drew
+pub record IsDrawnIndex (t : Ticket) (name : BlobName) : Type 0 where
+  pub index : ℕ
+  pub number : ℕ
+  pub id : ℕ
+  pub name_is : name ≡ ShardIndex index number id
+  pub drew : Drew t id
+
+pub drawn_like : (t v : Ticket) (name : BlobName) → IsDrawnIndex t name → ((id : ℕ) → Drew t id → Drew v id) → IsDrawnIndex v name
+drawn_like t v name h more = record { index = h.index; number = h.number; id = h.id; name_is = h.name_is; drew = more h.id h.drew }
+
+-- it is no test blob
+pub index_no_test : (t : Ticket) (name : BlobName) → IsDrawnIndex t name → (id : ℕ) → IsTestOf id name → ⊥
+index_no_test t name h id test = subst (IsTestOf id) h.name_is test
+
+pub drew_same : (t v : Ticket) (id : ℕ) → v.first ≡ t.first → v.drawn ≡ t.drawn → Drew v id → Drew t id
 drew_same t v id f d h = record { from = subst (λ n. n ≤ id) f h.from; below = subst (λ n. id < n) (λ j. f j + d j) h.below }
 
 -- a ticket of the same unit that drew as much commits the same
@@ -37,7 +52,7 @@ one_place t u (Part i k x p) a b = (i, k, a.0, b.0)
 one_place t u (TestMaster x) a b = absurd a
 one_place t u (TestNode x n) a b = absurd a
 
-none_drawn : (t : Ticket) (id : ℕ) → t.drawn ≡ 0 → Drew t id → ⊥
+pub none_drawn : (t : Ticket) (id : ℕ) → t.drawn ≡ 0 → Drew t id → ⊥
 none_drawn t id none h = let a : t.first ≤ id = h.from in let b : id < t.first + t.drawn = h.below in omega (arith, none, a, b)
 
 -- before its draw it may commit the snapshot of its shard alone

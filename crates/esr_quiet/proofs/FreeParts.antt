@@ -1,5 +1,5 @@
 -- What a step changes of tickets and ops, as far as what is free reads it.
-use Rattle.std.proofs.Common.{◌≡◌, ◌≢◌, ℕ, List, [], true, Option, Some, None, map, refl, sym, ap, ◌∙◌, subst, inl, inr}
+use Rattle.std.proofs.Common.{◌≡◌, ◌≢◌, ◌⊎◌, ℕ, ◌+◌, ◌<◌, ◌≤◌, List, [], true, Option, Some, None, map, refl, sym, ap, ◌∙◌, subst, inl, inr, arith}
 use Rattle.std.specs.Ordering.{nat_cmp}
 use Rattle.std.specs.FinMap.{FinMap}
 use Rattle.std.specs.FinMap as fin
@@ -9,14 +9,15 @@ use Rattle.esr_model.specs.Image.{Image, Blobs, At}
 use Rattle.esr_core.specs.World.{World, Op, ShardWork, Pending, Ticket, Caller}
 use Rattle.esr_core.specs.Generations.{DoneAt, IsLive}
 use Rattle.esr_core.specs.Ready.{Waits}
-use Rattle.esr_core.specs.Allowed.{SameBlobs}
+use Rattle.esr_core.specs.Steps.{Drew}
+use Rattle.esr_core.specs.Allowed.{Told, SameBlobs}
 use Rattle.esr_core.specs.After.{blobs_in}
 use Rattle.esr_core.proofs.Queues.{was_in, left_in}
 use Rattle.esr_core.proofs.Reading.{none_some, Has-mapped}
 use Rattle.esr_core.specs.Restores.{IsTestOf}
 use Rattle.esr_quiet.specs.Free.{AreOwnTests}
-use Rattle.esr_quiet.proofs.FreeFrame.{IsFree, Tests, OwnRoots, Follows, IsNewTicket, Came, Waited}
-use Rattle.esr_quiet.proofs.FreeNames.{commits_same}
+use Rattle.esr_quiet.proofs.FreeFrame.{IsFree, Tests, OwnRoots, OwnIds, Own, Follows, IsNewTicket, Came, Waited}
+use Rattle.esr_quiet.proofs.FreeNames.{drew_same, commits_same, none_drawn}
 
 -- ---- the blobs after a step
 
@@ -33,6 +34,11 @@ pub record Back (f : Formats) (now blobs : Blobs) : Type 0 where
 pub at_same : (f : Formats) (w : World) (image : Option Image) → SameBlobs w image → Back f (blobs_in image w.blobs) w.blobs
 at_same f w None same = record { were = λ name b h. h; tests = λ id name b test h. h }
 at_same f w (Some i) same = record { were = λ name b h. subst (λ x. At f x name b) same h; tests = λ id name b test h. subst (λ x. At f x name b) (sym same) h }
+
+-- what is told beside blobs that stay
+pub told_same : (w : World) (image : Option Image) (P : Blobs → Type 0) → ((blobs : Blobs) → P blobs → blobs ≡ w.blobs) → Told image P → SameBlobs w image
+told_same w None P same h = tt
+told_same w (Some x) P same h = same x.blobs h
 
 -- ---- test blobs
 
@@ -58,7 +64,7 @@ tests_none f blobs caller none empty =
 pub follows_same : (f : Formats) (w : World) (t v : Ticket) → v.work ≡ t.work → v.base ≡ t.base → (v.out ≡ true → t.out ≡ true) → ((name : BlobName) → Has t.noted name → Has v.noted name)
     → v.uuid ≡ t.uuid → v.first ≡ t.first → v.drawn ≡ t.drawn → v.raised ≡ t.raised → Follows f w t v
 follows_same f w t v work base out noted uuid first drawn raised =
-    record { work = work; base = base; out = out; noted = noted; commits = λ name h. inl (commits_same t v work uuid first drawn name h); raised = λ n e. inl (sym raised ∙ e) }
+    record { work = λ index number e. sym work ∙ e; plans = λ uuids s e. inl (record { work = sym work ∙ e; drew = λ id h. drew_same v t id (sym first) (sym drawn) h }); base = base; out = out; noted = noted; commits = λ name h. inl (commits_same t v work uuid first drawn name h); raised = λ n e. inl (sym raised ∙ e) }
 
 pub follows_itself : (f : Formats) (w : World) (t : Ticket) → Follows f w t t
 follows_itself f w t = follows_same f w t t refl refl (λ e. e) (λ name h. h) refl refl refl refl
@@ -79,26 +85,60 @@ module _ (f : Formats) (w : World) where
     | inr h ↦ came_all j u h.1
   ]
 
-module _ (tickets : FinMap nat_cmp Ticket) (own : OwnRoots tickets) where
-  pub own_insert : (k : ℕ) (v : Ticket) → ((n j : ℕ) (u : Ticket) → v.raised ≡ Some n → j ≢ k → fin.get tickets j ≡ Some u → u.raised ≡ Some n → ⊥) → OwnRoots (fin.insert tickets k v)
-  own_insert k v only i j n a b e h p q = elim (was_in tickets k v i a e) [
+module _ (tickets : FinMap nat_cmp Ticket) (own : Own tickets) where
+  roots_insert : (k : ℕ) (v : Ticket) → ((n j : ℕ) (u : Ticket) → v.raised ≡ Some n → j ≢ k → fin.get tickets j ≡ Some u → u.raised ≡ Some n → ⊥) → OwnRoots (fin.insert tickets k v)
+  roots_insert k v only i j n a b e h p q = elim (was_in tickets k v i a e) [
     | inl x ↦ elim (was_in tickets k v j b h) [
       | inl y ↦ x.0 ∙ sym y.0
       | inr y ↦ absurd (only n j b (ap (λ (t : Ticket). t.raised) x.1 ∙ p) y.0 y.1 q)
     ]
     | inr x ↦ elim (was_in tickets k v j b h) [
       | inl y ↦ absurd (only n i a (ap (λ (t : Ticket). t.raised) y.1 ∙ q) x.0 x.1 p)
-      | inr y ↦ own i j n a b x.1 y.1 p q
+      | inr y ↦ own.0 i j n a b x.1 y.1 p q
     ]
   ]
 
-  pub own_put : (k : ℕ) (t v : Ticket) → fin.get tickets k ≡ Some t → v.raised ≡ t.raised → OwnRoots (fin.insert tickets k v)
-  own_put k t v there same = own_insert k v (λ n j u is away e raised. away (own j k n u t e there raised (sym same ∙ is)))
+  ids_insert : (k : ℕ) (v : Ticket) → ((id j : ℕ) (u : Ticket) → Drew v id → j ≢ k → fin.get tickets j ≡ Some u → Drew u id → ⊥) → OwnIds (fin.insert tickets k v)
+  ids_insert k v only i j id a b e h p q = elim (was_in tickets k v i a e) [
+    | inl x ↦ elim (was_in tickets k v j b h) [
+      | inl y ↦ x.0 ∙ sym y.0
+      | inr y ↦ absurd (only id j b (subst (λ (t : Ticket). Drew t id) (sym x.1) p) y.0 y.1 q)
+    ]
+    | inr x ↦ elim (was_in tickets k v j b h) [
+      | inl y ↦ absurd (only id i a (subst (λ (t : Ticket). Drew t id) (sym y.1) q) x.0 x.1 p)
+      | inr y ↦ own.1 i j id a b x.1 y.1 p q
+    ]
+  ]
 
-  pub own_new : (k : ℕ) (v : Ticket) → v.raised ≡ None → OwnRoots (fin.insert tickets k v)
-  own_new k v none = own_insert k v (λ n j u is away e raised. none_some n (sym none ∙ is))
+  roots_put : (k : ℕ) (t v : Ticket) → fin.get tickets k ≡ Some t → v.raised ≡ t.raised → OwnRoots (fin.insert tickets k v)
+  roots_put k t v there same = roots_insert k v (λ n j u is away e raised. away (own.0 j k n u t e there raised (sym same ∙ is)))
+
+  ids_put : (k : ℕ) (t v : Ticket) → fin.get tickets k ≡ Some t → v.first ≡ t.first → v.drawn ≡ t.drawn → OwnIds (fin.insert tickets k v)
+  ids_put k t v there first drawn = ids_insert k v (λ id j u mine away e its. away (own.1 j k id u t e there its (drew_same t v id first drawn mine)))
+
+  pub own_put : (k : ℕ) (t v : Ticket) → fin.get tickets k ≡ Some t → v.raised ≡ t.raised → v.first ≡ t.first → v.drawn ≡ t.drawn → Own (fin.insert tickets k v)
+  own_put k t v there same first drawn = (roots_put k t v there same, ids_put k t v there first drawn)
+
+  -- it raises a root that no other has raised
+  pub own_raised : (k : ℕ) (t v : Ticket) → fin.get tickets k ≡ Some t → v.first ≡ t.first → v.drawn ≡ t.drawn
+      → ((n j : ℕ) (u : Ticket) → v.raised ≡ Some n → j ≢ k → fin.get tickets j ≡ Some u → u.raised ≡ Some n → ⊥) → Own (fin.insert tickets k v)
+  own_raised k t v there first drawn only = (roots_insert k v only, ids_put k t v there first drawn)
+
+  -- it draws ids above all that were drawn
+  pub own_drawn : (k : ℕ) (t v : Ticket) (next : ℕ) → fin.get tickets k ≡ Some t → v.raised ≡ t.raised → next ≤ v.first → ((j : ℕ) (u : Ticket) → fin.get tickets j ≡ Some u → u.first + u.drawn ≤ next) → Own (fin.insert tickets k v)
+  own_drawn k t v next there same above below =
+      (roots_put k t v there same, ids_insert k v (λ id j u mine away e its. let a : v.first ≤ id = mine.from in let b : id < u.first + u.drawn = its.below in let c : u.first + u.drawn ≤ next = below j u e in omega (arith, above, a, b, c)))
+
+  -- one that has neither raised nor drawn
+  pub own_new : (k : ℕ) (v : Ticket) → v.raised ≡ None → v.drawn ≡ 0 → Own (fin.insert tickets k v)
+  own_new k v none undrawn = (roots_insert k v (λ n j u is away e raised. none_some n (sym none ∙ is)), ids_insert k v (λ id j u mine away e its. none_drawn v id undrawn mine))
 
 -- ---- ops
+
+-- an op that a delete may have aborted
+pub was_shards : (op old : Op) (by : ℕ) → (op ≡ old) ⊎ (op ≡ record old { aborted = Some by }) → (op.shards ≡ old.shards) × (op.uuid ≡ old.uuid)
+was_shards op old by (inl e) = (ap (λ (x : Op). x.shards) e, ap (λ (x : Op). x.uuid) e)
+was_shards op old by (inr e) = (ap (λ (x : Op). x.shards) e, ap (λ (x : Op). x.uuid) e)
 
 pub waited_all : (w : World) (o : ℕ) (op : Op) (s : ShardWork) → fin.get w.ops o ≡ Some op → Has op.shards s → Waits s.state → Waited w op s
 waited_all w o op s there m waits = record { number = o; old = op; there = there; z = s; z_there = m; uuid = refl; index = refl; shard = refl; waits = waits; pending = λ e. e }

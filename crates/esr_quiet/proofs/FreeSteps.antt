@@ -1,27 +1,23 @@
 -- Each step keeps what is to be written free, where no call of the container fails.
-use Rattle.std.proofs.Common.{◌≡◌, ◌≢◌, ◌⊎◌, ℕ, zero, suc, ◌+◌, ◌<◌, List, [], ◌∷◌, ◌++◌, Bool, true, false, true≢false, Option, Some, None, map, refl, sym, ap, ◌∙◌, subst, inl, inr, arith}
+use Rattle.std.proofs.Common.{◌≡◌, ◌≢◌, ◌⊎◌, ℕ, zero, suc, ◌<◌, List, [], ◌∷◌, ◌++◌, Bool, true, false, Option, Some, None, map, refl, sym, ap, ◌∙◌, subst, inl, inr, arith}
 use Rattle.std.specs.Prelude.{if◌then◌else◌}
-use Rattle.std.specs.Ordering.{nat_cmp}
-use Rattle.std.specs.FinMap.{FinMap}
 use Rattle.std.specs.FinMap as fin
 use Rattle.esr_model.specs.Names.{BlobName, Latest, ShardSnap}
 use Rattle.esr_model.specs.Values.{Bytes, Has, ShardResult, ReadsBack, Formats}
 use Rattle.esr_model.specs.Shelf.{Shelved}
-use Rattle.esr_model.specs.Kept.{first_id}
 use Rattle.esr_model.specs.Image.{Image, Blobs, At, Present}
 use Rattle.esr_core.specs.World.{World, Op, ShardWork, ShardState, Pending, Shard, Deleting, Drop, Ticket, Swap, ReadState, Restored, NotRestored, Restoring, Reader, Caller, no_caller, HeldIn}
 use Rattle.esr_core.specs.Restores as restoring
-use Rattle.esr_core.specs.Restores.{IsTestOf, put_restore, read_more, restore_of, shard_handed, restore_opened}
+use Rattle.esr_core.specs.Restores.{IsTestOf, put_restore, read_more, restore_of, shard_handed}
 use Rattle.esr_core.specs.Generations.{IsLive}
 use Rattle.esr_core.specs.Ready.{Waits}
 use Rattle.esr_core.specs.Steps.{Largest, Removes, with_ticket, settled, given, shard_ticket, final_ticket}
 use Rattle.esr_core.specs.Turns.{plain_ticket, fails}
 use Rattle.esr_core.specs.Ids.{Law}
-use Rattle.esr_core.specs.Entry.{AskedIndex, Snapshot, AsksNoDelete, Restore, Given, GivenShard, GivenFinalize, GivenDrop, GivenRestore, GivenClone, GivenDelete, GivenCleanup, Why, Read, ReadBlob, RestoredShard, CommitTest, RemoveTests, ReadFails, Step, AskStep, CommitStep, LatestStep, ReadStep, DepotFault, Reply, WasDone, WasReplaced, WasFetched, WasAbsent, WasRemoved, HasEnded, Refused, Moment}
-use Rattle.esr_core.specs.After.{asked, asked_op, taken_by, taken_shard, taken_restore, taken_restore_shard, read_told, shard_over, read_over, caller_told, caller_wrote, with_given, change, committing, fetching, told_blob, done_of, done_by, failed_of, failed_by, is_stale, settled_of, dropped_of, tried, blobs_in, after}
+use Rattle.esr_core.specs.Entry.{AskedIndex, Snapshot, AsksNoClone, Restore, Given, GivenShard, GivenFinalize, GivenDrop, GivenRestore, GivenClone, GivenDelete, GivenCleanup, Why, Read, ReadBlob, RestoredShard, CommitTest, RemoveTests, ReadFails, Step, AskStep, CommitStep, LatestStep, ReadStep, DepotFault, Reply, WasDone, WasReplaced, WasFetched, WasAbsent, WasRemoved, HasEnded, Refused, Moment}
+use Rattle.esr_core.specs.After.{asked, asked_op, taken_by, taken_shard, taken_restore, taken_restore_shard, read_told, shard_over, read_over, caller_told, caller_wrote, with_given, committing, told_blob, done_of, done_by, failed_of, failed_by, is_stale, settled_of, dropped_of, blobs_in, after}
 use Rattle.esr_core.specs.Allowed as allowed
-use Rattle.esr_core.specs.Allowed.{latest_text, Told, SameBlobs, Adds, Accepts, Gives, Draws, Commits, Raises, Settles, Fails, Dones, Drops, IsOwnTest, RestoreAllows, OpeningRestore, NotListed, NamedByDelete, FullOfRestores, ReadAllows, ReadFound, ReadMissing, ReadFault, RestoringShard, ReaderFailing, CheckingAll, CheckFailing, VerifyAllows, DrawingTest, TestSpent, BeginningTest, BeginTestFails, CommittingTest, TestTaken, CommitTestFails, RemovingTests, RemoveTestsFails, VerifyingAll, VerifyFailing, Allows, Allowed}
-use Rattle.esr_core.proofs.PruneFrames.{prune_has_delete}
+use Rattle.esr_core.specs.Allowed.{latest_text, Told, SameBlobs, Adds, Gives, Commits, Settles, Fails, Dones, Drops, IsOwnTest, RestoreAllows, OpeningRestore, NotListed, NamedByDelete, FullOfRestores, ReadAllows, ReadFound, ReadMissing, ReadFault, RestoringShard, ReaderFailing, CheckingAll, CheckFailing, VerifyAllows, DrawingTest, TestSpent, BeginningTest, BeginTestFails, CommittingTest, TestTaken, CommitTestFails, RemovingTests, RemoveTestsFails, VerifyingAll, VerifyFailing, DoneAs, Allows, Allowed}
 use Rattle.esr_core.proofs.Accepting.{in_all}
 use Rattle.std.specs.Cmp.Lexicographic.{nat_list_cmp_total}
 use Rattle.esr_core.proofs.Adds.{text_one, at_kept, at_new, at_was}
@@ -30,17 +26,19 @@ use Rattle.esr_core.proofs.Histories.{deposed_stays}
 use Rattle.esr_core.proofs.LatestPut.{at_back}
 use Rattle.esr_core.proofs.Maps.{get_other, texts_same}
 use Rattle.esr_core.proofs.Moments.{moment, settled_plain}
+use Rattle.esr_core.proofs.NoClones.{AreNoClones}
 use Rattle.esr_core.proofs.Ops.{live_was}
 use Rattle.esr_core.proofs.Queues.{was_in}
 use Rattle.esr_core.proofs.Reading.{none_some, some_same, Has-left, Has-right}
 use Rattle.esr_core.proofs.TakeShard.{given_is, goes_on}
 use Rattle.esr_quiet.specs.Free.{AreOwnTests}
-use Rattle.esr_quiet.proofs.FreeFrame.{IsFree, Tests, Follows, IsNewTicket, Waited, IsNewShard, ListsDone, framed, framed_aside}
-use Rattle.esr_quiet.proofs.FreeNames.{commits_same, one_place, snap_alone, drawn_new, test_id_below}
-use Rattle.esr_quiet.proofs.FreeParts.{Were, Back, at_same, own_were, tests_was, tests_none, follows_same, came_all, came_put, came_new, own_insert, own_put, own_new, waited_all, WaitedBy, waited_as, waited_map, waited_left, live_left}
+use Rattle.esr_quiet.proofs.FreeFrame.{IsFree, own_all, Tests, IsNewTicket, Waited, IsNewShard, ListsDone, framed, framed_aside}
+use Rattle.esr_quiet.proofs.FreeNames.{one_place, snap_alone, test_id_below}
+use Rattle.esr_quiet.proofs.FreeParts.{Were, Back, at_same, told_same, own_were, tests_was, tests_none, follows_same, came_all, came_put, came_new, own_put, own_new, WaitedBy, waited_as, waited_map, waited_left, live_left}
 use Rattle.esr_quiet.proofs.FreeBlobs.{used_below, free_committed}
 use Rattle.esr_quiet.proofs.FreeEnds.{free_done, live_settled}
-use Rattle.esr_quiet.proofs.Maps.{nothing}
+use Rattle.esr_quiet.proofs.FreeTickets.{waited, kept, beside, called, elected, changed, ended, noted, finds, fetches, tries, ends, draws, raises}
+use Rattle.esr_quiet.proofs.FreeDeletes.{asks_delete, prunes}
 
 -- the blobs after `index.latest` is replaced
 latest_back : (f : Formats) (blobs now : Blobs) (bytes : Bytes) → now ≡ fin.insert blobs (f.names.text Latest) bytes → ReadsBack f.names Latest → Back f now blobs
@@ -56,116 +54,25 @@ fails_waits k z waits = elim (failed_is k z) [
   | inr h ↦ waited_as z (fails k z) h.2 waits
 ]
 
+-- a plan that isn't there yet
+unplanned : (uuids us : List ℕ) (s : Swap) → Deleting uuids None ≡ Deleting us (Some s) → ⊥
+unplanned uuids us s e = none_some s (same_plan e)
+  where
+    same_plan : {a b : List ℕ} {p q : Option Swap} → Deleting a p ≡ Deleting b q → p ≡ q
+    same_plan h = cc
+
 -- a ticket of no shard is new
-plain_new : (f : Formats) (w : World) (v : Ticket) → ((i n : ℕ) → v.work ≡ Shard i n → ⊥) → v.raised ≡ None → ((uuids : List ℕ) (plan : Option Swap) → v.work ≡ Deleting uuids plan → ⊥) → IsNewTicket f w v
-plain_new f w v no_shard unraised no_delete =
-    record { commits = λ name c p. let (i, n, work, same) = one_place v v name c c in no_shard i n work; unraised = unraised; base = λ i n g work e. absurd (no_shard i n work); no_delete = no_delete }
+plain_new : (f : Formats) (w : World) (v : Ticket) → ((i n : ℕ) → v.work ≡ Shard i n → ⊥) → v.raised ≡ None → ((uuids : List ℕ) (s : Swap) → v.work ≡ Deleting uuids (Some s) → ⊥) → IsNewTicket f w v
+plain_new f w v no_shard unraised no_plan =
+    record { commits = λ name c p. let (i, n, work, same) = one_place v v name c c in no_shard i n work; unraised = unraised; base = λ i n g work e. absurd (no_shard i n work); no_plan = no_plan }
 
 module _ (f : Formats) (w : World) (shelf : List Shelved) (law : Law f w shelf) (l : IsFree f w) where
-  waited : (o : ℕ) (op : Op) (s : ShardWork) → fin.get w.ops o ≡ Some op → Has op.shards s → Waits s.state → Waited w op s ⊎ IsNewShard f w op s
-  waited o op s there m waits = inl (waited_all w o op s there m waits)
-
-  -- ---- what is read stays
-
-  kept : (blobs : Blobs) → Back f blobs w.blobs → IsFree f (record w { blobs = blobs })
-  kept blobs back = framed f w (record w { blobs = blobs }) l (came_all f w) l.free.own_root waited (λ i n g h. inl h) back.were (tests_was f w l blobs back)
-
-  -- restores, their tickets and what who 0 has done may change, and more numbers be given
-  beside : (restores : FinMap nat_cmp Restoring) (readers : FinMap nat_cmp Reader) (next_op next_ticket : ℕ) (blobs : Blobs) → Were f blobs w.blobs → (caller : Caller) → Tests f blobs caller
-      → IsFree f (record w { restores = restores; readers = readers; next_op = next_op; next_ticket = next_ticket; blobs = blobs; caller = caller })
-  beside restores readers next_op next_ticket blobs were caller tests =
-      framed f w (record w { restores = restores; readers = readers; next_op = next_op; next_ticket = next_ticket; blobs = blobs; caller = caller }) l (came_all f w) l.free.own_root waited (λ i n g h. inl h) were tests
-
-  called : (blobs : Blobs) → Were f blobs w.blobs → (caller : Caller) → Tests f blobs caller → IsFree f (record w { blobs = blobs; caller = caller })
-  called blobs were caller tests = beside w.restores w.readers w.next_op w.next_ticket blobs were caller tests
-
-  elected : (blobs : Blobs) → Back f blobs w.blobs → IsFree f (record w { term = suc w.term; next_id = first_id (suc w.term); blobs = blobs })
-  elected blobs back = framed f w (record w { term = suc w.term; next_id = first_id (suc w.term); blobs = blobs }) l (came_all f w) l.free.own_root waited (λ i n g h. inl h) back.were (tests_was f w l blobs back)
-
-  -- ---- a ticket that goes on
-
-  put : (k : ℕ) (t v : Ticket) → fin.get w.tickets k ≡ Some t → Follows f w t v → v.raised ≡ t.raised → (blobs : Blobs) → Back f blobs w.blobs → IsFree f (record w { tickets = fin.insert w.tickets k v; blobs = blobs })
-  put k t v there like same blobs back =
-      framed f w (record w { tickets = fin.insert w.tickets k v; blobs = blobs }) l (came_put f w k t v there like) (own_put w.tickets l.free.own_root k t v there same) waited (λ i n g h. inl h) back.were (tests_was f w l blobs back)
-
-  changed : (k : ℕ) (t : Ticket) → fin.get w.tickets k ≡ Some t → (g : Ticket → Ticket) → Follows f w t (g t) → (g t).raised ≡ t.raised → (blobs : Blobs) → Back f blobs w.blobs → IsFree f (record (change w k g) { blobs = blobs })
-  changed k t there g like same blobs back = subst (λ o. IsFree f (record (with_given w k g o) { blobs = blobs })) (sym there) (put k t (g t) there like same blobs back)
-
-  ended : (t : Ticket) → Follows f w t (record t { out = false })
-  ended t = follows_same f w t (record t { out = false }) refl refl (λ e. absurd (true≢false (sym e))) (λ name h. h) refl refl refl refl
-
-  noted : (t : Ticket) (name : BlobName) (o : Option Bytes) → Follows f w t (committing name o t) × Has (committing name o t).noted name × ((committing name o t).raised ≡ t.raised)
-  noted t name None = (follows_same f w t (committing name None t) refl refl (λ e. e) (λ m h. inr h) refl refl refl refl, inl refl, refl)
-  noted t name (Some bytes) = (follows_same f w t (committing name (Some bytes) t) refl refl (λ e. e) (λ m h. inr h) refl refl refl refl, inl refl, refl)
-
-  finds : (k : ℕ) (t : Ticket) → fin.get w.tickets k ≡ Some t → (name : BlobName) (blobs : Blobs) → Back f blobs w.blobs → IsFree f (record (change w k (committing name None)) { blobs = blobs })
-  finds k t there name blobs back = let x = noted t name None in changed k t there (committing name None) x.0 x.2 blobs back
-
-  fetches : (k : ℕ) (t : Ticket) → fin.get w.tickets k ≡ Some t → (name : BlobName) (o : Option Bytes) (blobs : Blobs) → Back f blobs w.blobs → IsFree f (record (change w k (fetching name o)) { blobs = blobs })
-  fetches k t there name None blobs back = changed k t there (fetching name None) (follows_same f w t t refl refl (λ e. e) (λ m h. h) refl refl refl refl) refl blobs back
-  fetches k t there name (Some bytes) blobs back = changed k t there (fetching name (Some bytes)) (follows_same f w t (fetching name (Some bytes) t) refl refl (λ e. e) (λ m h. h) refl refl refl refl) refl blobs back
-
-  tries : (k : ℕ) (t : Ticket) → fin.get w.tickets k ≡ Some t → (blobs : Blobs) → Back f blobs w.blobs → IsFree f (record (tried w k) { blobs = blobs })
-  tries k t there blobs back =
-      changed k t there (λ (x : Ticket). record x { tried_latest = true }) (follows_same f w t (record t { tried_latest = true }) refl refl (λ e. e) (λ m h. h) refl refl refl refl) refl blobs back
-
-  ends : (k : ℕ) (t : Ticket) → fin.get w.tickets k ≡ Some t → (blobs : Blobs) → Back f blobs w.blobs → IsFree f (record (with_ticket w k (record t { out = false })) { blobs = blobs })
-  ends k t there blobs back = put k t (record t { out = false }) there (ended t) refl blobs back
-
-  -- what it draws is above all ids
-  draws : (k n : ℕ) (t : Ticket) → fin.get w.tickets k ≡ Some t → (blobs : Blobs) → Back f blobs w.blobs
-      → IsFree f (record (change w k (λ (x : Ticket). record x { first = w.next_id; drawn = n })) { next_id = w.next_id + n; blobs = blobs })
-  draws k n t there blobs back =
-      subst (λ o. IsFree f (record (with_given w k (λ (x : Ticket). record x { first = w.next_id; drawn = n }) o) { next_id = w.next_id + n; blobs = blobs })) (sym there)
-      (framed f w (record w { tickets = fin.insert w.tickets k drew; next_id = w.next_id + n; blobs = blobs }) l (came_put f w k t drew there like) (own_put w.tickets l.free.own_root k t drew there refl) waited (λ i m g h. inl h) back.were (tests_was f w l blobs back))
-    where
-      drew : Ticket
-      drew = record t { first = w.next_id; drawn = n }
-
-      like : Follows f w t (record t { first = w.next_id; drawn = n })
-      like =
-          record {
-            work = refl;
-            base = refl;
-            out = λ e. e;
-            noted = λ name h. h;
-            commits = λ name c. elim (drawn_new t w.next_id n name c) [ inl was ↦ inl was | inr above ↦ inr (λ p. above (law.ids.blobs name p)) ];
-            raised = λ m e. inl e;
-          }
-
-  -- what it raises is above all roots
-  raises : (k n : ℕ) (r : Raises f w k n) (blobs : Blobs) → Back f blobs w.blobs → IsFree f (record (change w k (λ (x : Ticket). record x { raised = Some w.pending })) { pending = suc w.pending; blobs = blobs })
-  raises k n r blobs back =
-      subst (λ o. IsFree f (record (with_given w k (λ (x : Ticket). record x { raised = Some w.pending }) o) { pending = suc w.pending; blobs = blobs })) (sym r.may.out.there)
-      (framed f w (record w { tickets = fin.insert w.tickets k (record r.may.t { raised = Some w.pending }); pending = suc w.pending; blobs = blobs }) l
-      (came_put f w k r.may.t (record r.may.t { raised = Some w.pending }) r.may.out.there like) (own_insert w.tickets l.free.own_root k (record r.may.t { raised = Some w.pending }) alone) waited (λ i m g h. inl h) back.were (tests_was f w l blobs back))
-    where
-      one : (m : ℕ) → ◌≡◌ {A = Option ℕ} (Some w.pending) (Some m) → w.pending ≡ m
-      one m e = some_same _ _ e
-
-      like : Follows f w r.may.t (record r.may.t { raised = Some w.pending })
-      like =
-          record {
-            work = refl;
-            base = refl;
-            out = λ e. e;
-            noted = λ name h. h;
-            commits = λ name c. inl (commits_same r.may.t (record r.may.t { raised = Some w.pending }) refl refl refl refl name c);
-            raised = λ m e. inr (λ p. let b : m < w.pending = law.lawful.sound.rooted.kept.begun m p in let same : w.pending ≡ m = one m e in omega (arith, b, same));
-          }
-
-      alone : (m j : ℕ) (u : Ticket) → Some w.pending ≡ Some m → j ≢ k → fin.get w.tickets j ≡ Some u → u.raised ≡ Some m → ⊥
-      alone m j u e away there raised =
-          let b : m < w.pending = (law.lawful.sound.rooted.tickets j u there).raised m raised in
-          let same : w.pending ≡ m = one m e in
-          omega (arith, b, same)
-
   -- ---- ops
 
   -- the shards of a new op are pending, under an id that is next
   asks : (name : Bytes) (indices : List AskedIndex) (time : ℕ) (blobs : Blobs) → Back f blobs w.blobs → IsFree f (record (asked w (Snapshot name indices time)) { blobs = blobs; caller = no_caller })
   asks name indices time blobs back =
-      framed f w (record (asked w (Snapshot name indices time)) { blobs = blobs; caller = no_caller }) l (came_all f w) l.free.own_root ops live back.were (tests_none f blobs no_caller refl refl)
+      framed f w (record (asked w (Snapshot name indices time)) { blobs = blobs; caller = no_caller }) l (came_all f w) (own_all f w l) ops live back.were (tests_none f blobs no_caller refl refl)
     where
       all_pending_new : (s : ShardWork) → Has (asked_op w name indices time).shards s → s.state ≡ Pending
       all_pending_new s m = (in_all w indices (suc w.next_id) s m).0
@@ -180,7 +87,7 @@ module _ (f : Formats) (w : World) (shelf : List Shelved) (law : Law f w shelf) 
       ops : (o : ℕ) (op : Op) (s : ShardWork) → fin.get (fin.insert w.ops w.next_op (asked_op w name indices time)) o ≡ Some op → Has op.shards s → Waits s.state → Waited w op s ⊎ IsNewShard f w op s
       ops o op s e m waits = elim (was_in w.ops w.next_op (asked_op w name indices time) o op e) [
         | inl h ↦ inr (subst (λ (x : Op). IsNewShard f w x s) h.1 (new_shard s))
-        | inr h ↦ waited o op s h.1 m waits
+        | inr h ↦ waited f w shelf law l o op s h.1 m waits
       ]
 
       live : (i n g : ℕ) → IsLive w.root (fin.insert w.ops w.next_op (asked_op w name indices time)) i n g → IsLive w.root w.ops i n g ⊎ ListsDone f w (asked w (Snapshot name indices time)) i n g
@@ -191,16 +98,16 @@ module _ (f : Formats) (w : World) (shelf : List Shelved) (law : Law f w shelf) 
       ]
 
   -- a new ticket of no shard
-  gives_plain : (v : Ticket) → IsNewTicket f w v → (blobs : Blobs) → Back f blobs w.blobs → IsFree f (record w { tickets = fin.insert w.tickets w.next_ticket v; next_ticket = suc w.next_ticket; blobs = blobs })
-  gives_plain v new blobs back =
-      framed f w (record w { tickets = fin.insert w.tickets w.next_ticket v; next_ticket = suc w.next_ticket; blobs = blobs }) l (came_new f w w.next_ticket v new) (own_new w.tickets l.free.own_root w.next_ticket v new.unraised) waited (λ i n g h. inl h) back.were (tests_was f w l blobs back)
+  gives_plain : (v : Ticket) → IsNewTicket f w v → v.drawn ≡ 0 → (blobs : Blobs) → Back f blobs w.blobs → IsFree f (record w { tickets = fin.insert w.tickets w.next_ticket v; next_ticket = suc w.next_ticket; blobs = blobs })
+  gives_plain v new undrawn blobs back =
+      framed f w (record w { tickets = fin.insert w.tickets w.next_ticket v; next_ticket = suc w.next_ticket; blobs = blobs }) l (came_new f w w.next_ticket v new) (own_new w.tickets (own_all f w l) w.next_ticket v new.unraised undrawn) (waited f w shelf law l) (λ i n g h. inl h) back.were (tests_was f w l blobs back)
 
   -- a pending shard is given, on the largest live generation
   gives_shard : (o : ℕ) (op : Op) (s : ShardWork) (base : Option ℕ) → fin.get w.ops o ≡ Some op → Has op.shards s → s.state ≡ Pending → Largest w s.ref.id s.number base → (blobs : Blobs) → Back f blobs w.blobs
       → IsFree f (record w { ops = fin.insert w.ops o (record op { shards = map (given w.next_ticket s.ref.id s.number) op.shards }); tickets = fin.insert w.tickets w.next_ticket (shard_ticket w o op s base); next_ticket = suc w.next_ticket; blobs = blobs })
   gives_shard o op s base there m pending largest blobs back =
       framed f w (record w { ops = fin.insert w.ops o (record op { shards = map g op.shards }); tickets = fin.insert w.tickets w.next_ticket (shard_ticket w o op s base); next_ticket = suc w.next_ticket; blobs = blobs }) l
-      (came_new f w w.next_ticket (shard_ticket w o op s base) new) (own_new w.tickets l.free.own_root w.next_ticket (shard_ticket w o op s base) refl)
+      (came_new f w w.next_ticket (shard_ticket w o op s base) new) (own_new w.tickets (own_all f w l) w.next_ticket (shard_ticket w o op s base) refl refl)
       (λ p q z e z_there waits. inl (waited_map w o op (record op { shards = map g op.shards }) g there refl refl by p q z e z_there waits))
       (λ i n gen h. inl (live_was f (HeldIn f w) w.root w.ops o op there g (goes_on w.next_ticket s.ref.id s.number) op.failed i n gen h))
       back.were (tests_was f w l blobs back)
@@ -228,7 +135,7 @@ module _ (f : Formats) (w : World) (shelf : List Shelved) (law : Law f w shelf) 
       on None h gen e = absurd (none_some gen e)
       on (Some x) h gen e = subst (IsLive w.root w.ops s.ref.id s.number) (some_same _ _ e) h.0
 
-      never : (uuids : List ℕ) (plan : Option Swap) → Shard s.ref.id s.number ≡ Deleting uuids plan → ⊥
+      never : (uuids : List ℕ) (plan : Swap) → Shard s.ref.id s.number ≡ Deleting uuids (Some plan) → ⊥
       never uuids plan e = cc
 
       new : IsNewTicket f w (shard_ticket w o op s base)
@@ -240,36 +147,38 @@ module _ (f : Formats) (w : World) (shelf : List Shelved) (law : Law f w shelf) 
                 l.free.pending o op s there m pending (subst (Present f w.blobs) (is ∙ (λ j. ShardSnap (sym same.0 j) (sym same.1 j) op.uuid)) p);
             unraised = refl;
             base = λ i n gen work e. let same = shard_same work in subst (λ (p : ℕ × ℕ). IsLive w.root w.ops p.0 p.1 gen) (λ j. (same.0 j, same.1 j)) (on base largest gen e);
-            no_delete = never;
+            no_plan = never;
           }
 
-  gives : w.deletes ≡ fin.empty → (o : ℕ) (unit : Given) → Gives f w o unit → (blobs : Blobs) → Back f blobs w.blobs → IsFree f (record (taken_by f w o unit (fin.get w.ops o)) { blobs = blobs })
-  gives none o (GivenShard index number base) g blobs back =
+  gives : (o : ℕ) (unit : Given) → Gives f w o unit → (blobs : Blobs) → Back f blobs w.blobs → IsFree f (record (taken_by f w o unit (fin.get w.ops o)) { blobs = blobs })
+  gives o (GivenShard index number base) g blobs back =
       subst (λ x. IsFree f (record (taken_by f w o (GivenShard index number base) x) { blobs = blobs })) (sym g.ready.op_there)
       (subst (λ x. IsFree f (record (taken_shard w o g.op base x) { blobs = blobs })) (sym g.found) (gives_shard o g.op g.s base g.ready.op_there g.ready.s_there g.ready.pending g.largest blobs back))
-  gives none o (GivenFinalize info results) g blobs back =
+  gives o (GivenFinalize info results) g blobs back =
       subst (λ x. IsFree f (record (taken_by f w o (GivenFinalize info results) x) { blobs = blobs })) (sym g.ready.op_there)
-      (gives_plain (final_ticket f w o g.op results) (plain_new f w (final_ticket f w o g.op results) (λ i n e. cc) refl (λ uuids plan e. cc)) blobs back)
-  gives none o (GivenRestore index number uuid) g blobs back =
+      (gives_plain (final_ticket f w o g.op results) (plain_new f w (final_ticket f w o g.op results) (λ i n e. cc) refl (λ uuids plan e. cc)) refl blobs back)
+  gives o (GivenRestore index number uuid) g blobs back =
       subst (λ x. IsFree f (record (taken_restore w o index number x) { blobs = blobs })) (sym g.ready.there)
       (subst (λ x. IsFree f (record (taken_restore_shard w o g.r x) { blobs = blobs })) (sym g.found)
-      (beside (shard_handed w o g.r g.s).restores (shard_handed w o g.r g.s).readers w.next_op (suc w.next_ticket) blobs back.were w.caller (tests_was f w l blobs back)))
-  gives none o (GivenClone index number source base) g blobs back = absurd g
-  gives none o (GivenDelete uuids) g blobs back = absurd (nothing w.deletes o g.0 none g.1.there)
-  gives none o GivenCleanup g blobs back = absurd g
-  gives none o GivenDrop g blobs back = dropping (fin.get w.ops o)
+      (beside f w shelf law l (shard_handed w o g.r g.s).restores (shard_handed w o g.r g.s).readers w.next_op (suc w.next_ticket) blobs back.were w.caller (tests_was f w l blobs back)))
+  gives o (GivenClone index number source base) g blobs back =
+      subst (λ x. IsFree f (record (taken_by f w o (GivenClone index number source base) x) { blobs = blobs })) (sym g.ready.op_there)
+      (subst (λ x. IsFree f (record (taken_shard w o g.op base x) { blobs = blobs })) (sym g.found) (gives_shard o g.op g.s base g.ready.op_there g.ready.s_there g.ready.pending g.largest blobs back))
+  gives o (GivenDelete uuids) g blobs back = gives_plain (plain_ticket w o (Deleting uuids None)) (plain_new f w (plain_ticket w o (Deleting uuids None)) (λ i n e. cc) refl (unplanned uuids)) refl blobs back
+  gives o GivenCleanup g blobs back = absurd g
+  gives o GivenDrop g blobs back = dropping (fin.get w.ops o)
     where
       dropping : (found : Option Op) → IsFree f (record (taken_by f w o GivenDrop found) { blobs = blobs })
-      dropping None = gives_plain (plain_ticket w o Drop) (plain_new f w (plain_ticket w o Drop) (λ i n e. cc) refl (λ uuids plan e. cc)) blobs back
-      dropping (Some op) = gives_plain (plain_ticket w o Drop) (plain_new f w (plain_ticket w o Drop) (λ i n e. cc) refl (λ uuids plan e. cc)) blobs back
+      dropping None = gives_plain (plain_ticket w o Drop) (plain_new f w (plain_ticket w o Drop) (λ i n e. cc) refl (λ uuids plan e. cc)) refl blobs back
+      dropping (Some op) = gives_plain (plain_ticket w o Drop) (plain_new f w (plain_ticket w o Drop) (λ i n e. cc) refl (λ uuids plan e. cc)) refl blobs back
 
   -- ---- ends
 
   fails_op : (k : ℕ) (t : Ticket) → fin.get w.tickets k ≡ Some t → (o : Option Op) → fin.get w.ops t.op ≡ o → (blobs : Blobs) → Back f blobs w.blobs → IsFree f (record (failed_by w k t o) { blobs = blobs })
-  fails_op k t there None e blobs back = kept blobs back
+  fails_op k t there None e blobs back = kept f w shelf law l blobs back
   fails_op k t there (Some op) e blobs back =
       framed f w (record w { ops = fin.insert w.ops t.op (record op { shards = map (fails k) op.shards; failed = true }); tickets = fin.insert w.tickets k (record t { out = false }); blobs = blobs }) l
-      (came_put f w k t (record t { out = false }) there (ended t)) (own_put w.tickets l.free.own_root k t (record t { out = false }) there refl)
+      (came_put f w k t (record t { out = false }) there (ended f w shelf law l t)) (own_put w.tickets (own_all f w l) k t (record t { out = false }) there refl refl refl)
       (λ p q z h z_there waits. inl (waited_map w t.op op (record op { shards = map (fails k) op.shards; failed = true }) (fails k) e refl refl (λ x x_there x_waits. fails_waits k x x_waits) p q z h z_there waits))
       (λ i n g h. inl (live_was f (HeldIn f w) w.root w.ops t.op op e (fails k) (failed_goes k) true i n g h))
       back.were (tests_was f w l blobs back)
@@ -278,7 +187,7 @@ module _ (f : Formats) (w : World) (shelf : List Shelved) (law : Law f w shelf) 
   fails_step k c blobs back = subst (λ x. IsFree f (record (failed_of w k x) { blobs = blobs })) (sym c.out.there) (by (is_stale w c.t c.t.work))
     where
       by : (b : Bool) → IsFree f (record (if b then with_ticket w k (record c.t { out = false }) else failed_by w k c.t (fin.get w.ops c.t.op)) { blobs = blobs })
-      by true = ends k c.t c.out.there blobs back
+      by true = ends f w shelf law l k c.t c.out.there blobs back
       by false = fails_op k c.t c.out.there (fin.get w.ops c.t.op) refl blobs back
 
   settles_step : (k : ℕ) (s : Settles f w k) (blobs : Blobs) → Back f blobs w.blobs → IsFree f (record (settled_of f w k (fin.get w.tickets k)) { blobs = blobs })
@@ -286,7 +195,7 @@ module _ (f : Formats) (w : World) (shelf : List Shelved) (law : Law f w shelf) 
       subst (λ (x : World). IsFree f (record x { blobs = blobs })) (sym (settled_plain f w k s))
       (framed f w (record (settled w k s.t s.n s.s.root) { deletes = fin.remove w.deletes s.t.op; blobs = blobs }) l
       (came_put f w k s.t (record s.t { settled = true }) s.may.out.there (follows_same f w s.t (record s.t { settled = true }) refl refl (λ e. e) (λ name h. h) refl refl refl refl))
-      (own_put w.tickets l.free.own_root k s.t (record s.t { settled = true }) s.may.out.there refl)
+      (own_put w.tickets (own_all f w l) k s.t (record s.t { settled = true }) s.may.out.there refl refl refl)
       (λ p q z h z_there waits. inl (waited_left w s.t.op p q z h z_there waits))
       (λ i n g h. inl (live_settled f w shelf law k s i n g h))
       back.were (tests_was f w l blobs back))
@@ -295,7 +204,7 @@ module _ (f : Formats) (w : World) (shelf : List Shelved) (law : Law f w shelf) 
   drops_step k d blobs back =
       subst (λ x. IsFree f (record (dropped_of w k x) { blobs = blobs })) (sym d.may.out.there)
       (framed f w (record w { ops = fin.remove w.ops d.may.t.op; deletes = fin.remove w.deletes d.may.t.op; tickets = fin.insert w.tickets k (record d.may.t { out = false }); blobs = blobs }) l
-      (came_put f w k d.may.t (record d.may.t { out = false }) d.may.out.there (ended d.may.t)) (own_put w.tickets l.free.own_root k d.may.t (record d.may.t { out = false }) d.may.out.there refl)
+      (came_put f w k d.may.t (record d.may.t { out = false }) d.may.out.there (ended f w shelf law l d.may.t)) (own_put w.tickets (own_all f w l) k d.may.t (record d.may.t { out = false }) d.may.out.there refl refl refl)
       (λ p q z h z_there waits. inl (waited_left w d.may.t.op p q z h z_there waits))
       (λ i n g h. inl (live_left w.root w.ops d.may.t.op i n g h))
       back.were (tests_was f w l blobs back))
@@ -303,17 +212,17 @@ module _ (f : Formats) (w : World) (shelf : List Shelved) (law : Law f w shelf) 
   -- ---- what is read
 
   tells : (k : ℕ) (name : BlobName) (bytes : Option Bytes) (q : Option Reader) (blobs : Blobs) → Back f blobs w.blobs → IsFree f (record (read_told w k name bytes q) { blobs = blobs })
-  tells k name bytes None blobs back = kept blobs back
-  tells k name None (Some q) blobs back = kept blobs back
-  tells k name (Some b) (Some q) blobs back = beside w.restores (fin.insert w.readers k (read_more q name b)) w.next_op w.next_ticket blobs back.were w.caller (tests_was f w l blobs back)
+  tells k name bytes None blobs back = kept f w shelf law l blobs back
+  tells k name None (Some q) blobs back = kept f w shelf law l blobs back
+  tells k name (Some b) (Some q) blobs back = beside f w shelf law l w.restores (fin.insert w.readers k (read_more q name b)) w.next_op w.next_ticket blobs back.were w.caller (tests_was f w l blobs back)
 
   ends_shard : (k : ℕ) (state : ReadState) (q : Reader) (r : Option Restoring) (blobs : Blobs) → Back f blobs w.blobs → IsFree f (record (shard_over w k state q r) { blobs = blobs })
-  ends_shard k state q None blobs back = kept blobs back
+  ends_shard k state q None blobs back = kept f w shelf law l blobs back
   ends_shard k state q (Some r) blobs back =
-      beside (put_restore w.restores q.op (record r { shards = map (restoring.ended k state) r.shards })) (fin.insert w.readers k (record q { out = false })) w.next_op w.next_ticket blobs back.were w.caller (tests_was f w l blobs back)
+      beside f w shelf law l (put_restore w.restores q.op (record r { shards = map (restoring.ended k state) r.shards })) (fin.insert w.readers k (record q { out = false })) w.next_op w.next_ticket blobs back.were w.caller (tests_was f w l blobs back)
 
   ends_read : (k : ℕ) (state : ReadState) (q : Option Reader) (blobs : Blobs) → Back f blobs w.blobs → IsFree f (record (read_over w k state q) { blobs = blobs })
-  ends_read k state None blobs back = kept blobs back
+  ends_read k state None blobs back = kept f w shelf law l blobs back
   ends_read k state (Some q) blobs back = ends_shard k state q (fin.get w.restores q.op) blobs back
 
   -- ---- a verification
@@ -321,7 +230,7 @@ module _ (f : Formats) (w : World) (shelf : List Shelved) (law : Law f w shelf) 
   -- no blob has the id that it draws
   draws_test : (blobs : Blobs) → Back f blobs w.blobs → IsFree f (record w { next_id = suc w.next_id; blobs = blobs; caller = record w.caller { drawn = Some w.next_id } })
   draws_test blobs back =
-      framed f w (record w { next_id = suc w.next_id; blobs = blobs; caller = record w.caller { drawn = Some w.next_id } }) l (came_all f w) l.free.own_root waited (λ i n g h. inl h) back.were (new, (tests_was f w l blobs back).1, l.wrote_tests)
+      framed f w (record w { next_id = suc w.next_id; blobs = blobs; caller = record w.caller { drawn = Some w.next_id } }) l (came_all f w) (own_all f w l) (waited f w shelf law l) (λ i n g h. inl h) back.were (new, (tests_was f w l blobs back).1, l.wrote_tests)
     where
       new : AreOwnTests f blobs (record w.caller { drawn = Some w.next_id })
       new id name drawn test p =
@@ -332,7 +241,7 @@ module _ (f : Formats) (w : World) (shelf : List Shelved) (law : Law f w shelf) 
   commits_test : (name : BlobName) (bytes : Bytes) → IsOwnTest f w name → (blobs : Blobs) → Adds f w name bytes blobs
       → IsFree f (record w { doomed = name ∷ w.doomed; blobs = blobs; caller = record w.caller { committed = name ∷ w.caller.committed; wrote = (name, bytes) ∷ w.caller.wrote } })
   commits_test name bytes own blobs adds =
-      framed_aside f w (record w { doomed = name ∷ w.doomed; blobs = blobs; caller = record w.caller { committed = name ∷ w.caller.committed; wrote = (name, bytes) ∷ w.caller.wrote } }) l (came_all f w) l.free.own_root waited (λ i n g h. inl h)
+      framed_aside f w (record w { doomed = name ∷ w.doomed; blobs = blobs; caller = record w.caller { committed = name ∷ w.caller.committed; wrote = (name, bytes) ∷ w.caller.wrote } }) l (came_all f w) (own_all f w l) (waited f w shelf law l) (λ i n g h. inl h)
       (λ m b no_test h. elim (was m b h) [ inl e ↦ absurd (no_test own.id (subst (IsTestOf own.id) (sym e) own.test)) | inr old ↦ old ]) (
         λ id m drawn test p. elim (was m p.0 p.1) [ inl e ↦ inl (sym e) | inr old ↦ inr (l.free.tests id m drawn test (p.0, old)) ],
         λ m b h left. elim h [
@@ -350,7 +259,7 @@ module _ (f : Formats) (w : World) (shelf : List Shelved) (law : Law f w shelf) 
 
 -- ---- each answer, where the image is told
 
-module _ (f : Formats) (size : ℕ) (w : World) (shelf : List Shelved) (law : Law f w shelf) (l : IsFree f w) (none_open : w.deletes ≡ fin.empty) where
+module _ (f : Formats) (size : ℕ) (w : World) (shelf : List Shelved) (law : Law f w shelf) (l : IsFree f w) (none_copies : AreNoClones w.ops) where
   commits : (k : ℕ) (name : BlobName) (image : Option Image) (c : Commits f w k name) → Told image (Adds f w name c.bytes) → (i : Image) → image ≡ Some i → IsFree f (after f w (moment k (CommitStep name) WasDone image))
   commits k name None c adds i told = absurd (none_some i told)
   commits k name (Some x) c adds i told =
@@ -358,24 +267,19 @@ module _ (f : Formats) (size : ℕ) (w : World) (shelf : List Shelved) (law : La
       let n = noted f w shelf law l c.t name o in
       subst (λ found. IsFree f (record (with_given w k (committing name (fin.get x.blobs (f.names.text name))) found) { blobs = x.blobs })) (sym c.out.there)
       (subst (λ b. IsFree f (record w { blobs = b; tickets = fin.insert w.tickets k (committing name (fin.get x.blobs (f.names.text name)) c.t) })) (sym adds.1)
-      (free_committed f w shelf law l k c.t c.out name c.bytes c.may c.named adds.0 (committing name (fin.get x.blobs (f.names.text name)) c.t) n.0 n.1 n.2))
+      (free_committed f w shelf law l k c.t c.out name c.bytes c.may c.named adds.0 (committing name (fin.get x.blobs (f.names.text name)) c.t) n.0 n.1 n.2 n.3 n.4))
 
   replaces : (k : ℕ) (image : Option Image) (t : Ticket) → fin.get w.tickets k ≡ Some t → (n : ℕ) → ReadsBack f.names Latest → Told image (λ blobs. blobs ≡ fin.insert w.blobs (f.names.text Latest) (latest_text n)) → (i : Image) → image ≡ Some i
       → IsFree f (after f w (moment k LatestStep WasReplaced image))
   replaces k None t there n named puts i told = absurd (none_some i told)
   replaces k (Some x) t there n named puts i told = tries f w shelf law l k t there x.blobs (latest_back f w.blobs x.blobs (latest_text n) puts named)
 
-  -- what is told beside blobs that stay
-  told_same : (image : Option Image) (P : Blobs → Type 0) → ((blobs : Blobs) → P blobs → blobs ≡ w.blobs) → Told image P → SameBlobs w image
-  told_same None P same h = tt
-  told_same (Some x) P same h = same x.blobs h
-
   does : (k : ℕ) (r : ShardResult) (image : Option Image) → Dones f size w k r image → SameBlobs w image → (i : Image) → image ≡ Some i → IsFree f (record (done_of w k r (fin.get w.tickets k)) { blobs = blobs_in image w.blobs })
   does k r None d same i told = absurd (none_some i told)
   does k r (Some x) d same i told =
       subst (λ o. IsFree f (record (done_of w k r o) { blobs = x.blobs })) (sym d.out.there)
       (subst (λ o. IsFree f (record (done_by w k r d.t o) { blobs = x.blobs })) (sym d.op_there)
-      (free_done f size w shelf law l k d.t d.out r d.is d.op d.op_there d.done x.blobs (at_same f w (Some x) same)))
+      (free_done f size w shelf law l k d.t d.out r d.is d.op d.op_there (subst (DoneAs f size d.t r) (sym d.source_is ∙ none_copies d.t.op d.op d.op_there) d.done) x.blobs (at_same f w (Some x) same)))
 
   still : (image : Option Image) → SameBlobs w image → IsFree f (record w { blobs = blobs_in image w.blobs })
   still image same = kept f w shelf law l (blobs_in image w.blobs) (at_same f w image same)
@@ -447,43 +351,44 @@ module _ (f : Formats) (size : ℕ) (w : World) (shelf : List Shelved) (law : La
   verifies read reply image calm i told (BeginningTest name im own same) = still im same
   verifies read reply image calm i told (BeginTestFails name im own same) = absurd (calm refl)
   verifies read reply image calm i told (CommittingTest name bytes im own new adds) = adds_test name bytes im i told own adds
-  verifies read reply image calm i told (TestTaken name im own found) = still im (told_same im (λ blobs. Present f w.blobs name × (blobs ≡ w.blobs)) (λ blobs h. h.1) found)
+  verifies read reply image calm i told (TestTaken name im own found) = still im (told_same w im (λ blobs. Present f w.blobs name × (blobs ≡ w.blobs)) (λ blobs h. h.1) found)
   verifies read reply image calm i told (CommitTestFails name bytes im own leaves) = absurd (calm refl)
   verifies read reply image calm i told (RemovingTests names im may left) = removes_tests names im i told left
   verifies read reply image calm i told (RemoveTestsFails names im may left) = absurd (calm refl)
   verifies read reply image calm i told (VerifyingAll im done same) = anew im same no_caller refl refl
   verifies read reply image calm i told (VerifyFailing why im begun same) = anew im same no_caller refl refl
 
-  free_by : (who : ℕ) (step : Step) (reply : Reply) (image : Option Image) → reply ≢ Refused DepotFault → AsksNoDelete step → (i : Image) → image ≡ Some i → Allows f size w who step reply image → IsFree f (after f w (moment who step reply image))
+  free_by : (who : ℕ) (step : Step) (reply : Reply) (image : Option Image) → reply ≢ Refused DepotFault → AsksNoClone step → (i : Image) → image ≡ Some i → Allows f size w who step reply image → IsFree f (after f w (moment who step reply image))
   free_by who step reply image calm unasked i told (allowed.Accepting name indices time o im acc same) = asks f w shelf law l name indices time (blobs_in im w.blobs) (at_same f w im same)
   free_by who step reply image calm unasked i told (allowed.GivingNothing im none same) = still im same
-  free_by who step reply image calm unasked i told (allowed.Giving k o unit im is lowest g same) = gives f w shelf law l none_open o unit g (blobs_in im w.blobs) (at_same f w im same)
-  free_by who step reply image calm unasked i told (allowed.Drawing k n first im d same) = draws f w shelf law l k n d.may.t d.may.out.there (blobs_in im w.blobs) (at_same f w im same)
+  free_by who step reply image calm unasked i told (allowed.Giving k o unit im is lowest g same) = gives f w shelf law l o unit g (blobs_in im w.blobs) (at_same f w im same)
+  free_by who step reply image calm unasked i told (allowed.Drawing k n first im d same) = draws f w shelf law l k n d.may.t d.may.out.there d.may.shard (blobs_in im w.blobs) (at_same f w im same)
   free_by who step reply image calm unasked i told (allowed.Beginning k name im c same) = still im same
   free_by who step reply image calm unasked i told (allowed.BeginningLatest k im c same) = still im same
   free_by who step reply image calm unasked i told (allowed.Committing k name im c adds) = commits k name im c adds i told
   free_by who step reply image calm unasked i told (allowed.Finding k name im c found) =
-      finds f w shelf law l k c.t c.out.there name (blobs_in im w.blobs) (at_same f w im (told_same im (λ blobs. Present f w.blobs name × (blobs ≡ w.blobs)) (λ blobs h. h.1) found))
+      finds f w shelf law l k c.t c.out.there name (blobs_in im w.blobs) (at_same f w im (told_same w im (λ blobs. Present f w.blobs name × (blobs ≡ w.blobs)) (λ blobs h. h.1) found))
   free_by who step reply image calm unasked i told (allowed.Replacing k im c named puts) = replaces k im c.t c.out.there c.n named puts i told
   free_by who step reply image calm unasked i told (allowed.Fetching k name im g found) =
       fetches f w shelf law l k g.t g.out.there name (told_blob f im name) (blobs_in im w.blobs)
-      (at_same f w im (told_same im (λ blobs. (bytes : Bytes) × (fin.get w.blobs (f.names.text name) ≡ Some bytes) × (blobs ≡ w.blobs)) (λ blobs h. h.2) found))
-  free_by who step reply image calm unasked i told (allowed.Missing k name im g found) = still im (told_same im (λ blobs. (fin.get w.blobs (f.names.text name) ≡ None) × (blobs ≡ w.blobs)) (λ blobs h. h.1) found)
+      (at_same f w im (told_same w im (λ blobs. (bytes : Bytes) × (fin.get w.blobs (f.names.text name) ≡ Some bytes) × (blobs ≡ w.blobs)) (λ blobs h. h.2) found))
+  free_by who step reply image calm unasked i told (allowed.Missing k name im g found) = still im (told_same w im (λ blobs. (fin.get w.blobs (f.names.text name) ≡ None) × (blobs ≡ w.blobs)) (λ blobs h. h.1) found)
   free_by who step reply image calm unasked i told (allowed.Listing k im t out same) = still im same
   free_by who step reply image calm unasked i told (allowed.Raising k n im r same) = raises f w shelf law l k n r (blobs_in im w.blobs) (at_same f w im same)
   free_by who step reply image calm unasked i told (allowed.Settling k im s same) = settles_step f w shelf law l k s (blobs_in im w.blobs) (at_same f w im same)
   free_by who step reply image calm unasked i told (allowed.Doing k r im d same) = does k r im d same i told
   free_by who step reply image calm unasked i told (allowed.Failing k why im c same) = fails_step f w shelf law l k c (blobs_in im w.blobs) (at_same f w im same)
   free_by who step reply image calm unasked i told (allowed.Finishing k im c same) =
-      changed f w shelf law l k c.t c.out.there (λ (t : Ticket). record t { out = false }) (ended f w shelf law l c.t) refl (blobs_in im w.blobs) (at_same f w im same)
+      changed f w shelf law l k c.t c.out.there (λ (t : Ticket). record t { out = false }) (ended f w shelf law l c.t) refl refl refl (blobs_in im w.blobs) (at_same f w im same)
   free_by who step reply image calm unasked i told (allowed.Dropping k im c same) = drops_step f w shelf law l k c (blobs_in im w.blobs) (at_same f w im same)
   free_by who step reply image calm unasked i told (allowed.Electing im room same) = elected f w shelf law l (blobs_in im w.blobs) (at_same f w im same)
   free_by who step reply image calm unasked i told (allowed.Looking im same) = anew im same (record no_caller { looked = true }) refl refl
   free_by who step reply image calm unasked i told (allowed.AskingRestore name place rep im h same) = asks_restore name place rep im h same
-  free_by who step reply image calm unasked i told (allowed.AskingDelete names rep im h same) = absurd (unasked names refl)
+  free_by who step reply image calm unasked i told (allowed.AskingClone source name names time taken rep im h same) = absurd (unasked source name names time taken refl)
+  free_by who step reply image calm unasked i told (allowed.AskingDelete names rep im h same) = asks_delete f w shelf law l names rep im calm h same
   free_by who step reply image calm unasked i told (allowed.Reading k read rep im h same) = reads k read rep im calm h same
   free_by who step reply image calm unasked i told (allowed.Verifying read rep im h) = verifies read rep im calm i told h
-  free_by who step reply image calm unasked i told (allowed.Pruning k prune rep im h) = let d = prune_has_delete f w k prune rep im h in absurd (l.no_deletes d.k d.t d.uuids d.plan d.there d.work)
+  free_by who step reply image calm unasked i told (allowed.Pruning k prune rep im h) = prunes f w shelf law l k prune rep im calm i told h
   free_by who step reply image calm unasked i told (allowed.Cleaning c d x im recorded there clean same) = anew im same no_caller refl refl
   free_by who step reply image calm unasked i told (allowed.Used name indices time uuid im clear is same) = anew im same no_caller refl refl
   free_by who step reply image calm unasked i told (allowed.Full name indices time im clear unused full same) = anew im same no_caller refl refl
@@ -494,7 +399,7 @@ module _ (f : Formats) (size : ℕ) (w : World) (shelf : List Shelved) (law : La
   free_by who step reply image calm unasked i told (allowed.DropStale k im may apart same) = still im same
   free_by who step reply image calm unasked i told (allowed.RaiseSpent k im may present spent same) = still im same
   free_by who step reply image calm unasked i told (allowed.ElectSpent im spent same) = still im same
-  free_by who step reply image calm unasked i told (allowed.Taken k name im c aside found) = still im (told_same im (λ blobs. Present f w.blobs name × (blobs ≡ w.blobs)) (λ blobs h. h.1) found)
+  free_by who step reply image calm unasked i told (allowed.Taken k name im c aside found) = still im (told_same w im (λ blobs. Present f w.blobs name × (blobs ≡ w.blobs)) (λ blobs h. h.1) found)
   free_by who step reply image calm unasked i told (allowed.BeginFails k name im c same) = absurd (calm refl)
   free_by who step reply image calm unasked i told (allowed.BeginLatestFails k im c same) = absurd (calm refl)
   free_by who step reply image calm unasked i told (allowed.CommitFails k name im c leaves) = absurd (calm refl)
@@ -507,8 +412,8 @@ module _ (f : Formats) (size : ℕ) (w : World) (shelf : List Shelved) (law : La
   free_by who step reply image calm unasked i told (allowed.DropFails k im c same) = absurd (calm refl)
   free_by who step reply image calm unasked i told (allowed.ElectFails im room same) = absurd (calm refl)
 
-pub step_free : (f : Formats) (size : ℕ) (w : World) (shelf : List Shelved) → Law f w shelf → IsFree f w → w.deletes ≡ fin.empty → (m : Moment) → m.entry.reply ≢ Refused DepotFault → AsksNoDelete m.entry.step → (i : Image) → m.image ≡ Some i → Allowed f size w m → IsFree f (after f w m)
-step_free f size w shelf law l none m calm unasked i told a = elim a.answered [
-  | inl alive ↦ free_by f size w shelf law l none m.entry.who m.entry.step m.entry.reply m.image calm unasked i told alive.1
+pub step_free : (f : Formats) (size : ℕ) (w : World) (shelf : List Shelved) → Law f w shelf → IsFree f w → AreNoClones w.ops → (m : Moment) → m.entry.reply ≢ Refused DepotFault → AsksNoClone m.entry.step → (i : Image) → m.image ≡ Some i → Allowed f size w m → IsFree f (after f w m)
+step_free f size w shelf law l none_copies m calm unasked i told a = elim a.answered [
+  | inl alive ↦ free_by f size w shelf law l none_copies m.entry.who m.entry.step m.entry.reply m.image calm unasked i told alive.1
   | inr dead ↦ subst (IsFree f) (sym (deposed_stays f w m dead)) l
 ]

@@ -1,6 +1,5 @@
 -- Over a history in which no call of the container failed what is still to be written is free.
 use Rattle.std.proofs.Common.{◌≡◌, ℕ, List, [], ◌∷◌, ◌++◌, Some, refl, sym, ap, subst, inl, inr}
-use Rattle.std.specs.FinMap as fin
 use Rattle.esr_model.specs.Values.{Has, Formats}
 use Rattle.esr_model.specs.Shelf.{Shelved}
 use Rattle.esr_model.specs.Image.{Image}
@@ -9,15 +8,16 @@ use Rattle.esr_core.specs.World.{World, Opened, OpenedEmpty, OpenedRecord}
 use Rattle.esr_core.specs.Entry.{Moment}
 use Rattle.esr_core.specs.After.{after}
 use Rattle.esr_core.specs.Allowed.{Allowed}
-use Rattle.esr_core.specs.History.{world_from, IsLegal, AllKnown, AreTold, IsHonest, AreHonest}
-use Rattle.esr_core.proofs.NoDeletes.{after_none}
+use Rattle.esr_core.specs.History.{world_from, IsLegal, AllKnown, all_handed_out, AreTold, IsHonest, AreHonest}
+use Rattle.esr_core.proofs.NoClones.{AreNoClones, after_no_clones}
 use Rattle.esr_core.proofs.Opening.{nothing}
 use Rattle.esr_quiet.specs.Free.{Free}
-use Rattle.esr_quiet.specs.Smooth.{AreCalm, NoDeleteAsked}
+use Rattle.esr_quiet.specs.Smooth.{AreCalm, NoCloneAsked}
 use Rattle.esr_quiet.proofs.Core.{CoreLaws}
 use Rattle.esr_quiet.proofs.FreeFrame.{IsFree}
 use Rattle.esr_quiet.proofs.FreeParts.{tests_none}
 use Rattle.esr_quiet.proofs.FreeSteps.{step_free}
+use Rattle.esr_quiet.proofs.Uncloned.{opened_no_clones}
 
 -- ---- the front of a history, and what comes next
 
@@ -66,31 +66,33 @@ no_more (m ∷ log) = ap (λ xs. m ∷ xs) (no_more log)
 opened_free : (f : Formats) (image : Image) (w : World) → Opened f image w → IsFree f w
 opened_free f image w (OpenedEmpty e) =
     record {
-      free = record { shards = λ k t name there. absurd (nothing k t there); pending = λ o op s there. absurd (nothing o op there); roots = λ k n t there. absurd (nothing k t there); own_root = λ j k n t u there. absurd (nothing j t there); unlisted = λ o op s g held list there. absurd (nothing o op there); tests = (tests_none f w.blobs w.caller refl refl).0; wrote = (tests_none f w.blobs w.caller refl refl).1 };
-      no_deletes = λ k t uuids plan there. absurd (nothing k t there);
+      free = record { shards = λ k t name there. absurd (nothing k t there); pending = λ o op s there. absurd (nothing o op there); roots = λ k n t there. absurd (nothing k t there); plans = λ k t uuids s name bytes there. absurd (nothing k t there); own_root = λ j k n t u there. absurd (nothing j t there); unlisted = λ o op s g held list there. absurd (nothing o op there); tests = (tests_none f w.blobs w.caller refl refl).0; wrote = (tests_none f w.blobs w.caller refl refl).1 };
+      own_ids = λ j k id t u there. absurd (nothing j t there);
+      drawn = λ k t uuids s name bytes there. absurd (nothing k t there);
       wrote_tests = (tests_none f w.blobs w.caller refl refl).2;
     }
 opened_free f image w (OpenedRecord cluster text root there reads is) =
     record {
-      free = record { shards = λ k t name at. absurd (nothing k t at); pending = λ o op s at. absurd (nothing o op at); roots = λ k n t at. absurd (nothing k t at); own_root = λ j k n t u at. absurd (nothing j t at); unlisted = λ o op s g held list at. absurd (nothing o op at); tests = (tests_none f w.blobs w.caller refl refl).0; wrote = (tests_none f w.blobs w.caller refl refl).1 };
-      no_deletes = λ k t uuids plan at. absurd (nothing k t at);
+      free = record { shards = λ k t name at. absurd (nothing k t at); pending = λ o op s at. absurd (nothing o op at); roots = λ k n t at. absurd (nothing k t at); plans = λ k t uuids s name bytes at. absurd (nothing k t at); own_root = λ j k n t u at. absurd (nothing j t at); unlisted = λ o op s g held list at. absurd (nothing o op at); tests = (tests_none f w.blobs w.caller refl refl).0; wrote = (tests_none f w.blobs w.caller refl refl).1 };
+      own_ids = λ j k id t u at. absurd (nothing j t at);
+      drawn = λ k t uuids s name bytes at. absurd (nothing k t at);
       wrote_tests = (tests_none f w.blobs w.caller refl refl).2;
     }
 
 module _ (laws : CoreLaws) (f : Formats) (part_size : ℕ) (image : Image) (shelf : List Shelved) (w : World) (known : AllKnown f) (kept : Kept f image shelf) (opens : Opened f image w) where
   -- after the front of a history, over the rest of it
-  free_from : (rest log : List Moment) → IsFree f (world_from f w log) → (world_from f w log).deletes ≡ fin.empty → IsLegal f part_size w (log ++ rest) → AreTold (log ++ rest) → AreHonest f w (log ++ rest) → AreCalm (log ++ rest) → NoDeleteAsked (log ++ rest) → IsFree f (world_from f w (log ++ rest))
-  free_from [] log l none legal told honest calm unasked = subst (λ xs. IsFree f (world_from f w xs)) (sym (no_more log)) l
-  free_from (m ∷ rest) log l none legal told honest calm unasked =
-      let law = laws.lawful f part_size image shelf w log known kept opens (legal_front f part_size w log (m ∷ rest) legal) (told_front log (m ∷ rest) told) (honest_front f w log (m ∷ rest) honest) in
+  free_from : (rest log : List Moment) → IsFree f (world_from f w log) → AreNoClones (world_from f w log).ops → IsLegal f part_size w (log ++ rest) → AreTold (log ++ rest) → AreHonest f w (log ++ rest) → AreCalm (log ++ rest) → NoCloneAsked (log ++ rest) → IsFree f (world_from f w (log ++ rest))
+  free_from [] log l none_copies legal told honest calm uncloned = subst (λ xs. IsFree f (world_from f w xs)) (sym (no_more log)) l
+  free_from (m ∷ rest) log l none_copies legal told honest calm uncloned =
+      let law = laws.lawful f part_size image shelf w log (all_handed_out f w log known) kept opens (legal_front f part_size w log (m ∷ rest) legal) (told_front log (m ∷ rest) told) (honest_front f w log (m ∷ rest) honest) in
       let (i, is) = told_next log rest m told in
-      let other = unasked m (has_next log rest m) in
-      let next = step_free f part_size (world_from f w log) _ law l none m (calm m (has_next log rest m)) other i is (legal_next f part_size w log rest m legal) in
+      let no_clone = uncloned m (has_next log rest m) in
+      let next = step_free f part_size (world_from f w log) _ law l none_copies m (calm m (has_next log rest m)) no_clone i is (legal_next f part_size w log rest m legal) in
       let same : log ++ m ∷ rest ≡ (log ++ m ∷ []) ++ rest = sym (one_more log rest m) in
       subst (λ xs. IsFree f (world_from f w xs)) (sym same)
-      (free_from rest (log ++ m ∷ []) (subst (IsFree f) (sym (world_next f w log m)) next) (subst (λ (x : World). x.deletes ≡ fin.empty) (sym (world_next f w log m)) (after_none f (world_from f w log) m other none)) (subst (IsLegal f part_size w) same legal) (subst AreTold same told) (subst (AreHonest f w) same honest) (subst AreCalm same calm) (subst NoDeleteAsked same unasked))
+      (free_from rest (log ++ m ∷ []) (subst (IsFree f) (sym (world_next f w log m)) next) (subst (λ (x : World). AreNoClones x.ops) (sym (world_next f w log m)) (after_no_clones f (world_from f w log) m no_clone none_copies)) (subst (IsLegal f part_size w) same legal) (subst AreTold same told) (subst (AreHonest f w) same honest) (subst AreCalm same calm) (subst NoCloneAsked same uncloned))
 
-pub histories_free : CoreLaws → (f : Formats) (part_size : ℕ) (image : Image) (shelf : List Shelved) (w : World) (log : List Moment) → AllKnown f → Kept f image shelf → Opened f image w → w.deletes ≡ fin.empty → IsLegal f part_size w log → AreTold log → AreHonest f w log
-    → AreCalm log → NoDeleteAsked log → Free f (world_from f w log)
-histories_free laws f part_size image shelf w log known kept opens no_deletes legal told honest calm unasked =
-    (free_from laws f part_size image shelf w known kept opens log [] (opened_free f image w opens) no_deletes legal told honest calm unasked).free
+pub histories_free : CoreLaws → (f : Formats) (part_size : ℕ) (image : Image) (shelf : List Shelved) (w : World) (log : List Moment) → AllKnown f → Kept f image shelf → Opened f image w → IsLegal f part_size w log → AreTold log → AreHonest f w log
+    → AreCalm log → NoCloneAsked log → Free f (world_from f w log)
+histories_free laws f part_size image shelf w log known kept opens legal told honest calm uncloned =
+    (free_from laws f part_size image shelf w known kept opens log [] (opened_free f image w opens) (opened_no_clones f image w opens) legal told honest calm uncloned).free

@@ -5,10 +5,13 @@ pub mod Callers
 pub mod Numbers
 pub mod Terms
 pub mod Quiet
+pub mod Uncloned
 pub mod Passing
 pub mod Bases
 pub mod Failures
 pub mod Rules
+pub mod Pruned
+pub mod Undeleted
 pub mod Fronts
 pub mod Restores
 pub mod Unasked
@@ -23,5 +26,7 @@ pub mod FreeNames
 pub mod FreeParts
 pub mod FreeBlobs
 pub mod FreeEnds
+pub mod FreeTickets
+pub mod FreeDeletes
 pub mod FreeSteps
 pub mod Freeing

@@ -50,18 +50,6 @@ module _ {X : Type 0} where
     | inr s ↦ (s.0, sym (cond_false (eq_by_cmp nat_cmp q k) None (fin.get m q) s.1) ∙ sym (fin.get-remove nat_cmp_total m k q) ∙ e)
   ]
 
-same_either : {A : Type 0} (b : Bool) (x : A) → cond b x x ≡ x
-same_either true x = refl
-same_either false x = refl
-
--- nothing is taken from a map that has nothing
-pub removed_none : {X : Type 0} (m : FinMap nat_cmp X) (k : ℕ) → m ≡ fin.empty → fin.remove m k ≡ fin.empty
-removed_none m k e = fin.same_map nat_cmp_total nat_cmp-IsAntisymmetric (fin.remove m k) fin.empty (λ q.
-    fin.get-remove nat_cmp_total m k q
-    ∙ ap (λ v. cond (eq_by_cmp nat_cmp q k) None v) (ap (λ n. fin.get n q) e ∙ fin.get-empty nat_cmp q)
-    ∙ same_either (eq_by_cmp nat_cmp q k) None
-    ∙ sym (fin.get-empty nat_cmp q))
-
 -- an empty map has nothing
 pub nothing : {X : Type 0} (m : FinMap nat_cmp X) (k : ℕ) (x : X) → m ≡ fin.empty → fin.get m k ≡ Some x → ⊥
 nothing m k x none e = some_none x (sym e ∙ ap (λ n. fin.get n k) none ∙ fin.get-empty nat_cmp k)

@@ -9,7 +9,7 @@ use Rattle.esr_core.specs.World.{World, Op, ShardWork, Drop, Swap, Ticket, ReadS
 use Rattle.esr_core.specs.Restores.{restore_shard}
 use Rattle.esr_core.specs.Steps.{noting, shard_ticket, final_ticket}
 use Rattle.esr_core.specs.Turns.{plain_ticket}
-use Rattle.esr_core.specs.Entry.{Asked, Snapshot, Clone, DeleteSnapshots, Restore, Cleanup, Given, GivenShard, GivenFinalize, GivenDrop, GivenRestore, Read, ReadBlob, RestoredShard, CheckedAll, DrawTest, CommitTest, ReadFails, Step, AskStep, TakeStep, DrawStep, BeginStep, CommitStep, LatestStep, FetchStep, RaiseStep, SettleStep, DoneStep, FailedStep, FinishStep, DroppedStep, ElectStep, ReadStep, DepotFault, Reply, Gave, DrawnFrom, WasDone, WasThere, WasFetched, HasEnded, Refused, AcceptedRestore, Moment, GivenDelete, PruneStep}
+use Rattle.esr_core.specs.Entry.{Asked, Snapshot, Clone, DeleteSnapshots, Restore, Cleanup, Given, GivenShard, GivenFinalize, GivenDrop, GivenRestore, GivenClone, Read, ReadBlob, RestoredShard, CheckedAll, DrawTest, CommitTest, ReadFails, Step, AskStep, TakeStep, DrawStep, BeginStep, CommitStep, LatestStep, FetchStep, RaiseStep, SettleStep, DoneStep, FailedStep, FinishStep, DroppedStep, ElectStep, ReadStep, DepotFault, Reply, Gave, DrawnFrom, WasDone, WasThere, WasFetched, HasEnded, Refused, AcceptedRestore, Moment, GivenDelete, PruneStep}
 use Rattle.esr_core.specs.After.{asked, taken_shard, taken_restore_shard, taken_restore, taken_by, read_told, shard_over, read_over, read_step, read_by, test_left, shard_of, with_given, committing, told_blob, fetching, settled_by, settled_of, done_by, done_of, is_stale, failed_by, failed_of, dropped_of, done_step, has_text, fallen, is_latest, faulted, answered, after}
 use Rattle.esr_core.specs.History.{world_from}
 use Rattle.esr_core.proofs.AskedDeletes.{delete_leaves}
@@ -40,6 +40,8 @@ numbered_change w k g (Some t) is n = record { next = n.next; none = put_numbere
 
 numbered_asked : (w : World) (command : Asked) → Numbered w → Numbered (asked w command)
 numbered_asked w (Snapshot name indices moment) n = record { next = n.next; none = n.none }
+numbered_asked w (Clone source name indices moment None) n = n
+numbered_asked w (Clone source name indices moment (Some taken)) n = record { next = n.next; none = n.none }
 numbered_asked w (DeleteSnapshots names) n = subst Numbered (sym (delete_leaves w names)) (record { next = n.next; none = n.none })
 numbered_asked w command n = n
 
@@ -58,6 +60,8 @@ numbered_restore w o index number (Some r) n = numbered_restore_shard w o r (res
 numbered_taken : (f : Formats) (w : World) (o : ℕ) (unit : Given) (op : Option Op) → Numbered w → Numbered (taken_by f w o unit op)
 numbered_taken f w o (GivenShard index number base) (Some op) n = numbered_shard w o op base (shard_of op.shards index number) n
 numbered_taken f w o (GivenShard index number base) None n = n
+numbered_taken f w o (GivenClone index number source base) (Some op) n = numbered_shard w o op base (shard_of op.shards index number) n
+numbered_taken f w o (GivenClone index number source base) None n = n
 numbered_taken f w o (GivenFinalize info results) (Some op) n = record { next = later w n; none = more_numbered w (final_ticket f w o op results) n }
 numbered_taken f w o (GivenFinalize info results) None n = n
 numbered_taken f w o GivenDrop op n = record { next = later w n; none = more_numbered w (plain_ticket w o Drop) n }
@@ -143,6 +147,7 @@ numbered_prune w new k h n =
 
 numbered_step : (f : Formats) (w : World) (k : ℕ) (step : Step) (reply : Reply) (image : Option Image) → Numbered w → Numbered (done_step f w k step reply image)
 numbered_step f w k (AskStep (Snapshot name indices moment)) reply image n = numbered_asked w (Snapshot name indices moment) n
+numbered_step f w k (AskStep (Clone source name indices moment taken)) reply image n = numbered_asked w (Clone source name indices moment taken) n
 numbered_step f w k (AskStep (DeleteSnapshots names)) reply image n = numbered_asked w (DeleteSnapshots names) n
 numbered_step f w k (AskStep (Restore name place)) (AcceptedRestore o uuid indices) image n = record { next = n.next; none = n.none }
 numbered_step f w k TakeStep (Gave ticket op unit) image n = numbered_taken f w op unit (fin.get w.ops op) n
@@ -187,7 +192,7 @@ numbered_fault f w k (BeginStep name) image n = numbered_either _ w (is_latest n
 numbered_fault f w k (ReadStep (CommitTest name)) image n = numbered_left w name (fin.get w.blobs (f.names.text name)) (told_blob f image name) n
 numbered_fault f w k (PruneStep prune) image n = numbered_prune w _ k (prune_fault_stays f w k prune image) n
 numbered_fault f w k (AskStep (Snapshot name indices moment)) image n = numbered_fallen f w _ image n (numbered_step f w k (AskStep (Snapshot name indices moment)) HasEnded image n)
-numbered_fault f w k (AskStep (Clone source name indices moment)) image n = numbered_fallen f w w image n n
+numbered_fault f w k (AskStep (Clone source name indices moment taken)) image n = numbered_fallen f w (asked w (Clone source name indices moment taken)) image n (numbered_asked w (Clone source name indices moment taken) n)
 numbered_fault f w k (AskStep (DeleteSnapshots names)) image n = numbered_fallen f w (asked w (DeleteSnapshots names)) image n (numbered_step f w k (AskStep (DeleteSnapshots names)) HasEnded image n)
 numbered_fault f w k (AskStep (Restore name place)) image n = n
 numbered_fault f w k (AskStep Cleanup) image n = numbered_fallen f w w image n n

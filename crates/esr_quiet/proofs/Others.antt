@@ -8,10 +8,10 @@ use Rattle.esr_model.specs.Image.{Image}
 use Rattle.esr_core.specs.World.{World, Op, ShardWork, Swap, Ticket, ReadState, Restored, NotRestored, RestoreShard, Restoring, Reader, swap, record_of}
 use Rattle.esr_core.specs.Restores.{restore_shard}
 use Rattle.esr_core.specs.Steps.{noting}
-use Rattle.esr_core.specs.Entry.{Asked, Snapshot, Clone, DeleteSnapshots, Restore, Cleanup, Given, GivenShard, GivenFinalize, GivenDrop, GivenRestore, Read, ReadBlob, RestoredShard, CheckedAll, DrawTest, CommitTest, ReadFails, Step, AskStep, TakeStep, DrawStep, BeginStep, CommitStep, LatestStep, FetchStep, RaiseStep, SettleStep, DoneStep, FailedStep, FinishStep, DroppedStep, ElectStep, ReadStep, DeposedAt, DepotFault, Reply, Gave, DrawnFrom, WasDone, WasThere, WasFetched, HasEnded, Refused, AcceptedRestore, Moment, GivenDelete, Prune, PruneStep}
+use Rattle.esr_core.specs.Entry.{CloneOf, Asked, Snapshot, Clone, DeleteSnapshots, Restore, Cleanup, Given, GivenShard, GivenFinalize, GivenDrop, GivenRestore, GivenClone, Read, ReadBlob, RestoredShard, CheckedAll, DrawTest, CommitTest, ReadFails, Step, AskStep, TakeStep, DrawStep, BeginStep, CommitStep, LatestStep, FetchStep, RaiseStep, SettleStep, DoneStep, FailedStep, FinishStep, DroppedStep, ElectStep, ReadStep, DeposedAt, DepotFault, Reply, Gave, DrawnFrom, WasDone, WasThere, WasFetched, HasEnded, Refused, AcceptedRestore, Moment, GivenDelete, Prune, PruneStep}
 use Rattle.esr_core.specs.After.{asked, taken_shard, taken_restore_shard, taken_restore, taken_by, read_told, shard_over, read_over, read_step, read_by, test_left, shard_of, with_given, committing, told_blob, fetching, settled_by, settled_of, done_by, done_of, is_stale, failed_by, failed_of, dropped_of, done_step, has_text, fallen, is_latest, faulted, answered, after}
 use Rattle.esr_core.specs.Allowed as allowed
-use Rattle.esr_core.specs.Allowed.{DeleteAllows, RestoreAllows, OpeningRestore, ReadAllows, ReadFound, VerifyAllows, DrawingTest, Allows, Allowed, PruneAllows}
+use Rattle.esr_core.specs.Allowed.{DeleteAllows, CloneAllows, RestoreAllows, OpeningRestore, ReadAllows, ReadFound, VerifyAllows, DrawingTest, Allows, Allowed, PruneAllows}
 use Rattle.esr_core.specs.History.{world_from, IsLegal}
 use Rattle.esr_core.proofs.AskedDeletes.{delete_leaves}
 use Rattle.esr_core.proofs.PruneFrames.{PruneStays, prune_stays, prune_fault_stays}
@@ -38,6 +38,8 @@ others_change w k g (Some t) q apart = get_other w.tickets k (g t) q apart
 
 others_asked : (w : World) (command : Asked) (q : ℕ) → held (asked w command) q ≡ held w q
 others_asked w (Snapshot name indices moment) q = refl
+others_asked w (Clone source name indices moment None) q = refl
+others_asked w (Clone source name indices moment (Some taken)) q = refl
 others_asked w (DeleteSnapshots names) q = ap (λ (x : World). held x q) (delete_leaves w names)
 others_asked w command q = refl
 
@@ -56,6 +58,8 @@ others_restore w o index number (Some r) q = others_restore_shard w o r (restore
 others_taken : (f : Formats) (w : World) (o : ℕ) (unit : Given) (op : Option Op) (q : ℕ) → q ≢ w.next_ticket → held (taken_by f w o unit op) q ≡ held w q
 others_taken f w o (GivenShard index number base) (Some op) q apart = others_shard w o op base (shard_of op.shards index number) q apart
 others_taken f w o (GivenShard index number base) None q apart = refl
+others_taken f w o (GivenClone index number source base) (Some op) q apart = others_shard w o op base (shard_of op.shards index number) q apart
+others_taken f w o (GivenClone index number source base) None q apart = refl
 others_taken f w o (GivenFinalize info results) (Some op) q apart = get_other w.tickets w.next_ticket _ q apart
 others_taken f w o (GivenFinalize info results) None q apart = refl
 others_taken f w o GivenDrop op q apart = get_other w.tickets w.next_ticket _ q apart
@@ -136,6 +140,7 @@ others_prune w new k q h apart = elim h.tickets [
 
 others_step : (f : Formats) (w : World) (k : ℕ) (step : Step) (reply : Reply) (image : Option Image) (q : ℕ) → q ≢ k → GivesNone reply → held (done_step f w k step reply image) q ≡ held w q
 others_step f w k (AskStep (Snapshot name indices moment)) reply image q apart none = others_asked w (Snapshot name indices moment) q
+others_step f w k (AskStep (Clone source name indices moment taken)) reply image q apart none = others_asked w (Clone source name indices moment taken) q
 others_step f w k (AskStep (DeleteSnapshots names)) reply image q apart none = others_asked w (DeleteSnapshots names) q
 others_step f w k (AskStep (Restore name place)) (AcceptedRestore o uuid indices) image q apart none = refl
 others_step f w k TakeStep (Gave ticket op unit) image q apart none = absurd (none ticket op unit refl)
@@ -174,7 +179,7 @@ others_fault f w k (BeginStep name) image q apart = others_either w _ w (is_late
 others_fault f w k (ReadStep (CommitTest name)) image q apart = others_left w name (fin.get w.blobs (f.names.text name)) (told_blob f image name) q
 others_fault f w k (PruneStep prune) image q apart = others_prune w _ k q (prune_fault_stays f w k prune image) apart
 others_fault f w k (AskStep (Snapshot name indices moment)) image q apart = others_fallen f w _ image q (others_step f w k (AskStep (Snapshot name indices moment)) HasEnded image q apart ended_none)
-others_fault f w k (AskStep (Clone source name indices moment)) image q apart = others_fallen f w w image q refl
+others_fault f w k (AskStep (Clone source name indices moment taken)) image q apart = others_fallen f w (asked w (Clone source name indices moment taken)) image q (others_asked w (Clone source name indices moment taken) q)
 others_fault f w k (AskStep (DeleteSnapshots names)) image q apart = others_fallen f w (asked w (DeleteSnapshots names)) image q (others_step f w k (AskStep (DeleteSnapshots names)) HasEnded image q apart ended_none)
 others_fault f w k (AskStep (Restore name place)) image q apart = refl
 others_fault f w k (AskStep Cleanup) image q apart = others_fallen f w w image q refl
@@ -207,6 +212,10 @@ gift_delete : (w : World) (names : List Bytes) (reply : Reply) → DeleteAllows 
 gift_delete w names reply (allowed.GoingInto acc) = tt
 gift_delete w names reply a = tt
 
+gift_clone : (f : Formats) (w : World) (source name : Bytes) (names : List Bytes) (moment : ℕ) (taken : Option CloneOf) (reply : Reply) (image : Option Image) → CloneAllows f w source name names moment taken reply image → IsGift w 0 reply
+gift_clone f w source name names moment taken reply image (allowed.OpeningClone of o im acc) = tt
+gift_clone f w source name names moment taken reply image a = tt
+
 gift_read : (f : Formats) (w : World) (who : ℕ) (read : Read) (reply : Reply) (image : Option Image) → ReadAllows f w who read reply image → IsGift w who reply
 gift_read f w who read reply image (ReadFound k name im stored by found) = tt
 gift_read f w who read reply image a = tt
@@ -222,6 +231,7 @@ gift_prune f w who prune reply image a = tt
 gift : (f : Formats) (size : ℕ) (w : World) (who : ℕ) (step : Step) (reply : Reply) (image : Option Image) → Allows f size w who step reply image → IsGift w who reply
 gift f size w who step reply image (allowed.Giving k o unit im is lowest g same) = (refl, is)
 gift f size w who step reply image (allowed.AskingRestore name place rep im a same) = gift_restore f w name rep im a
+gift f size w who step reply image (allowed.AskingClone source name names moment taken rep im a same) = gift_clone f w source name names moment taken rep im a
 gift f size w who step reply image (allowed.AskingDelete names rep im a same) = gift_delete w names rep a
 gift f size w who step reply image (allowed.Reading k read rep im a same) = gift_read f w k read rep im a
 gift f size w who step reply image (allowed.Verifying read rep im a) = gift_verify f w read rep im a

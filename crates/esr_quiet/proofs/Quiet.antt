@@ -1,30 +1,35 @@
--- What no step breaks where no call fails and nobody is elected: no record swap has failed, no delete is open, each ticket is
+-- What no step breaks where no call fails and nobody is elected: no record swap has failed, no cleanup is open, each ticket is
 -- of the present term, and the shards of open ops and of tickets are steady.
-use Rattle.std.proofs.Common.{◌≡◌, ◌≢◌, ◌⊎◌, ℕ, zero, suc, ◌+◌, ◌<◌, Bool, true, false, List, [], ◌∷◌, ◌++◌, Option, Some, None, map, refl, sym, ap, ◌∙◌, subst, inl, inr, arith, nat_cmp, true≢false}
+use Rattle.std.proofs.Common.{◌≡◌, ◌≢◌, ◌⊎◌, ℕ, zero, suc, ◌+◌, ◌<◌, Bool, true, false, List, [], ◌∷◌, ◌++◌, Option, Some, None, map, refl, sym, ap, ◌∙◌, subst, inl, inr, arith, nat_cmp}
 use Rattle.std.specs.Prelude.{if◌then◌else◌, ◌==◌, ◌&&◌}
 use Rattle.std.specs.FinMap.{FinMap}
 use Rattle.std.specs.FinMap as fin
 use Rattle.esr_model.specs.Names.{BlobName}
 use Rattle.esr_model.specs.Values.{Bytes, Has, IndexRef, ShardResult, SnapInfo, Formats}
-use Rattle.esr_model.specs.Shelf.{Shelved}
+use Rattle.esr_model.specs.Shelf.{Command}
+use Rattle.esr_model.specs.Delete.{PrunedShard}
 use Rattle.esr_model.specs.Image.{Image}
-use Rattle.esr_core.specs.World.{World, Op, ShardWork, ShardState, Pending, Out, Done, GivenUp, Work, Shard, Finalize, Deleting, Drop, Swap, Ticket, ReadState, Restored, NotRestored, RestoreShard, Restoring, Reader, swap, marked, marked_by, Opened, OpenedEmpty, OpenedRecord}
+use Rattle.esr_core.specs.World.{World, Op, Deletion, ShardWork, ShardState, Pending, Out, Done, GivenUp, Work, Shard, Finalize, Deleting, Drop, Swap, Ticket, ReadState, Restored, NotRestored, RestoreShard, Restoring, Reader, swap, marked, marked_by, kept_deletes, numbered_deletes, Opened, OpenedEmpty, OpenedRecord}
 use Rattle.esr_core.specs.Restores.{restore_shard}
 use Rattle.esr_core.specs.Steps.{noting, given, shard_ticket, final_ticket}
-use Rattle.esr_core.specs.Turns.{fails, fails_by}
-use Rattle.esr_core.specs.Entry.{AskedIndex, Snapshot, DeleteSnapshots, AsksNoDelete, Restore, Given, GivenShard, GivenFinalize, GivenDrop, GivenRestore, Read, ReadBlob, RestoredShard, CheckedAll, DrawTest, CommitTest, ReadFails, Step, AskStep, TakeStep, DrawStep, CommitStep, LatestStep, FetchStep, RaiseStep, SettleStep, DoneStep, FailedStep, FinishStep, DroppedStep, ElectStep, ReadStep, DepotFault, Reply, Gave, DrawnFrom, WasDone, WasThere, WasFetched, Refused, AcceptedRestore, Moment, GivenDelete, Prune, PruneStep}
-use Rattle.esr_core.specs.After.{asked, asked_op, known_id, ref_by, next_by, refs_from, pending_shards, all_pending, taken_shard, taken_restore_shard, taken_restore, taken_by, read_told, shard_over, read_over, read_step, read_by, shard_of, with_given, committing, told_blob, fetching, settled_by, settled_of, done_by, done_of, is_stale, failed_by, failed_of, dropped_of, done_step, answered, after}
-use Rattle.esr_core.specs.Allowed as allowed
-use Rattle.esr_core.specs.Allowed.{PruneAllows, Allows, Allowed}
+use Rattle.esr_core.specs.Deletes.{named_uuids, waiting_delete, running_delete, aborted_ops, with_named, delete_merged, delete_by}
+use Rattle.esr_core.specs.Pruning.{planned_work, planned}
+use Rattle.esr_core.specs.Turns.{Aborts, plain_ticket, fails, fails_by}
+use Rattle.esr_core.specs.Entry.{AskedIndex, Snapshot, Clone, DeleteSnapshots, AsksNoClone, Restore, Given, GivenShard, GivenClone, GivenFinalize, GivenDrop, GivenRestore, Read, ReadBlob, RestoredShard, CheckedAll, DrawTest, CommitTest, ReadFails, Step, AskStep, TakeStep, DrawStep, CommitStep, LatestStep, FetchStep, RaiseStep, SettleStep, DoneStep, FailedStep, FinishStep, DroppedStep, ElectStep, ReadStep, DepotFault, Reply, Gave, DrawnFrom, WasDone, WasThere, WasFetched, Refused, AcceptedRestore, Moment, GivenDelete, Prune, FetchShard, PlanShards, SettlePruned, RemoveDoomed, EndDelete, DeleteFails, PruneStep}
+use Rattle.esr_core.specs.After.{asked, asked_op, known_id, ref_by, next_by, refs_from, pending_shards, all_pending, taken_shard, taken_restore_shard, taken_restore, taken_by, read_told, shard_over, read_over, read_step, read_by, shard_of, with_given, committing, told_blob, fetching, settled_by, settled_of, done_by, done_of, is_stale, failed_by, failed_of, dropped_of, delete_settled_by, delete_settled, delete_failed_by, delete_failed, prune_step, done_step, answered, after}
 use Rattle.esr_core.specs.History.{world_from, IsLegal}
-use Rattle.esr_core.proofs.PruneFrames.{prune_has_delete}
+use Rattle.esr_core.proofs.AskedDeletes.{aborts}
 use Rattle.esr_desk.specs.Start.{Start}
 use Rattle.esr_quiet.specs.Asked.{IsSteady, AreSteady}
-use Rattle.esr_quiet.specs.Smooth.{AreCalm, AreUnelected, NoDeleteAsked}
-use Rattle.esr_quiet.proofs.Maps.{some_same, some_none, get_was, get_left, removed_none, nothing}
+use Rattle.esr_quiet.specs.Smooth.{AreCalm, AreUnelected, NoCloneAsked}
+use Rattle.esr_quiet.proofs.FreeParts.{was_shards}
+use Rattle.esr_quiet.proofs.Maps.{some_same, some_none, get_was, get_left, nothing}
 
 abbrev Ops : Type 0
 Ops = FinMap nat_cmp Op
+
+abbrev Deletes : Type 0
+Deletes = FinMap nat_cmp Deletion
 
 abbrev Tickets : Type 0
 Tickets = FinMap nat_cmp Ticket
@@ -33,10 +38,9 @@ Tickets = FinMap nat_cmp Ticket
 abbrev pub IsOfSteady : Start → ShardWork → Type 0
 IsOfSteady s z = s.steady z.place z.ref.name z.number ≡ true
 
--- what a ticket is for: in this term, no delete, and no shard that fails
+-- what a ticket is for: in this term, and no shard that fails
 pub record Fine (s : Start) (now term : ℕ) (work : Work) (place name : Bytes) : Type 0 where
   pub present : term ≡ now
-  pub no_delete : (uuids : List ℕ) (plan : Option Swap) → work ≡ Deleting uuids plan → ⊥
   pub steady : (index number : ℕ) → work ≡ Shard index number → s.steady place name number ≡ true
 
 abbrev pub IsFine : Start → ℕ → Ticket → Type 0
@@ -48,11 +52,28 @@ AreFine s now tickets = (k : ℕ) (t : Ticket) → fin.get tickets k ≡ Some t 
 abbrev pub AreSteadyOps : Start → Ops → Type 0
 AreSteadyOps s ops = (o : ℕ) (op : Op) (z : ShardWork) → fin.get ops o ≡ Some op → Has op.shards z → IsOfSteady s z
 
+-- no open delete is a cleanup
+abbrev pub AreUnclean : Deletes → Type 0
+AreUnclean deletes = (d : ℕ) (x : Deletion) → fin.get deletes d ≡ Some x → x.clean ≡ false
+
 pub record IsQuiet (s : Start) (w : World) : Type 0 where
   pub present : w.deposed ≡ false
-  pub no_deletes : w.deletes ≡ fin.empty
+  pub no_cleanup : AreUnclean w.deletes
   pub ops : AreSteadyOps s w.ops
   pub tickets : AreFine s w.term w.tickets
+
+-- ---- deletes
+
+left_unclean : (deletes : Deletes) (d : ℕ) → AreUnclean deletes → AreUnclean (fin.remove deletes d)
+left_unclean deletes d h e x there = h e x (get_left deletes d e x there).1
+
+put_unclean : (deletes : Deletes) (d : ℕ) (x : Deletion) → x.clean ≡ false → AreUnclean deletes → AreUnclean (fin.insert deletes d x)
+put_unclean deletes d x mine h e y there = elim (get_was deletes d x e y there) [ inl is ↦ ap (λ (z : Deletion). z.clean) (sym is.1) ∙ mine | inr is ↦ h e y is.1 ]
+
+-- those that opening keeps
+numbered_unclean : (number : ℕ) (kept : List (List ℕ)) → AreUnclean (numbered_deletes number kept)
+numbered_unclean number [] d x there = absurd (nothing fin.empty d x refl there)
+numbered_unclean number (uuids ∷ kept) d x there = put_unclean (numbered_deletes (suc number) kept) number (record { uuids = uuids; clean = false; failed = false }) refl (numbered_unclean (suc number) kept) d x there
 
 -- ---- shards
 
@@ -156,13 +177,13 @@ asked_steady s w next (a ∷ indices) steady z h =
 module _ (s : Start) where
   quiet_change : (w : World) → IsQuiet s w → (k : ℕ) (g : Ticket → Ticket) → ((t : Ticket) → IsFine s w.term t → IsFine s w.term (g t)) → (o : Option Ticket) → fin.get w.tickets k ≡ o → IsQuiet s (with_given w k g o)
   quiet_change w q k g like None there = q
-  quiet_change w q k g like (Some t) there = record { present = q.present; no_deletes = q.no_deletes; ops = q.ops; tickets = put_fine s w.term w.tickets k (g t) (like t (q.tickets k t there)) q.tickets }
+  quiet_change w q k g like (Some t) there = record { present = q.present; no_cleanup = q.no_cleanup; ops = q.ops; tickets = put_fine s w.term w.tickets k (g t) (like t (q.tickets k t there)) q.tickets }
 
   quiet_asked : (w : World) → IsQuiet s w → (name : Bytes) (indices : List AskedIndex) (moment : ℕ) → IsSteady s indices → IsQuiet s (asked w (Snapshot name indices moment))
   quiet_asked w q name indices moment steady =
       record {
         present = q.present;
-        no_deletes = q.no_deletes;
+        no_cleanup = q.no_cleanup;
         ops = put_steady s w.ops w.next_op (asked_op w name indices moment) (asked_steady s w (suc w.next_id) indices steady) q.ops;
         tickets = q.tickets;
       }
@@ -172,7 +193,7 @@ module _ (s : Start) where
   quiet_same w v q deposed deletes ops term tickets =
       record {
         present = deposed ∙ q.present;
-        no_deletes = deletes ∙ q.no_deletes;
+        no_cleanup = subst AreUnclean (sym deletes) q.no_cleanup;
         ops = subst (AreSteadyOps s) (sym ops) q.ops;
         tickets = subst (λ (x : Tickets). AreFine s v.term x) (sym tickets) (subst (λ (now : ℕ). AreFine s now w.tickets) (sym term) q.tickets);
       }
@@ -185,17 +206,11 @@ module _ (s : Start) where
       go later rest true is = inl (some_same x z is)
       go later rest false is = inr (rest is)
 
-  shard_delete : (index number : ℕ) (uuids : List ℕ) (plan : Option Swap) → Shard index number ≡ Deleting uuids plan → ⊥
-  shard_delete index number uuids plan e = cc
+  delete_shard : (uuids : List ℕ) (plan : Option Swap) (index number : ℕ) → Deleting uuids plan ≡ Shard index number → ⊥
+  delete_shard uuids plan index number e = cc
 
-  final_delete : (info : SnapInfo) (results : List ShardResult) (made : Shelved) (uuids : List ℕ) (plan : Option Swap) → Finalize info results made ≡ Deleting uuids plan → ⊥
-  final_delete info results made uuids plan e = cc
-
-  final_shard : (info : SnapInfo) (results : List ShardResult) (made : Shelved) (index number : ℕ) → Finalize info results made ≡ Shard index number → ⊥
+  final_shard : (info : SnapInfo) (results : List ShardResult) (made : Command) (index number : ℕ) → Finalize info results made ≡ Shard index number → ⊥
   final_shard info results made index number e = cc
-
-  drop_delete : (uuids : List ℕ) (plan : Option Swap) → Drop ≡ Deleting uuids plan → ⊥
-  drop_delete uuids plan e = cc
 
   drop_shard : (index number : ℕ) → Drop ≡ Shard index number → ⊥
   drop_shard index number e = cc
@@ -209,11 +224,10 @@ module _ (s : Start) where
       let steady : (x : ShardWork) → Has op.shards x → IsOfSteady s x = λ x h. q.ops o op x there h in
       record {
         present = q.present;
-        no_deletes = q.no_deletes;
+        no_cleanup = q.no_cleanup;
         ops = put_steady s w.ops o (record op { shards = map (given w.next_ticket z.ref.id z.number) op.shards }) (mapped_steady s op.shards (given w.next_ticket z.ref.id z.number) (same_given w.next_ticket z.ref.id z.number) steady) q.ops;
         tickets = put_fine s w.term w.tickets w.next_ticket (shard_ticket w o op z base) (record {
           present = refl;
-          no_delete = shard_delete z.ref.id z.number;
           steady = λ index number e. ap (s.steady z.place z.ref.name) (sym (one_number z.ref.id z.number index number e)) ∙ steady z (has z refl);
         }) q.tickets;
       }
@@ -226,35 +240,38 @@ module _ (s : Start) where
   quiet_restore w q o index number None = q
   quiet_restore w q o index number (Some r) = quiet_restore_shard w q o r (restore_shard r.shards index number)
 
-  quiet_taken : (f : Formats) (w : World) → IsQuiet s w → (o : ℕ) (unit : Given) (op : Option Op) → fin.get w.ops o ≡ op → ((uuids : List ℕ) → unit ≡ GivenDelete uuids → ⊥) → IsQuiet s (taken_by f w o unit op)
-  quiet_taken f w q o (GivenShard index number base) (Some op) there none = quiet_shard w q o op base there (shard_of op.shards index number) (λ z e. found_in op.shards index number z e)
-  quiet_taken f w q o (GivenShard index number base) None there none = q
-  quiet_taken f w q o (GivenFinalize info results) (Some op) there none =
+  quiet_taken : (f : Formats) (w : World) → IsQuiet s w → (o : ℕ) (unit : Given) (op : Option Op) → fin.get w.ops o ≡ op → IsQuiet s (taken_by f w o unit op)
+  quiet_taken f w q o (GivenShard index number base) (Some op) there = quiet_shard w q o op base there (shard_of op.shards index number) (λ z e. found_in op.shards index number z e)
+  quiet_taken f w q o (GivenShard index number base) None there = q
+  quiet_taken f w q o (GivenClone index number source base) (Some op) there = quiet_shard w q o op base there (shard_of op.shards index number) (λ z e. found_in op.shards index number z e)
+  quiet_taken f w q o (GivenClone index number source base) None there = q
+  quiet_taken f w q o (GivenFinalize info results) (Some op) there =
       record {
         present = q.present;
-        no_deletes = q.no_deletes;
+        no_cleanup = q.no_cleanup;
         ops = q.ops;
-        tickets = put_fine s w.term w.tickets w.next_ticket (final_ticket f w o op results) (record { present = refl; no_delete = λ uuids plan e. final_delete _ _ _ uuids plan e; steady = λ i n e. absurd (final_shard _ _ _ i n e) }) q.tickets;
+        tickets = put_fine s w.term w.tickets w.next_ticket (final_ticket f w o op results) (record { present = refl; steady = λ i n e. absurd (final_shard _ _ _ i n e) }) q.tickets;
       }
-  quiet_taken f w q o (GivenFinalize info results) None there none = q
-  quiet_taken f w q o GivenDrop op there none =
-      record { present = q.present; no_deletes = q.no_deletes; ops = q.ops; tickets = put_fine s w.term w.tickets w.next_ticket _ (record { present = refl; no_delete = drop_delete; steady = λ i n e. absurd (drop_shard i n e) }) q.tickets }
-  quiet_taken f w q o (GivenRestore index number uuid) op there none = quiet_restore w q o index number (fin.get w.restores o)
-  quiet_taken f w q o (GivenDelete uuids) op there none = absurd (none uuids refl)
-  quiet_taken f w q o unit op there none = q
+  quiet_taken f w q o (GivenFinalize info results) None there = q
+  quiet_taken f w q o GivenDrop op there =
+      record { present = q.present; no_cleanup = q.no_cleanup; ops = q.ops; tickets = put_fine s w.term w.tickets w.next_ticket _ (record { present = refl; steady = λ i n e. absurd (drop_shard i n e) }) q.tickets }
+  quiet_taken f w q o (GivenRestore index number uuid) op there = quiet_restore w q o index number (fin.get w.restores o)
+  quiet_taken f w q o (GivenDelete uuids) op there =
+      record { present = q.present; no_cleanup = q.no_cleanup; ops = q.ops; tickets = put_fine s w.term w.tickets w.next_ticket (plain_ticket w o (Deleting uuids None)) (record { present = refl; steady = λ i n e. absurd (delete_shard uuids None i n e) }) q.tickets }
+  quiet_taken f w q o unit op there = q
 
   quiet_drawn : (w : World) → IsQuiet s w → (k n : ℕ) (o : Option Ticket) → fin.get w.tickets k ≡ o → IsQuiet s (record (with_given w k (λ t. record t { first = w.next_id; drawn = n }) o) { next_id = w.next_id + n })
-  quiet_drawn w q k n o there = let x = quiet_change w q k (λ t. record t { first = w.next_id; drawn = n }) (λ t h. h) o there in record { present = x.present; no_deletes = x.no_deletes; ops = x.ops; tickets = x.tickets }
+  quiet_drawn w q k n o there = let x = quiet_change w q k (λ t. record t { first = w.next_id; drawn = n }) (λ t h. h) o there in record { present = x.present; no_cleanup = x.no_cleanup; ops = x.ops; tickets = x.tickets }
 
   quiet_raised : (w : World) → IsQuiet s w → (k : ℕ) (o : Option Ticket) → fin.get w.tickets k ≡ o → IsQuiet s (record (with_given w k (λ t. record t { raised = Some w.pending }) o) { pending = suc w.pending })
-  quiet_raised w q k o there = let x = quiet_change w q k (λ t. record t { raised = Some w.pending }) (λ t h. h) o there in record { present = x.present; no_deletes = x.no_deletes; ops = x.ops; tickets = x.tickets }
+  quiet_raised w q k o there = let x = quiet_change w q k (λ t. record t { raised = Some w.pending }) (λ t h. h) o there in record { present = x.present; no_cleanup = x.no_cleanup; ops = x.ops; tickets = x.tickets }
 
   removed_steady : (ops : Ops) (o : ℕ) → AreSteadyOps s ops → AreSteadyOps s (fin.remove ops o)
   removed_steady ops o steady p op z there h = steady p op z (get_left ops o p op there).1 h
 
   quiet_settled_by : (f : Formats) (w : World) → IsQuiet s w → (k : ℕ) (t : Ticket) → fin.get w.tickets k ≡ Some t → (change : Option Swap) (n : Option ℕ) → IsQuiet s (settled_by f w k t change n)
   quiet_settled_by f w q k t there (Some change) (Some n) =
-      record { present = q.present; no_deletes = removed_none w.deletes t.op q.no_deletes; ops = removed_steady w.ops t.op q.ops; tickets = put_fine s w.term w.tickets k (record t { settled = true }) (q.tickets k t there) q.tickets }
+      record { present = q.present; no_cleanup = left_unclean w.deletes t.op q.no_cleanup; ops = removed_steady w.ops t.op q.ops; tickets = put_fine s w.term w.tickets k (record t { settled = true }) (q.tickets k t there) q.tickets }
   quiet_settled_by f w q k t there (Some change) None = q
   quiet_settled_by f w q k t there None n = q
 
@@ -267,7 +284,7 @@ module _ (s : Start) where
   quiet_done_by w q k r t there (Some op) op_there =
       record {
         present = q.present;
-        no_deletes = q.no_deletes;
+        no_cleanup = q.no_cleanup;
         ops = put_steady s w.ops t.op (record op { shards = map (marked k (Done r)) op.shards }) (mapped_steady s op.shards (marked k (Done r)) (same_marked k (Done r)) (λ z h. q.ops t.op op z op_there h)) q.ops;
         tickets = put_fine s w.term w.tickets k (record t { out = false }) (q.tickets k t there) q.tickets;
       }
@@ -281,7 +298,7 @@ module _ (s : Start) where
   quiet_failed_by w q k t there (Some op) op_there =
       record {
         present = q.present;
-        no_deletes = q.no_deletes;
+        no_cleanup = q.no_cleanup;
         ops = put_steady s w.ops t.op (record op { shards = map (fails k) op.shards; failed = true }) (mapped_steady s op.shards (fails k) (same_fails k) (λ z h. q.ops t.op op z op_there h)) q.ops;
         tickets = put_fine s w.term w.tickets k (record t { out = false }) (q.tickets k t there) q.tickets;
       }
@@ -294,13 +311,13 @@ module _ (s : Start) where
   quiet_failed w q k None there = q
   quiet_failed w q k (Some t) there =
       quiet_either _ (failed_by w k t (fin.get w.ops t.op)) (is_stale w t t.work)
-      (record { present = q.present; no_deletes = q.no_deletes; ops = q.ops; tickets = put_fine s w.term w.tickets k (record t { out = false }) (q.tickets k t there) q.tickets })
+      (record { present = q.present; no_cleanup = q.no_cleanup; ops = q.ops; tickets = put_fine s w.term w.tickets k (record t { out = false }) (q.tickets k t there) q.tickets })
       (quiet_failed_by w q k t there (fin.get w.ops t.op) refl)
 
   quiet_dropped : (w : World) → IsQuiet s w → (k : ℕ) (o : Option Ticket) → fin.get w.tickets k ≡ o → IsQuiet s (dropped_of w k o)
   quiet_dropped w q k None there = q
   quiet_dropped w q k (Some t) there =
-      record { present = q.present; no_deletes = removed_none w.deletes t.op q.no_deletes; ops = removed_steady w.ops t.op q.ops; tickets = put_fine s w.term w.tickets k (record t { out = false }) (q.tickets k t there) q.tickets }
+      record { present = q.present; no_cleanup = left_unclean w.deletes t.op q.no_cleanup; ops = removed_steady w.ops t.op q.ops; tickets = put_fine s w.term w.tickets k (record t { out = false }) (q.tickets k t there) q.tickets }
 
   fine_committing : (now : ℕ) (name : BlobName) (o : Option Bytes) (t : Ticket) → IsFine s now t → IsFine s now (committing name o t)
   fine_committing now name None t h = h
@@ -338,19 +355,86 @@ module _ (s : Start) where
   quiet_read_by f w q zero read reply image = q
   quiet_read_by f w q (suc k) read reply image = quiet_read f w q (suc k) read reply image
 
-  -- what is asked is steady, nobody is elected, and no delete is asked, given or worked
-  record Suits (step : Step) (reply : Reply) : Type 0 where
+  -- ---- deletes
+
+  quiet_aborted : (w : World) → IsQuiet s w → (ops : Ops) (by : ℕ) → Aborts w.ops ops by → (deletes : Deletes) → AreUnclean deletes → (next_op : ℕ) → IsQuiet s (record w { ops = ops; deletes = deletes; next_op = next_op })
+  quiet_aborted w q ops by a deletes unclean next_op =
+      record {
+        present = q.present;
+        no_cleanup = unclean;
+        ops = λ o op z there h. let (old, was, how) = a.was o op there in q.ops o old z was (subst (λ (shards : List ShardWork). Has shards z) (was_shards op old by how).0 h);
+        tickets = q.tickets;
+      }
+
+  quiet_merged : (w : World) → IsQuiet s w → (names : List Bytes) (d : ℕ) (found : Option Deletion) → fin.get w.deletes d ≡ found → IsQuiet s (delete_merged w names d found)
+  quiet_merged w q names d None there = q
+  quiet_merged w q names d (Some x) there =
+      quiet_aborted w q (aborted_ops w (named_uuids w names) d) d (aborts w (named_uuids w names) d) (fin.insert w.deletes d (record x { uuids = with_named w x.uuids names })) (put_unclean w.deletes d (record x { uuids = with_named w x.uuids names }) (q.no_cleanup d x there) q.no_cleanup) w.next_op
+
+  quiet_delete : (w : World) → IsQuiet s w → (names : List Bytes) (waiting running : Option ℕ) → IsQuiet s (delete_by w names waiting running)
+  quiet_delete w q names (Some d) running = quiet_merged w q names d (fin.get w.deletes d) refl
+  quiet_delete w q names None (Some d) = q
+  quiet_delete w q names None None =
+      let x : Deletion = record { uuids = named_uuids w names; clean = false; failed = false } in
+      quiet_aborted w q (aborted_ops w (named_uuids w names) w.next_op) w.next_op (aborts w (named_uuids w names) w.next_op) (fin.insert w.deletes w.next_op x) (put_unclean w.deletes w.next_op x refl q.no_cleanup) (suc w.next_op)
+
+  -- a plan is of no shard
+  planned_shard : (f : Formats) (t : Ticket) (shards : List PrunedShard) (first : ℕ) (work : Work) (index number : ℕ) → planned_work f t shards first work ≡ Shard index number → work ≡ Shard index number
+  planned_shard f t shards first (Deleting uuids plan) index number e = absurd (cc)
+  planned_shard f t shards first (Shard i n) index number e = e
+  planned_shard f t shards first (Finalize info results made) index number e = e
+  planned_shard f t shards first Drop index number e = e
+
+  fine_planned : (now : ℕ) (f : Formats) (shards : List PrunedShard) (first : ℕ) (t : Ticket) → IsFine s now t → IsFine s now (planned f shards first t)
+  fine_planned now f shards first t h = record { present = h.present; steady = λ index number e. h.steady index number (planned_shard f t shards first t.work index number e) }
+
+  quiet_deleted_by : (f : Formats) (w : World) → IsQuiet s w → (k : ℕ) (t : Ticket) → fin.get w.tickets k ≡ Some t → (change : Option Swap) (n : Option ℕ) → IsQuiet s (delete_settled_by f w k t change n)
+  quiet_deleted_by f w q k t there (Some change) (Some n) =
+      record { present = q.present; no_cleanup = left_unclean w.deletes t.op q.no_cleanup; ops = removed_steady w.ops t.op q.ops; tickets = put_fine s w.term w.tickets k (record t { settled = true }) (q.tickets k t there) q.tickets }
+  quiet_deleted_by f w q k t there (Some change) None = q
+  quiet_deleted_by f w q k t there None n = q
+
+  quiet_deleted : (f : Formats) (w : World) → IsQuiet s w → (k : ℕ) (o : Option Ticket) → fin.get w.tickets k ≡ o → IsQuiet s (delete_settled f w k o)
+  quiet_deleted f w q k None there = q
+  quiet_deleted f w q k (Some t) there = quiet_deleted_by f w q k t there (swap f t) t.raised
+
+  quiet_undeleted_by : (w : World) → IsQuiet s w → (k : ℕ) (t : Ticket) → fin.get w.tickets k ≡ Some t → (x : Option Deletion) → fin.get w.deletes t.op ≡ x → IsQuiet s (delete_failed_by w k t x)
+  quiet_undeleted_by w q k t there None x_there = q
+  quiet_undeleted_by w q k t there (Some x) x_there =
+      record { present = q.present; no_cleanup = put_unclean w.deletes t.op (record x { failed = true }) (q.no_cleanup t.op x x_there) q.no_cleanup; ops = q.ops; tickets = put_fine s w.term w.tickets k (record t { out = false }) (q.tickets k t there) q.tickets }
+
+  quiet_undeleted : (w : World) → IsQuiet s w → (k : ℕ) (o : Option Ticket) → fin.get w.tickets k ≡ o → IsQuiet s (delete_failed w k o)
+  quiet_undeleted w q k None there = q
+  quiet_undeleted w q k (Some t) there =
+      quiet_either _ (delete_failed_by w k t (fin.get w.deletes t.op)) (is_stale w t t.work)
+      (record { present = q.present; no_cleanup = q.no_cleanup; ops = q.ops; tickets = put_fine s w.term w.tickets k (record t { out = false }) (q.tickets k t there) q.tickets })
+      (quiet_undeleted_by w q k t there (fin.get w.deletes t.op) refl)
+
+  quiet_pruned : (f : Formats) (w : World) → IsQuiet s w → (k : ℕ) (prune : Prune) (reply : Reply) (image : Option Image) → IsQuiet s (prune_step f w k prune reply image)
+  quiet_pruned f w q k (FetchShard name) WasFetched image = quiet_change w q k (fetching name (told_blob f image name)) (fine_fetching w.term name (told_blob f image name)) (fin.get w.tickets k) refl
+  quiet_pruned f w q k (FetchShard name) reply image = q
+  quiet_pruned f w q k (PlanShards shards) reply image =
+      let x = quiet_change w q k (planned f shards w.next_id) (fine_planned w.term f shards w.next_id) (fin.get w.tickets k) refl in
+      record { present = x.present; no_cleanup = x.no_cleanup; ops = x.ops; tickets = x.tickets }
+  quiet_pruned f w q k SettlePruned reply image = quiet_deleted f w q k (fin.get w.tickets k) refl
+  quiet_pruned f w q k (RemoveDoomed names) reply image = quiet_same w _ q refl refl refl refl refl
+  quiet_pruned f w q k EndDelete reply image = quiet_change w q k (λ t. record t { out = false }) (λ t x. x) (fin.get w.tickets k) refl
+  quiet_pruned f w q k (DeleteFails why) reply image = quiet_undeleted w q k (fin.get w.tickets k) refl
+
+  -- ---- all steps
+
+  -- what is asked is steady, nobody is elected, and no clone is asked
+  record Suits (step : Step) : Type 0 where
     steady : (name : Bytes) (indices : List AskedIndex) (moment : ℕ) → step ≡ AskStep (Snapshot name indices moment) → IsSteady s indices
     unelected : step ≢ ElectStep
-    unasked : AsksNoDelete step
-    unpruned : (prune : Prune) → step ≡ PruneStep prune → ⊥
-    undeleted : (ticket op : ℕ) (uuids : List ℕ) → reply ≡ Gave ticket op (GivenDelete uuids) → ⊥
+    uncloned : AsksNoClone step
 
-  quiet_step : (f : Formats) (w : World) → IsQuiet s w → (k : ℕ) (step : Step) (reply : Reply) (image : Option Image) → Suits step reply → IsQuiet s (done_step f w k step reply image)
+  quiet_step : (f : Formats) (w : World) → IsQuiet s w → (k : ℕ) (step : Step) (reply : Reply) (image : Option Image) → Suits step → IsQuiet s (done_step f w k step reply image)
   quiet_step f w q k (AskStep (Snapshot name indices moment)) reply image h = quiet_asked w q name indices moment (h.steady name indices moment refl)
-  quiet_step f w q k (AskStep (DeleteSnapshots names)) reply image h = absurd (h.unasked names refl)
+  quiet_step f w q k (AskStep (Clone source name names moment taken)) reply image h = absurd (h.uncloned source name names moment taken refl)
+  quiet_step f w q k (AskStep (DeleteSnapshots names)) reply image h = quiet_delete w q names (waiting_delete w) (running_delete w (named_uuids w names))
   quiet_step f w q k (AskStep (Restore name place)) (AcceptedRestore o uuid indices) image h = quiet_same w _ q refl refl refl refl refl
-  quiet_step f w q k TakeStep (Gave ticket op unit) image h = quiet_taken f w q op unit (fin.get w.ops op) refl (λ uuids e. h.undeleted ticket op uuids (ap (λ (x : Given). Gave ticket op x) e))
+  quiet_step f w q k TakeStep (Gave ticket op unit) image h = quiet_taken f w q op unit (fin.get w.ops op) refl
   quiet_step f w q k (DrawStep n) reply image h = quiet_drawn w q k n (fin.get w.tickets k) refl
   quiet_step f w q k (CommitStep name) WasDone image h = quiet_change w q k (committing name (told_blob f image name)) (fine_committing w.term name (told_blob f image name)) (fin.get w.tickets k) refl
   quiet_step f w q k (CommitStep name) WasThere image h = quiet_change w q k (λ t. noting t name) (λ t x. x) (fin.get w.tickets k) refl
@@ -364,56 +448,25 @@ module _ (s : Start) where
   quiet_step f w q k DroppedStep reply image h = quiet_dropped w q k (fin.get w.tickets k) refl
   quiet_step f w q k ElectStep reply image h = absurd (h.unelected refl)
   quiet_step f w q k (ReadStep read) reply image h = quiet_read_by f w q k read reply image
-  quiet_step f w q k (PruneStep prune) reply image h = absurd (h.unpruned prune refl)
+  quiet_step f w q k (PruneStep prune) reply image h = quiet_pruned f w q k prune reply image
   quiet_step f w q k step reply image h = q
 
-  quiet_answered : (f : Formats) (w : World) → IsQuiet s w → (k : ℕ) (step : Step) (reply : Reply) (image : Option Image) → Suits step reply → reply ≢ Refused DepotFault → IsQuiet s (answered f w k step reply image)
+  quiet_answered : (f : Formats) (w : World) → IsQuiet s w → (k : ℕ) (step : Step) (reply : Reply) (image : Option Image) → Suits step → reply ≢ Refused DepotFault → IsQuiet s (answered f w k step reply image)
   quiet_answered f w q k step (Refused DepotFault) image h calm = absurd (calm refl)
   quiet_answered f w q k step (Refused refusal) image h calm = q
   quiet_answered f w q k step reply image h calm = quiet_step f w q k step reply image h
 
-  quiet_after : (f : Formats) (w : World) → IsQuiet s w → (m : Moment) → Suits m.entry.step m.entry.reply → m.entry.reply ≢ Refused DepotFault → IsQuiet s (after f w m)
-  quiet_after f w q m h calm = let x = quiet_answered f w q m.entry.who m.entry.step m.entry.reply m.image h calm in record { present = x.present; no_deletes = x.no_deletes; ops = x.ops; tickets = x.tickets }
+  quiet_after : (f : Formats) (w : World) → IsQuiet s w → (m : Moment) → Suits m.entry.step → m.entry.reply ≢ Refused DepotFault → IsQuiet s (after f w m)
+  quiet_after f w q m h calm = let x = quiet_answered f w q m.entry.who m.entry.step m.entry.reply m.image h calm in record { present = x.present; no_cleanup = x.no_cleanup; ops = x.ops; tickets = x.tickets }
 
   -- ---- histories
 
-  -- in such a world no delete is given or worked
-  pruned_none : (f : Formats) (w : World) → IsQuiet s w → (who : ℕ) (prune : Prune) (reply : Reply) (image : Option Image) → PruneAllows f w who prune reply image → ⊥
-  pruned_none f w q who prune reply image a = let d = prune_has_delete f w who prune reply image a in (q.tickets d.k d.t d.there).no_delete d.uuids d.plan d.work
-
-  abbrev NoDelete : Step → Reply → Type 0
-  NoDelete step reply = ((prune : Prune) → step ≡ PruneStep prune → ⊥) × ((ticket op : ℕ) (uuids : List ℕ) → reply ≡ Gave ticket op (GivenDelete uuids) → ⊥)
-
-  no_prune : (f : Formats) (size : ℕ) (w : World) → IsQuiet s w → (who : ℕ) (prune : Prune) (reply : Reply) (image : Option Image) → Allows f size w who (PruneStep prune) reply image → ⊥
-  no_prune f size w q who prune reply image (allowed.Pruning k p rep im h) = pruned_none f w q k p rep im h
-
-  no_gift : (f : Formats) (size : ℕ) (w : World) → IsQuiet s w → (who : ℕ) (step : Step) (ticket op : ℕ) (uuids : List ℕ) (image : Option Image) → Allows f size w who step (Gave ticket op (GivenDelete uuids)) image → ⊥
-  no_gift f size w q who step ticket op uuids image (allowed.Giving k o unit im is lowest g same) = nothing w.deletes o g.0 q.no_deletes g.1.there
-  no_gift f size w q who step ticket op uuids image (allowed.AskingRestore name place rep im h same) = elim h [ ]
-  no_gift f size w q who step ticket op uuids image (allowed.AskingDelete names rep im h same) = elim h [ ]
-  no_gift f size w q who step ticket op uuids image (allowed.Reading k read rep im h same) = elim h [ ]
-  no_gift f size w q who step ticket op uuids image (allowed.Verifying read rep im h) = elim h [ ]
-  no_gift f size w q who step ticket op uuids image (allowed.Pruning k prune rep im h) = elim h [ ]
-
-  by_allows : (f : Formats) (size : ℕ) (w : World) → IsQuiet s w → (who : ℕ) (step : Step) (reply : Reply) (image : Option Image) → Allows f size w who step reply image → NoDelete step reply
-  by_allows f size w q who step reply image a = (
-    λ prune e. no_prune f size w q who prune reply image (subst (λ (x : Step). Allows f size w who x reply image) e a),
-    λ ticket op uuids e. no_gift f size w q who step ticket op uuids image (subst (λ (x : Reply). Allows f size w who step x image) e a),
-  )
-
-  by_allowed : (f : Formats) (size : ℕ) (w : World) → IsQuiet s w → (m : Moment) → Allowed f size w m → NoDelete m.entry.step m.entry.reply
-  by_allowed f size w q m a = elim a.answered [
-    | inl alive ↦ by_allows f size w q m.entry.who m.entry.step m.entry.reply m.image alive.1
-    | inr dead ↦ absurd (true≢false (sym dead.deposed ∙ q.present))
-  ]
-
-  pub quiet_history : (f : Formats) (size : ℕ) (log : List Moment) (w : World) → IsQuiet s w → IsLegal f size w log → AreSteady s log → AreCalm log → AreUnelected log → NoDeleteAsked log → IsQuiet s (world_from f w log)
-  quiet_history f size [] w q legal steady calm unelected unasked = q
-  quiet_history f size (m ∷ log) w q legal steady calm unelected unasked =
-      let none = by_allowed f size w q m legal.0 in
+  pub quiet_history : (f : Formats) (size : ℕ) (log : List Moment) (w : World) → IsQuiet s w → IsLegal f size w log → AreSteady s log → AreCalm log → AreUnelected log → NoCloneAsked log → IsQuiet s (world_from f w log)
+  quiet_history f size [] w q legal steady calm unelected uncloned = q
+  quiet_history f size (m ∷ log) w q legal steady calm unelected uncloned =
       quiet_history f size log (after f w m)
-      (quiet_after f w q m (record { steady = λ name indices moment e. steady m name indices moment (inl refl) e; unelected = unelected m (inl refl); unasked = unasked m (inl refl); unpruned = none.0; undeleted = none.1 }) (calm m (inl refl))) legal.1
-      (λ n name indices moment h. steady n name indices moment (inr h)) (λ n h. calm n (inr h)) (λ n h. unelected n (inr h)) (λ n h. unasked n (inr h))
+      (quiet_after f w q m (record { steady = λ name indices moment e. steady m name indices moment (inl refl) e; unelected = unelected m (inl refl); uncloned = uncloned m (inl refl) }) (calm m (inl refl))) legal.1
+      (λ n name indices moment h. steady n name indices moment (inr h)) (λ n h. calm n (inr h)) (λ n h. unelected n (inr h)) (λ n h. uncloned n (inr h))
 
   none_open : AreSteadyOps s fin.empty
   none_open o op z there h = absurd (nothing fin.empty o op refl there)
@@ -421,6 +474,6 @@ module _ (s : Start) where
   none_given : (now : ℕ) → AreFine s now fin.empty
   none_given now k t there = absurd (nothing fin.empty k t refl there)
 
-  pub quiet_opened : (f : Formats) (image : Image) (w : World) → Opened f image w → w.deletes ≡ fin.empty → IsQuiet s w
-  quiet_opened f image w (OpenedEmpty none) empty = record { present = refl; no_deletes = empty; ops = none_open; tickets = none_given _ }
-  quiet_opened f image w (OpenedRecord cluster text root there reads is) empty = record { present = refl; no_deletes = empty; ops = none_open; tickets = none_given _ }
+  pub quiet_opened : (f : Formats) (image : Image) (w : World) → Opened f image w → IsQuiet s w
+  quiet_opened f image w (OpenedEmpty none) = record { present = refl; no_cleanup = numbered_unclean 1 []; ops = none_open; tickets = none_given _ }
+  quiet_opened f image w (OpenedRecord cluster text root there reads is) = record { present = refl; no_cleanup = numbered_unclean 1 (kept_deletes cluster.ops); ops = none_open; tickets = none_given _ }

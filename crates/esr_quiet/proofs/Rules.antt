@@ -1,21 +1,20 @@
 -- Only a rule of accepting refuses a step where each world of the history is free.
-use Rattle.std.proofs.Common.{◌≡◌, ◌≢◌, ℕ, true≢false, List, [], ◌∷◌, Option, Some, None, map, refl, sym, ap, ◌∙◌, subst, inl, inr}
+use Rattle.std.proofs.Common.{◌≡◌, ◌≢◌, ◌⊎◌, ℕ, true≢false, List, [], ◌∷◌, Option, Some, None, map, refl, sym, ap, ◌∙◌, subst, inl, inr}
 use Rattle.std.specs.FinMap as fin
 use Rattle.esr_model.specs.Names.{BlobName, IndexMeta}
 use Rattle.esr_model.specs.Values.{Bytes, Has, IndexRef, RootData, SnapInfo, Formats}
 use Rattle.esr_model.specs.Image.{Image, Present}
 use Rattle.esr_core.specs.World.{World, Work, Shard, Finalize, Deleting, Drop, Ticket, Swap, swap_of, metadata}
 use Rattle.esr_core.specs.Steps.{IsOut}
-use Rattle.esr_core.specs.Entry.{Asked, Snapshot, DeleteSnapshots, Restore, Read, CommitTest, Step, AskStep, CommitStep, ReadStep, NameTaken, Reply, Refused, DepotFault, Moment}
+use Rattle.esr_core.specs.Entry.{Asked, Snapshot, Clone, CloneOf, DeleteSnapshots, Restore, Read, CommitTest, Prune, Step, AskStep, CommitStep, ReadStep, PruneStep, NameTaken, Reply, Refused, DepotFault, Moment}
 use Rattle.esr_core.specs.Allowed as allowed
-use Rattle.esr_core.specs.Allowed.{Told, Commits, IsMetadata, IsOwnTest, DeleteAllows, GoingInto, NotNamed, CloneStands, RestoreStands, FullOfOps, DeleteFault, RestoreAllows, OpeningRestore, NotListed, NamedByDelete, FullOfRestores, ReadAllows, ReadFound, ReadMissing, ReadFault, RestoringShard, ReaderFailing, CheckingAll, CheckFailing, VerifyAllows, DrawingTest, TestSpent, BeginningTest, BeginTestFails, CommittingTest, TestTaken, CommitTestFails, RemovingTests, RemoveTestsFails, VerifyingAll, VerifyFailing, Allows, Allowed}
-use Rattle.esr_core.proofs.PruneFrames.{prune_has_delete}
+use Rattle.esr_core.specs.Allowed.{Told, Commits, IsMetadata, CloneAllows, OpeningClone, CloneUsed, SourceNotListed, SourceDeleted, IndexMissing, FullOfClones, CloneSpent, CloneFault, DeleteAllows, GoingInto, NotNamed, CloneStands, RestoreStands, FullOfOps, DeleteFault, RestoreAllows, OpeningRestore, NotListed, NamedByDelete, FullOfRestores, ReadAllows, ReadFound, ReadMissing, ReadFault, RestoringShard, ReaderFailing, CheckingAll, CheckFailing, VerifyAllows, DrawingTest, TestSpent, BeginningTest, BeginTestFails, CommittingTest, TestTaken, CommitTestFails, RemovingTests, RemoveTestsFails, VerifyingAll, VerifyFailing, PruneAllows, FetchingShard, ShardMissing, FetchShardFails, Planning, PlanSpent, SettlingDelete, SettleDeleteStale, SettleDeleteFails, RemovingDoomed, RemoveDoomedFails, EndingDelete, FailingDelete, Allows}
 use Rattle.esr_desk.specs.Start.{Start, formats_of, world_of, or_no_ticket}
 use Rattle.esr_quiet.specs.Free.{Free}
 use Rattle.esr_quiet.specs.Smooth.{IsSpent, IsSmooth}
 use Rattle.esr_quiet.specs.Refusals.{IsByRule, AreByRule}
 use Rattle.esr_quiet.specs.Prefixes.{Prefixes}
-use Rattle.esr_quiet.proofs.Maps.{some_same, nothing}
+use Rattle.esr_quiet.proofs.Maps.{some_same}
 use Rattle.esr_quiet.proofs.Prefixes.{told_at, place_of}
 use Rattle.esr_quiet.proofs.Quiet.{IsQuiet}
 use Rattle.esr_quiet.proofs.Passing.{quiet_at, legal_at}
@@ -36,12 +35,12 @@ named_metadata f info name bytes (inr (inr h)) = go info.indices h
 no_swap : (s : Swap) → None ≡ Some s → ⊥
 no_swap s e = cc
 
--- what a swap writes beside its root is metadata, where it is of no delete
-own_metadata : (f : Formats) (work : Work) (root : RootData) (s : Swap) → ((uuids : List ℕ) (plan : Option Swap) → work ≡ Deleting uuids plan → ⊥) → swap_of f work root ≡ Some s → (name : BlobName) (bytes : Bytes) → Has s.own (name, bytes) → IsMetadata name
-own_metadata f (Shard index number) root s none e name bytes h = absurd (no_swap s e)
-own_metadata f (Finalize info results made) root s none e name bytes h = named_metadata f info name bytes (subst (λ (x : Swap). Has x.own (name, bytes)) (sym (some_same _ s e)) h)
-own_metadata f (Deleting uuids plan) root s none e name bytes h = absurd (none uuids plan refl)
-own_metadata f Drop root s none e name bytes h = absurd (no_swap s e)
+-- what a swap writes beside its root is metadata, where it is no delete's plan
+own_metadata : (f : Formats) (work : Work) (root : RootData) (s : Swap) → swap_of f work root ≡ Some s → (name : BlobName) (bytes : Bytes) → Has s.own (name, bytes) → IsMetadata name ⊎ ((uuids : List ℕ) × (work ≡ Deleting uuids (Some s)))
+own_metadata f (Shard index number) root s e name bytes h = absurd (no_swap s e)
+own_metadata f (Finalize info results made) root s e name bytes h = inl (named_metadata f info name bytes (subst (λ (x : Swap). Has x.own (name, bytes)) (sym (some_same _ s e)) h))
+own_metadata f (Deleting uuids plan) root s e name bytes h = inr (uuids, ap (λ (p : Option Swap). Deleting uuids p) e)
+own_metadata f Drop root s e name bytes h = absurd (no_swap s e)
 
 -- ---- each refusal
 
@@ -62,7 +61,10 @@ module _ (s : Start) (f : Formats) (size : ℕ) (w : World) (q : IsQuiet s w) (f
   taken : (k : ℕ) (name : BlobName) (c : Commits f w k name) → (IsMetadata name → ⊥) → Present f w.blobs name → (Has c.t.noted name → ⊥) → ⊥
   taken k name c aside present new = elim c.may [
     | inl h ↦ elim h.2 [
-      | inl own ↦ aside (own_metadata f c.t.work c.t.root h.0 (q.tickets k c.t c.out.there).no_delete h.1 name c.bytes own)
+      | inl own ↦ elim (own_metadata f c.t.work c.t.root h.0 h.1 name c.bytes own) [
+        | inl metadata_name ↦ aside metadata_name
+        | inr plan ↦ new (free.plans k c.t plan.0 h.0 name c.bytes c.out.there plan.1 own present)
+      ]
       | inr root ↦ new (subst (Has c.t.noted) (sym root.1) (free.roots k root.0 c.t c.out.there root.2.raised (subst (Present f w.blobs) root.1 present)))
     ]
     | inr h ↦ new (free.shards k c.t name c.out.there c.out.out h.1 present)
@@ -79,6 +81,17 @@ module _ (s : Start) (f : Formats) (size : ℕ) (w : World) (q : IsQuiet s w) (f
   asks_restore name place reply image (NotListed im none) = ((Restore name place, refl), tt)
   asks_restore name place reply image (NamedByDelete uuid d im listed named) = ((Restore name place, refl), tt)
   asks_restore name place reply image (FullOfRestores uuid im listed spared full) = ((Restore name place, refl), tt)
+
+  asks_clone : (source name : Bytes) (names : List Bytes) (moment : ℕ) (taken : Option CloneOf) (reply : Reply) (image : Option Image) → (reply ≢ Refused DepotFault) → (IsSpent reply → ⊥) → CloneAllows f w source name names moment taken reply image
+      → IsRuled (AskStep (Clone source name names moment taken)) reply
+  asks_clone source name names moment taken reply image calm unspent (OpeningClone t o im acc) = tt
+  asks_clone source name names moment taken reply image calm unspent (CloneUsed uuid im clear is) = ((Clone source name names moment None, refl), tt)
+  asks_clone source name names moment taken reply image calm unspent (SourceNotListed im may none) = ((Clone source name names moment None, refl), tt)
+  asks_clone source name names moment taken reply image calm unspent (SourceDeleted uuid d im may listed named) = ((Clone source name names moment None, refl), tt)
+  asks_clone source name names moment taken reply image calm unspent (IndexMissing uuid place im may first) = ((Clone source name names moment None, refl), tt)
+  asks_clone source name names moment taken reply image calm unspent (FullOfClones uuid im may full) = ((Clone source name names moment None, refl), tt)
+  asks_clone source name names moment taken reply image calm unspent (CloneSpent uuid im may room spent) = absurd (unspent tt)
+  asks_clone source name names moment taken reply image calm unspent (CloneFault t im acc) = absurd (calm refl)
 
   asks_delete : (names : List Bytes) (reply : Reply) → (reply ≢ Refused DepotFault) → DeleteAllows w names reply → IsRuled (AskStep (DeleteSnapshots names)) reply
   asks_delete names reply calm (GoingInto acc) = tt
@@ -97,6 +110,20 @@ module _ (s : Start) (f : Formats) (size : ℕ) (w : World) (q : IsQuiet s w) (f
   reads k read reply image calm (CheckingAll snapshots blobs im checks) = tt
   reads k read reply image calm (CheckFailing why im looked) = tt
 
+  prunes : (k : ℕ) (prune : Prune) (reply : Reply) (image : Option Image) → (reply ≢ Refused DepotFault) → (IsSpent reply → ⊥) → PruneAllows f w k prune reply image → IsRuled (PruneStep prune) reply
+  prunes k prune reply image calm unspent (FetchingShard j name im g found) = tt
+  prunes k prune reply image calm unspent (ShardMissing j name im g found) = tt
+  prunes k prune reply image calm unspent (FetchShardFails j name im g same) = absurd (calm refl)
+  prunes k prune reply image calm unspent (Planning j shards im p fits back same) = tt
+  prunes k prune reply image calm unspent (PlanSpent j shards im p spent same) = absurd (unspent tt)
+  prunes k prune reply image calm unspent (SettlingDelete j im x now same) = tt
+  prunes k prune reply image calm unspent (SettleDeleteStale j im x apart same) = absurd (present j x.t x.may.out apart)
+  prunes k prune reply image calm unspent (SettleDeleteFails j im x now same) = absurd (calm refl)
+  prunes k prune reply image calm unspent (RemovingDoomed j names im r removed) = tt
+  prunes k prune reply image calm unspent (RemoveDoomedFails j names im r removed) = absurd (calm refl)
+  prunes k prune reply image calm unspent (EndingDelete j im e same) = tt
+  prunes k prune reply image calm unspent (FailingDelete j why im x same) = tt
+
   -- a test blob that is there is one that who 0 committed
   verifies : (read : Read) (reply : Reply) (image : Option Image) (i : Image) → image ≡ Some i → (reply ≢ Refused DepotFault) → (IsSpent reply → ⊥) → IsNewTest w (ReadStep read) → VerifyAllows f w read reply image → IsRuled (ReadStep read) reply
   verifies read reply image i told calm unspent new (DrawingTest im idle fits same) = tt
@@ -113,11 +140,12 @@ module _ (s : Start) (f : Formats) (size : ℕ) (w : World) (q : IsQuiet s w) (f
 
   ruled : (who : ℕ) (step : Step) (reply : Reply) (image : Option Image) (i : Image) → image ≡ Some i → (reply ≢ Refused DepotFault) → (IsSpent reply → ⊥) → IsNew w who step → IsNewTest w step → Allows f size w who step reply image → IsRuled step reply
   ruled who step reply image i told calm unspent new new_test (allowed.AskingRestore name place rep im h same) = asks_restore name place rep im h
+  ruled who step reply image i told calm unspent new new_test (allowed.AskingClone source name names moment taken rep im h same) = asks_clone source name names moment taken rep im calm unspent h
   ruled who step reply image i told calm unspent new new_test (allowed.AskingDelete names rep im h same) = asks_delete names rep calm h
   ruled who step reply image i told calm unspent new new_test (allowed.Reading k read rep im h same) = reads k read rep im calm h
   ruled who step reply image i told calm unspent new new_test (allowed.Verifying read rep im h) = verifies read rep im i told calm unspent new_test h
-  ruled who step reply image i told calm unspent new new_test (allowed.Pruning k prune rep im h) = let d = prune_has_delete f w k prune rep im h in absurd ((q.tickets d.k d.t d.there).no_delete d.uuids d.plan d.work)
-  ruled who step reply image i told calm unspent new new_test (allowed.Cleaning command d x im recorded there clean same) = absurd (nothing w.deletes d x q.no_deletes there)
+  ruled who step reply image i told calm unspent new new_test (allowed.Pruning k prune rep im h) = prunes k prune rep im calm unspent h
+  ruled who step reply image i told calm unspent new new_test (allowed.Cleaning command d x im recorded there clean same) = absurd (true≢false (sym clean ∙ q.no_cleanup d x there))
   ruled who step reply image i told calm unspent new new_test (allowed.Used name indices moment uuid im clear is same) = ((Snapshot name indices moment, refl), tt)
   ruled who step reply image i told calm unspent new new_test (allowed.Full name indices moment im clear unused full same) = ((Snapshot name indices moment, refl), tt)
   ruled who step reply image i told calm unspent new new_test (allowed.AskSpent name indices moment im clear unused room spent same) = absurd (unspent tt)
@@ -164,5 +192,6 @@ by_rule s log smooth prefixes m refusal has reply =
 pub no_rule : (command : Asked) (name : BlobName) → IsByRule command (NameTaken name) → ⊥
 no_rule (Snapshot of indices time) name h = h
 no_rule (Restore of place) name h = h
+no_rule (Clone source of names time taken) name h = h
 no_rule (DeleteSnapshots names) name h = h
 no_rule command name h = h

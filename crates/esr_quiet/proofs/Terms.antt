@@ -10,10 +10,10 @@ use Rattle.esr_core.specs.World.{World, Op, ShardWork, Drop, Swap, Ticket, ReadS
 use Rattle.esr_core.specs.Restores.{restore_shard}
 use Rattle.esr_core.specs.Steps.{noting, shard_ticket, final_ticket}
 use Rattle.esr_core.specs.Turns.{plain_ticket}
-use Rattle.esr_core.specs.Entry.{Asked, Snapshot, Clone, DeleteSnapshots, Restore, Cleanup, Given, GivenShard, GivenFinalize, GivenDrop, GivenRestore, Read, ReadBlob, RestoredShard, CheckedAll, DrawTest, CommitTest, ReadFails, Step, AskStep, TakeStep, DrawStep, BeginStep, CommitStep, LatestStep, FetchStep, RaiseStep, SettleStep, DoneStep, FailedStep, FinishStep, DroppedStep, ElectStep, ReadStep, DeposedAt, StaleTerm, DepotFault, Reply, Gave, DrawnFrom, WasDone, WasThere, WasFetched, HasEnded, Refused, AcceptedRestore, Moment, GivenDelete, Prune, PruneStep}
+use Rattle.esr_core.specs.Entry.{CloneOf, Asked, Snapshot, Clone, DeleteSnapshots, Restore, Cleanup, Given, GivenShard, GivenFinalize, GivenDrop, GivenRestore, GivenClone, Read, ReadBlob, RestoredShard, CheckedAll, DrawTest, CommitTest, ReadFails, Step, AskStep, TakeStep, DrawStep, BeginStep, CommitStep, LatestStep, FetchStep, RaiseStep, SettleStep, DoneStep, FailedStep, FinishStep, DroppedStep, ElectStep, ReadStep, DeposedAt, StaleTerm, DepotFault, Reply, Gave, DrawnFrom, WasDone, WasThere, WasFetched, HasEnded, Refused, AcceptedRestore, Moment, GivenDelete, Prune, PruneStep}
 use Rattle.esr_core.specs.After.{asked, taken_shard, taken_restore_shard, taken_restore, taken_by, read_told, shard_over, read_over, read_step, read_by, test_left, shard_of, with_given, committing, told_blob, fetching, settled_by, settled_of, done_by, done_of, is_stale, failed_by, failed_of, dropped_of, done_step, has_text, fallen, is_latest, faulted, answered, after}
 use Rattle.esr_core.specs.Allowed as allowed
-use Rattle.esr_core.specs.Allowed.{PruneAllows, DeleteAllows, RestoreAllows, OpeningRestore, NotListed, NamedByDelete, FullOfRestores, ReadAllows, ReadFound, ReadMissing, ReadFault, RestoringShard, ReaderFailing, CheckingAll, CheckFailing, VerifyAllows, DrawingTest, TestSpent, BeginningTest, BeginTestFails, CommittingTest, TestTaken, CommitTestFails, RemovingTests, RemoveTestsFails, VerifyingAll, VerifyFailing, Allows, Allowed}
+use Rattle.esr_core.specs.Allowed.{PruneAllows, DeleteAllows, CloneAllows, RestoreAllows, OpeningRestore, NotListed, NamedByDelete, FullOfRestores, ReadAllows, ReadFound, ReadMissing, ReadFault, RestoringShard, ReaderFailing, CheckingAll, CheckFailing, VerifyAllows, DrawingTest, TestSpent, BeginningTest, BeginTestFails, CommittingTest, TestTaken, CommitTestFails, RemovingTests, RemoveTestsFails, VerifyingAll, VerifyFailing, Allows, Allowed}
 use Rattle.esr_core.specs.History.{world_from}
 use Rattle.esr_core.proofs.AskedDeletes.{delete_leaves}
 use Rattle.esr_core.proofs.PruneFrames.{PruneStays, prune_stays, prune_fault_stays}
@@ -42,6 +42,8 @@ present_change w k g (Some t) there like h = put w k (g t) (like t ∙ h k t the
 
 present_asked : (w : World) (command : Asked) → ArePresent w → ArePresent (asked w command)
 present_asked w (Snapshot name indices moment) h = h
+present_asked w (Clone source name indices moment None) h = h
+present_asked w (Clone source name indices moment (Some taken)) h = h
 present_asked w (DeleteSnapshots names) h = subst ArePresent (sym (delete_leaves w names)) h
 present_asked w command h = h
 
@@ -60,6 +62,8 @@ present_restore w o index number (Some r) h = present_restore_shard w o r (resto
 present_taken : (f : Formats) (w : World) (o : ℕ) (unit : Given) (op : Option Op) → ArePresent w → ArePresent (taken_by f w o unit op)
 present_taken f w o (GivenShard index number base) (Some op) h = present_shard w o op base (shard_of op.shards index number) h
 present_taken f w o (GivenShard index number base) None h = h
+present_taken f w o (GivenClone index number source base) (Some op) h = present_shard w o op base (shard_of op.shards index number) h
+present_taken f w o (GivenClone index number source base) None h = h
 present_taken f w o (GivenFinalize info results) (Some op) h = put w w.next_ticket (final_ticket f w o op results) refl h
 present_taken f w o (GivenFinalize info results) None h = h
 present_taken f w o GivenDrop op h = put w w.next_ticket (plain_ticket w o Drop) refl h
@@ -141,6 +145,7 @@ present_prune w new k p h j u there = elim p.tickets [
 
 present_step : (f : Formats) (w : World) (k : ℕ) (step : Step) (reply : Reply) (image : Option Image) → step ≢ ElectStep → ArePresent w → ArePresent (done_step f w k step reply image)
 present_step f w k (AskStep (Snapshot name indices moment)) reply image none h = present_asked w (Snapshot name indices moment) h
+present_step f w k (AskStep (Clone source name indices moment taken)) reply image none h = present_asked w (Clone source name indices moment taken) h
 present_step f w k (AskStep (DeleteSnapshots names)) reply image none h = present_asked w (DeleteSnapshots names) h
 present_step f w k (AskStep (Restore name place)) (AcceptedRestore o uuid indices) image none h = h
 present_step f w k TakeStep (Gave ticket op unit) image none h = present_taken f w op unit (fin.get w.ops op) h
@@ -187,7 +192,7 @@ present_fault f w k (BeginStep name) image none h = present_either _ w (is_lates
 present_fault f w k (ReadStep (CommitTest name)) image none h = present_left w name (fin.get w.blobs (f.names.text name)) (told_blob f image name) h
 present_fault f w k (PruneStep prune) image none h = present_prune w _ k (prune_fault_stays f w k prune image) h
 present_fault f w k (AskStep (Snapshot name indices moment)) image none h = present_fallen f w _ image h (present_step f w k (AskStep (Snapshot name indices moment)) HasEnded image none h)
-present_fault f w k (AskStep (Clone source name indices moment)) image none h = present_fallen f w w image h h
+present_fault f w k (AskStep (Clone source name indices moment taken)) image none h = present_fallen f w (asked w (Clone source name indices moment taken)) image h (present_asked w (Clone source name indices moment taken) h)
 present_fault f w k (AskStep (DeleteSnapshots names)) image none h = present_fallen f w (asked w (DeleteSnapshots names)) image h (present_step f w k (AskStep (DeleteSnapshots names)) HasEnded image none h)
 present_fault f w k (AskStep (Restore name place)) image none h = h
 present_fault f w k (AskStep Cleanup) image none h = present_fallen f w w image h h
@@ -228,6 +233,16 @@ deletes_now w names reply (allowed.RestoreStands o clear named no_clone lowest) 
 deletes_now w names reply (allowed.FullOfOps may new full) = tt
 deletes_now w names reply (allowed.DeleteFault acc) = tt
 
+clones_now : (f : Formats) (w : World) (source name : Bytes) (names : List Bytes) (moment : ℕ) (taken : Option CloneOf) (reply : Reply) (image : Option Image) → CloneAllows f w source name names moment taken reply image → NotStale reply
+clones_now f w source name names moment taken reply image (allowed.OpeningClone of o im acc) = tt
+clones_now f w source name names moment taken reply image (allowed.CloneUsed uuid im clear is) = tt
+clones_now f w source name names moment taken reply image (allowed.SourceNotListed im may none) = tt
+clones_now f w source name names moment taken reply image (allowed.SourceDeleted uuid d im may listed named) = tt
+clones_now f w source name names moment taken reply image (allowed.IndexMissing uuid place im may first) = tt
+clones_now f w source name names moment taken reply image (allowed.FullOfClones uuid im may full) = tt
+clones_now f w source name names moment taken reply image (allowed.CloneSpent uuid im may room spent) = tt
+clones_now f w source name names moment taken reply image (allowed.CloneFault of im acc) = tt
+
 reads_now : (f : Formats) (w : World) (k : ℕ) (read : Read) (reply : Reply) (image : Option Image) → ReadAllows f w k read reply image → NotStale reply
 reads_now f w k read reply image (ReadFound j name im stored by there) = tt
 reads_now f w k read reply image (ReadMissing j name im stored by none) = tt
@@ -259,6 +274,7 @@ allowed_now f size w h who step reply image (allowed.RaiseStale k im may apart s
 allowed_now f size w h who step reply image (allowed.SettleStale k n t swapped im may apart same) = apart (h k t may.out.there)
 allowed_now f size w h who step reply image (allowed.DropStale k im may apart same) = apart (h k may.t may.out.there)
 allowed_now f size w h who step reply image (allowed.AskingRestore name place rep im a same) = restores_now f w name rep im a
+allowed_now f size w h who step reply image (allowed.AskingClone source name names moment taken rep im a same) = clones_now f w source name names moment taken rep im a
 allowed_now f size w h who step reply image (allowed.AskingDelete names rep im a same) = deletes_now w names rep a
 allowed_now f size w h who step reply image (allowed.Reading k read rep im a same) = reads_now f w k read rep im a
 allowed_now f size w h who step reply image (allowed.Verifying read rep im a) = verifies_now f w read rep im a

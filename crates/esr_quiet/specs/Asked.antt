@@ -1,7 +1,7 @@
 -- What was asked at lines, by a history.
-use Rattle.std.specs.Prelude.{◌≡◌, ℕ, ◌<◌, ◌==◌, Bool, true, false, ◌&&◌, if◌then◌else◌, List, [], ◌∷◌, ◌++◌}
+use Rattle.std.specs.Prelude.{◌≡◌, ℕ, ◌<◌, ◌==◌, Bool, true, false, ◌&&◌, if◌then◌else◌, List, [], ◌∷◌, ◌++◌, None}
 use Rattle.esr_model.specs.Values.{Bytes, Has}
-use Rattle.esr_core.specs.Entry.{AskedIndex, Snapshot, DrawTest, Step, AskStep, TakeStep, ReadStep, Entry, Moment}
+use Rattle.esr_core.specs.Entry.{AskedIndex, Snapshot, Clone, DrawTest, Step, AskStep, TakeStep, ReadStep, Entry, Moment}
 use Rattle.esr_desk.specs.Start.{Start, Legal}
 
 -- A line asks for the step: it takes no unit, and is no further step of a check or of a verification. What a verification asks for is
@@ -16,10 +16,15 @@ is_line_ask step = true
 abbrev pub is_asked : Entry → Bool
 is_asked e = (e.who == 0) && is_line_ask e.step
 
+-- the step as a line asks for it: what a clone takes its entry alone tells
+abbrev pub as_asked : Step → Step
+as_asked (AskStep (Clone source name indices moment taken)) = AskStep (Clone source name indices moment None)
+as_asked step = step
+
 -- what was asked, in order
 abbrev pub asked_steps : List Moment → List Step
 asked_steps [] = []
-asked_steps (m ∷ log) = if is_asked m.entry then m.entry.step ∷ asked_steps log else asked_steps log
+asked_steps (m ∷ log) = if is_asked m.entry then as_asked m.entry.step ∷ asked_steps log else asked_steps log
 
 -- a history has gone on by legal steps, and these were asked by them where nobody else makes a step
 pub record GrewAsking (s : Start) (steps : List Step) (old new : List Moment) : Type 0 where

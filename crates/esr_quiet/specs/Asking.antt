@@ -6,11 +6,11 @@ use Rattle.esr_core.specs.Entry.{Step, TakeStep, Reply, Refused, Refusal, Moment
 use Rattle.esr_desk.specs.Start.{Start}
 use Rattle.esr_desk.specs.Outcome.{Stepped, Refusing}
 use Rattle.esr_desk.specs.Grew.{AllOf, GrewBy}
-use Rattle.esr_quiet.specs.Asked.{is_line_ask, is_asked, asked_steps, GrewAsking}
+use Rattle.esr_quiet.specs.Asked.{is_line_ask, is_asked, as_asked, asked_steps, GrewAsking}
 
 one_append : (m : Moment) (a b : List Moment) (t : Bool) → asked_steps (a ++ b) ≡ asked_steps a ++ asked_steps b
-    → (if t then m.entry.step ∷ asked_steps (a ++ b) else asked_steps (a ++ b)) ≡ (if t then m.entry.step ∷ asked_steps a else asked_steps a) ++ asked_steps b
-one_append m a b true rest = ap (λ (l : List Step). m.entry.step ∷ l) rest
+    → (if t then as_asked m.entry.step ∷ asked_steps (a ++ b) else asked_steps (a ++ b)) ≡ (if t then as_asked m.entry.step ∷ asked_steps a else asked_steps a) ++ asked_steps b
+one_append m a b true rest = ap (λ (l : List Step). as_asked m.entry.step ∷ l) rest
 one_append m a b false rest = rest
 
 pub asked_append : (a b : List Moment) → asked_steps (a ++ b) ≡ asked_steps a ++ asked_steps b
@@ -28,7 +28,7 @@ is_nobody who some = go (who == 0) refl
 pub none_asked : (who : ℕ) (more : List Moment) → who ≢ 0 → AllOf who more → asked_steps more ≡ []
 none_asked who [] some own = refl
 none_asked who (m ∷ more) some own =
-    ap (λ (b : Bool). if b && is_line_ask m.entry.step then m.entry.step ∷ asked_steps more else asked_steps more) (ap (λ (k : ℕ). k == 0) own.0 ∙ is_nobody who some) ∙ none_asked who more some own.1
+    ap (λ (b : Bool). if b && is_line_ask m.entry.step then as_asked m.entry.step ∷ asked_steps more else asked_steps more) (ap (λ (k : ℕ). k == 0) own.0 ∙ is_nobody who some) ∙ none_asked who more some own.1
 
 pub asking_none : (s : Start) (log : List Moment) → GrewAsking s [] log log
 asking_none s log = record { more = []; is = sym (append-nil log); legal = λ was. was; asked = λ alone. refl }
@@ -46,7 +46,7 @@ asking_by s who old new some g = record { more = g.more; is = g.is; legal = g.le
 
 -- a step of who 0 asks for itself where a line asks for it: what takes a unit, or is a further step of a verification, asks for nothing
 abbrev pub asks_of : Step → List Step
-asks_of step = if is_line_ask step then step ∷ [] else []
+asks_of step = if is_line_ask step then as_asked step ∷ [] else []
 
 pub asking_stepped : (s : Start) (old new : List Moment) (step : Step) (reply : Reply) → Stepped s old new 0 step reply → GrewAsking s (asks_of step) old new
 asking_stepped s old new step reply h =

@@ -1,4 +1,4 @@
--- The failures of units, restores, verifications and checks in a history have causes.
+-- The failures of units, restores, deletes, verifications and checks in a history have causes.
 use Rattle.std.specs.Prelude.{ℕ, List}
 use Rattle.esr_core.specs.Entry.{Why, Moment}
 use Rattle.esr_desk.specs.declared.fault.Fault.{Fault}
@@ -6,6 +6,7 @@ use Rattle.esr_desk.specs.Start.{Start}
 use Rattle.esr_desk.specs.Shown.{Counts, IsReport, IsShownAt}
 use Rattle.esr_reading.specs.Shown as reading
 use Rattle.esr_reading.specs.Reports.{IsReadReport, IsReadShownAt}
+use Rattle.esr_deleting.specs.Reports.{IsDeleteReport, IsDeleteShownAt}
 use Rattle.esr_checking.specs.Shown as checking
 use Rattle.esr_checking.specs.Reports.{IsVerifyReport, IsVerifyShownAt, IsEndShownAt}
 
@@ -16,6 +17,10 @@ AreCaused c s log faults = (place who : ℕ) (why : Why) (report : IsReport log 
 -- and so was that of each shard that was not restored
 abbrev pub AreReadCaused : {S F H T : Type 0} → reading.Counts F T → Start → List Moment → List (Fault S F H T) → Type 0
 AreReadCaused c s log faults = (place who : ℕ) (why : Why) (report : IsReadReport log place who why) → IsReadShownAt c s report.front place who why faults
+
+-- and of each delete that failed
+abbrev pub AreDeleteCaused : {S F H T : Type 0} → Counts S F H T → Start → List Moment → List (Fault S F H T) → Type 0
+AreDeleteCaused c s log faults = (place who : ℕ) (why : Why) (report : IsDeleteReport log place who why) → IsDeleteShownAt c s report.front place who why faults
 
 -- and of each verification that failed
 abbrev pub AreVerifyCaused : {S F H T : Type 0} → checking.Counts S F → Start → List Moment → List (Fault S F H T) → Type 0

@@ -1,10 +1,10 @@
 -- What is still to be written is free, and no base has its snapshot yet.
-use Rattle.std.specs.Prelude.{◌≡◌, ◌≢◌, ◌⊎◌, ℕ, true, Some}
+use Rattle.std.specs.Prelude.{◌≡◌, ◌≢◌, ◌⊎◌, ℕ, true, List, Some}
 use Rattle.std.specs.FinMap as fin
 use Rattle.esr_model.specs.Names.{BlobName, Root, ShardSnap, ShardIndex}
 use Rattle.esr_model.specs.Values.{Bytes, Has, SnapList, ShardFiles, Formats}
 use Rattle.esr_model.specs.Image.{Blobs, At, Present, Reads}
-use Rattle.esr_core.specs.World.{World, Op, ShardWork, Pending, Shard, Ticket, Caller}
+use Rattle.esr_core.specs.World.{World, Op, ShardWork, Pending, Shard, Deleting, Ticket, Swap, Caller}
 use Rattle.esr_core.specs.Generations.{IsLive}
 use Rattle.esr_core.specs.Ready.{Waits}
 use Rattle.esr_core.specs.Restores.{IsTestOf}
@@ -30,6 +30,8 @@ AreOwnTests f blobs caller = (id : ℕ) (name : BlobName) → caller.drawn ≡ S
 pub record Free (f : Formats) (w : World) : Type 0 where
   -- a name that a shard's ticket may commit is that of no blob, but of one that it committed
   pub shards : (k : ℕ) (t : Ticket) (name : BlobName) → fin.get w.tickets k ≡ Some t → t.out ≡ true → ShardCommits t name → Present f w.blobs name → Has t.noted name
+  -- so is the name of an index of a shard that a delete's plan has
+  pub plans : (k : ℕ) (t : Ticket) (uuids : List ℕ) (s : Swap) (name : BlobName) (bytes : Bytes) → fin.get w.tickets k ≡ Some t → t.work ≡ Deleting uuids (Some s) → Has s.own (name, bytes) → Present f w.blobs name → Has t.noted name
   -- of a shard that is pending there is no snapshot blob yet
   pub pending : (o : ℕ) (op : Op) (s : ShardWork) → fin.get w.ops o ≡ Some op → Has op.shards s → s.state ≡ Pending → Present f w.blobs (ShardSnap s.ref.id s.number op.uuid) → ⊥
   -- the root that a ticket raised is there only where the ticket committed it

@@ -1,7 +1,7 @@
 -- The refusals that may come where nothing fails.
 use Rattle.std.specs.Prelude.{◌≡◌, List}
 use Rattle.esr_model.specs.Values.{Has}
-use Rattle.esr_core.specs.Entry.{Asked, Snapshot, DeleteSnapshots, Restore, AskStep, Refusal, NameInUse, TooMany, NoSnapshot, BeingDeleted, CloneRunning, RestoreRunning, Refused, Moment}
+use Rattle.esr_core.specs.Entry.{Asked, Snapshot, Clone, DeleteSnapshots, Restore, AskStep, Refusal, NameInUse, TooMany, NoSnapshot, NoIndex, BeingDeleted, CloneRunning, RestoreRunning, Refused, Moment}
 
 -- a rule of accepting refused a snapshot
 abbrev pub RefusesSnapshot : Refusal → Type 0
@@ -16,6 +16,15 @@ RefusesRestore (BeingDeleted op) = Unit {0}
 RefusesRestore (TooMany limit) = Unit {0}
 RefusesRestore refusal = ⊥
 
+-- or a clone
+abbrev pub RefusesClone : Refusal → Type 0
+RefusesClone (NameInUse uuid) = Unit {0}
+RefusesClone (NoSnapshot place) = Unit {0}
+RefusesClone (BeingDeleted op) = Unit {0}
+RefusesClone (NoIndex place) = Unit {0}
+RefusesClone (TooMany limit) = Unit {0}
+RefusesClone refusal = ⊥
+
 -- or a delete
 abbrev pub RefusesDelete : Refusal → Type 0
 RefusesDelete (NoSnapshot place) = Unit {0}
@@ -24,11 +33,11 @@ RefusesDelete (RestoreRunning op) = Unit {0}
 RefusesDelete (TooMany limit) = Unit {0}
 RefusesDelete refusal = ⊥
 
--- A rule of accepting refused the command. Clones and cleanups are so far refused while a cleanup is open, and none is open
--- here.
+-- A rule of accepting refused the command. Cleanups are so far refused while a cleanup is open, and none is open here.
 abbrev pub IsByRule : Asked → Refusal → Type 0
 IsByRule (Snapshot name indices moment) refusal = RefusesSnapshot refusal
 IsByRule (Restore name place) refusal = RefusesRestore refusal
+IsByRule (Clone source name names moment taken) refusal = RefusesClone refusal
 IsByRule (DeleteSnapshots names) refusal = RefusesDelete refusal
 IsByRule command refusal = ⊥
 

@@ -1,12 +1,11 @@
 -- A history over quiet objects that tell, in which no number was spent.
 use Rattle.std.specs.Prelude.{◌≡◌, ◌≢◌, ◌≤◌, ℕ, true, List}
-use Rattle.std.specs.FinMap as fin
 use Rattle.esr_model.specs.Values.{Bytes, Has}
 use Rattle.esr_model.specs.Shelf.{Shelved}
 use Rattle.esr_model.specs.Image.{Image}
 use Rattle.esr_model.specs.Kept.{Kept}
 use Rattle.esr_core.specs.World.{Opened}
-use Rattle.esr_core.specs.Entry.{AsksNoDelete, Restore, AskStep, FailedStep, Why, ElectStep, ReadStep, CheckedAll, DrawTest, ReadFails, Reply, HasEnded, Refused, DepotFault, IdsSpent, GenerationsSpent, TermsSpent, Moment}
+use Rattle.esr_core.specs.Entry.{AsksNoClone, Restore, AskStep, FailedStep, Why, ElectStep, ReadStep, PruneStep, DeleteFails, CheckedAll, DrawTest, ReadFails, Reply, HasEnded, Refused, DepotFault, IdsSpent, GenerationsSpent, TermsSpent, Moment}
 use Rattle.esr_core.specs.History.{AllKnown, AreTold, AreHonest}
 use Rattle.esr_desk.specs.Start.{Start, formats_of, Legal}
 use Rattle.esr_desk.specs.Once.{AreOnce}
@@ -31,12 +30,12 @@ AreUnspent log = (m : Moment) → Has log m → IsSpent m.entry.reply → ⊥
 abbrev pub AreUnelected : List Moment → Type 0
 AreUnelected log = (m : Moment) → Has log m → m.entry.step ≢ ElectStep
 
--- no delete was asked for
-abbrev pub NoDeleteAsked : List Moment → Type 0
-NoDeleteAsked log = (m : Moment) → Has log m → AsksNoDelete m.entry.step
+-- no clone was asked for
+abbrev pub NoCloneAsked : List Moment → Type 0
+NoCloneAsked log = (m : Moment) → Has log m → AsksNoClone m.entry.step
 
 -- The container told its image, which was kept, at the start and at each moment, and no call of it failed; the sources tell
--- all files, and no shard that was asked for fails. No delete was open at the start, and none was asked for.
+-- all files, and no shard that was asked for fails. No clone was asked for.
 pub record IsSmooth (s : Start) (log : List Moment) : Type 0 where
   pub tells : s.tells ≡ true
   pub quiet : s.quiet ≡ true
@@ -45,8 +44,6 @@ pub record IsSmooth (s : Start) (log : List Moment) : Type 0 where
   pub shelf : List Shelved
   pub kept : Kept (formats_of s) image shelf
   pub opened : Opened (formats_of s) image s.world
-  pub no_deletes : s.world.deletes ≡ fin.empty
-  pub no_delete_asked : NoDeleteAsked log
   pub legal : Legal s log
   pub told : AreTold log
   pub honest : AreHonest (formats_of s) s.world log
@@ -56,10 +53,15 @@ pub record IsSmooth (s : Start) (log : List Moment) : Type 0 where
   pub calm : AreCalm log
   pub unspent : AreUnspent log
   pub unelected : AreUnelected log
+  pub no_clone_asked : NoCloneAsked log
 
 -- no unit failed
 abbrev pub NoneFailed : List Moment → Type 0
 NoneFailed log = (m : Moment) (why : Why) → Has log m → m.entry.step ≡ FailedStep why → m.entry.reply ≢ HasEnded
+
+-- no delete failed
+abbrev pub NoneUndeleted : List Moment → Type 0
+NoneUndeleted log = (m : Moment) (why : Why) → Has log m → m.entry.step ≡ PruneStep (DeleteFails why) → m.entry.reply ≢ HasEnded
 
 -- no ticket of a restore failed
 abbrev pub NoneUnrestored : List Moment → Type 0

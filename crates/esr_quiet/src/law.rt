@@ -11,8 +11,8 @@ ghost use Rattle.esr_desk.specs.Shown.{Counts};
 ghost use Rattle.esr_desk.specs.Grew.{AllOf};
 ghost use Rattle.esr_reading.specs.Shown as reading;
 ghost use Rattle.esr_checking.specs.Shown as checking;
-ghost use Rattle.esr_quiet.specs.Caused.{AreCaused, AreReadCaused, AreVerifyCaused, AreEndsCaused};
-ghost use Rattle.esr_quiet.specs.Smooth.{IsSmooth, NoneFailed, NoneUnrestored, NoneUnverified, NoneAsked};
+ghost use Rattle.esr_quiet.specs.Caused.{AreCaused, AreReadCaused, AreDeleteCaused, AreVerifyCaused, AreEndsCaused};
+ghost use Rattle.esr_quiet.specs.Smooth.{IsSmooth, NoneFailed, NoneUndeleted, NoneUnrestored, NoneUnverified, NoneAsked};
 ghost use Rattle.esr_quiet.specs.Refusals.{AreByRule};
 ghost use Rattle.esr_quiet.specs.Prefixes.{Prefixes};
 
@@ -37,6 +37,13 @@ pub fn no_restore_fails<S, F, H, T>()
 /// Nor where none was asked, whatever the targets.
 pub fn no_unasked_restore_fails()
     ensures { (s : Start) (log : List Moment) → IsSmooth s log → NoneAsked log → NoneUnrestored log }
+{
+    each_world_is_free();
+}
+
+/// No delete fails: each index that it reads is there, and reads.
+pub fn no_delete_fails<S, F, H, T>()
+    ensures { (c : Counts S F H T) (s : Start) (log : List Moment) (faults : List (Fault S F H T)) → IsSmooth s log → AreDeleteCaused c s log faults → NoneUndeleted log }
 {
     each_world_is_free();
 }

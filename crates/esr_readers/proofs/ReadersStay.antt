@@ -227,6 +227,7 @@ restore_gives (FullOfRestores uuid im listed spared full) e = cc
 gives_it : (f : Formats) (size : ℕ) (w : World) (who : ℕ) (step : Step) (k o index number uuid : ℕ) (image : Option Image) → Allows f size w who step (Gave k o (GivenRestore index number uuid)) image → GivesIt w step k o index number uuid
 gives_it f size w who step k o index number uuid image (allowed.Giving j p unit im is lowest g same) = record { step_is = refl; k_is = is; gives = g }
 gives_it f size w who step k o index number uuid image (allowed.AskingRestore name place rep im h same) = absurd (restore_gives h refl)
+gives_it f size w who step k o index number uuid image (allowed.AskingClone source name names moment taken rep im h same) = elim h [ ]
 gives_it f size w who step k o index number uuid image (allowed.AskingDelete names rep im h same) = elim h [ ]
 gives_it f size w who step k o index number uuid image (allowed.Verifying read rep im h) = elim h [ ]
 gives_it f size w who step k o index number uuid image (allowed.Pruning j prune rep im h) = elim h [ ]
@@ -268,6 +269,7 @@ accepts_restore (OpeningRestore o uuid indices im acc) = acc
 
 accepts_it : (f : Formats) (size : ℕ) (w : World) (who : ℕ) (step : Step) (o uuid : ℕ) (indices : List IndexRef) (image : Option Image) → Allows f size w who step (AcceptedRestore o uuid indices) image → AcceptsIt f w step o uuid indices image
 accepts_it f size w who step o uuid indices image (allowed.AskingRestore name place rep im h same) = record { name = name; place = place; step_is = refl; accepts = accepts_restore h }
+accepts_it f size w who step o uuid indices image (allowed.AskingClone source name names moment taken rep im h same) = elim h [ ]
 accepts_it f size w who step o uuid indices image (allowed.AskingDelete names rep im h same) = elim h [ ]
 accepts_it f size w who step o uuid indices image (allowed.Verifying read rep im h) = elim h [ ]
 accepts_it f size w who step o uuid indices image (allowed.Pruning j prune rep im h) = elim h [ ]
@@ -570,7 +572,7 @@ module _ (f : Formats) (size : ℕ) (w : World) (t : Tracked w) where
   asked_leaves who (Restore name place) reply image (allowed.AskingRestore n p rep im h same) = restore_leaves f w n p rep im h
   asked_leaves who (Restore name place) reply image (allowed.Cleaning command d x im recorded there clean same) = absurd (true≢false (sym recorded))
   asked_leaves who (Snapshot name indices moment) reply image a = (goes_answered f w room_now who (AskStep (Snapshot name indices moment)) reply image tt).readers
-  asked_leaves who (Clone source name indices moment) reply image a = (goes_answered f w room_now who (AskStep (Clone source name indices moment)) reply image tt).readers
+  asked_leaves who (Clone source name indices moment taken) reply image a = (goes_answered f w room_now who (AskStep (Clone source name indices moment taken)) reply image tt).readers
   asked_leaves who (DeleteSnapshots names) reply image a = (goes_answered f w room_now who (AskStep (DeleteSnapshots names)) reply image tt).readers
   asked_leaves who Cleanup reply image a = (goes_answered f w room_now who (AskStep Cleanup) reply image tt).readers
 

@@ -34,6 +34,7 @@ done_allows s log k r image tracked can tells same =
       state = shard.state;
       place_is = shard.place_is;
       name_is = shard.name_is;
+      source_is = sym shard.source_is;
       drew = can.drew;
       last = can.last;
       snap_noted = can.snap_noted;

@@ -8,7 +8,6 @@ use Rattle.esr_core.specs.After.{change, with_given}
 use Rattle.esr_core.specs.Allowed.{MayDraw, Allows, Looking, Drawing, DrawSpent}
 use Rattle.std.specs.FinMap as fin
 use Rattle.esr_progress.specs.Plan.{Plan, seat_of, IsPlanOf}
-use Rattle.esr_formats.specs.Formats.{formats}
 use Rattle.esr_repo.proofs.Stepping.{same_seats}
 use Rattle.esr_desk.specs.Conditions.{CanDraw}
 use Rattle.esr_desk.specs.Start.{Start, formats_of, world_of, ticket_of}
@@ -30,7 +29,6 @@ may_look s log snapshots safe next listed safe_is next_is = record {
 -- ---- ids
 
 may_draw : (s : Start) (log : List Moment) (k n : ℕ) → CanDraw s (ticket_of s log k) n → MayDraw (formats_of s) (world_of s log) k n
-unfolding formats
 may_draw s log k n can = record { t = ticket_of s log k; out = out_is s log k can.out; shard = can.shard; once = can.once; some = can.some; most = can.most; few = can.few }
 
 abbrev drawing : ℕ → ℕ → Ticket → Ticket

@@ -3,7 +3,7 @@ use Rattle.std.proofs.Common.{◌≡◌, ◌⊎◌, ℕ, Bool, true, false, List
 use Rattle.std.proofs.lemmas.Bool.{eqb-true, eq-eqb}
 use Rattle.std.specs.FinMap as fin
 use Rattle.std.specs.Prelude.{◌==◌, if◌then◌else◌}
-use Rattle.esr_model.specs.Shelf.{Shelved}
+use Rattle.esr_model.specs.Shelf.{Command}
 use Rattle.esr_model.specs.Values.{SnapInfo, ShardResult}
 use Rattle.esr_core.specs.World.{World, Op, Ticket, Work, Shard, Finalize, Deleting, Drop}
 use Rattle.esr_core.specs.Entry.{Why, FailedStep, FinishStep, HasEnded, Moment}
@@ -62,7 +62,7 @@ no_unit (inr h) = h
 op_of : (w : World) (k : ℕ) (t : Ticket) → Tracked w → fin.get w.tickets k ≡ Some t → CanFail t → OpOf w t
 op_of w k t tracked there can = go t.work refl can.unit
   where
-    present : (info : SnapInfo) (results : List ShardResult) (made : Shelved) → t.work ≡ Finalize info results made → (b : Bool) → (t.term == w.term) ≡ b → OpOf w t
+    present : (info : SnapInfo) (results : List ShardResult) (made : Command) → t.work ≡ Finalize info results made → (b : Bool) → (t.term == w.term) ≡ b → OpOf w t
     present info results made is true e =
         let final = tracked.finals k t info results made there can.out can.unsettled (eqb-true t.term w.term e) is in
         (final.op, λ counts. final.op_there)

@@ -5,9 +5,9 @@ use Rattle.std.proofs.lemmas.List.Sums.{sum_by_push}
 use Rattle.esr_model.specs.Values.{Bytes, Formats}
 use Rattle.esr_model.specs.Image.{Image}
 use Rattle.esr_core.specs.World.{World}
-use Rattle.esr_core.specs.Entry.{Read, Prune, Step, Reply, Refused, DeposedAt, DepotFault, Entry, Moment}
+use Rattle.esr_core.specs.Entry.{CloneOf, Read, Prune, Step, Reply, Refused, DeposedAt, DepotFault, Entry, Moment}
 use Rattle.esr_core.specs.After.{swaps_record}
-use Rattle.esr_core.specs.Allowed.{DeleteAllows, RestoreAllows, VerifyAllows, ReadAllows, PruneAllows, Allows}
+use Rattle.esr_core.specs.Allowed.{DeleteAllows, CloneAllows, RestoreAllows, VerifyAllows, ReadAllows, PruneAllows, Allows}
 use Rattle.esr_core.specs.Allowed as allowed
 use Rattle.esr_depot.specs.declared.error.CallError.{CallError}
 use Rattle.esr_depot.specs.declared.error.CallError.TheVariants.{Failed}
@@ -95,6 +95,9 @@ told_none reply h = refl
 delete_never : (w : World) (names : List Bytes) (place : ℕ) → DeleteAllows w names (Refused (DeposedAt place)) → ⊥
 delete_never w names place h = elim h [ ]
 
+clone_never : (f : Formats) (w : World) (source name : Bytes) (names : List Bytes) (moment : ℕ) (taken : Option CloneOf) (place : ℕ) (image : Option Image) → CloneAllows f w source name names moment taken (Refused (DeposedAt place)) image → ⊥
+clone_never f w source name names moment taken place image h = elim h [ ]
+
 restore_never : (f : Formats) (w : World) (name : Bytes) (place : ℕ) (image : Option Image) → RestoreAllows f w name (Refused (DeposedAt place)) image → ⊥
 restore_never f w name place image h = elim h [ ]
 
@@ -108,6 +111,7 @@ prune_never : (f : Formats) (w : World) (who : ℕ) (prune : Prune) (place : ℕ
 prune_never f w who prune place image h = elim h [ ]
 
 never_deposed : (f : Formats) (part_size : ℕ) (w : World) (who : ℕ) (step : Step) (place : ℕ) (image : Option Image) → Allows f part_size w who step (Refused (DeposedAt place)) image → ⊥
+never_deposed f part_size w who step place image (allowed.AskingClone source name names moment taken reply im h same) = clone_never f w source name names moment taken place im h
 never_deposed f part_size w who step place image (allowed.AskingDelete names reply im h same) = delete_never w names place h
 never_deposed f part_size w who step place image (allowed.AskingRestore name target reply im h same) = restore_never f w name place image h
 never_deposed f part_size w who step place image (allowed.Verifying read reply im h) = verify_never f w read place image h

@@ -4,19 +4,19 @@ use Rattle.std.specs.Prelude.{if◌then◌else◌}
 use Rattle.std.specs.FinMap as fin
 use Rattle.esr_model.specs.Names.{BlobName}
 use Rattle.esr_model.specs.Values.{Bytes, SnapInfo, ShardResult, Formats}
-use Rattle.esr_model.specs.Shelf.{Shelved}
+use Rattle.esr_model.specs.Shelf.{Command}
 use Rattle.esr_model.specs.Image.{Image}
 use Rattle.esr_model.specs.Kept.{first_id}
 use Rattle.esr_model.specs.Delete.{PrunedShard, kept_count}
-use Rattle.esr_core.specs.World.{World, Op, Deletion, ShardWork, Done, Finalize, Deleting, Shard, Drop, Swap, Ticket, ReadState, Restored, NotRestored, RestoreShard, Restoring, Reader, swap, marked, info_of, shelved_of, record_of}
+use Rattle.esr_core.specs.World.{World, Op, Deletion, ShardWork, Done, Finalize, Deleting, Shard, Drop, Swap, Ticket, ReadState, Restored, NotRestored, RestoreShard, Restoring, Reader, swap, marked, info_of, made_of, record_of}
 use Rattle.esr_core.specs.Restores.{restore_shard}
 use Rattle.esr_core.specs.Pruning.{planned}
 use Rattle.esr_core.specs.Deletes.{with_named, named_uuids, waiting_delete, running_delete, aborted_ops, delete_opened, delete_merged, delete_by, asked_delete}
 use Rattle.esr_core.specs.Ids.{InTerm}
 use Rattle.esr_core.specs.Steps.{with_ticket, noting, given, completing, shard_ticket, final_ticket}
 use Rattle.esr_core.specs.Turns.{plain_ticket, fails}
-use Rattle.esr_core.specs.Entry.{Asked, Snapshot, Clone, DeleteSnapshots, Restore, Cleanup, Given, GivenShard, GivenFinalize, GivenDrop, GivenRestore, GivenDelete, Read, ReadBlob, RestoredShard, CheckedAll, DrawTest, CommitTest, ReadFails, Prune, FetchShard, PlanShards, SettlePruned, RemoveDoomed, EndDelete, DeleteFails, Step, AskStep, TakeStep, DrawStep, BeginStep, CommitStep, LatestStep, FetchStep, RaiseStep, SettleStep, DoneStep, FailedStep, FinishStep, DroppedStep, ElectStep, ReadStep, PruneStep, DepotFault, Reply, AcceptedRestore, DrawnFrom, Gave, WasDone, WasThere, WasFetched, HasEnded, Refused, Moment}
-use Rattle.esr_core.specs.After.{asked_op, new_names, asked, taken_shard, taken_restore_shard, taken_restore, taken_by, shard_of, with_given, committing, told_blob, fetching, settled_by, settled_of, done_by, done_of, is_stale, failed_by, failed_of, dropped_of, delete_settled_by, delete_settled, delete_failed_by, delete_failed, prune_step, read_told, shard_over, read_over, read_step, read_by, done_step, swaps_record, has_text, fallen, is_latest, test_left, faulted, answered, stepped}
+use Rattle.esr_core.specs.Entry.{Asked, Snapshot, Clone, DeleteSnapshots, Restore, Cleanup, Given, GivenShard, GivenFinalize, GivenDrop, GivenRestore, GivenClone, GivenDelete, Read, ReadBlob, RestoredShard, CheckedAll, DrawTest, CommitTest, ReadFails, Prune, FetchShard, PlanShards, SettlePruned, RemoveDoomed, EndDelete, DeleteFails, Step, AskStep, TakeStep, DrawStep, BeginStep, CommitStep, LatestStep, FetchStep, RaiseStep, SettleStep, DoneStep, FailedStep, FinishStep, DroppedStep, ElectStep, ReadStep, PruneStep, DepotFault, Reply, AcceptedRestore, DrawnFrom, Gave, WasDone, WasThere, WasFetched, HasEnded, Refused, Moment}
+use Rattle.esr_core.specs.After.{asked_op, new_names, cloned_op, asked, taken_shard, taken_restore_shard, taken_restore, taken_by, shard_of, with_given, committing, told_blob, fetching, settled_by, settled_of, done_by, done_of, is_stale, failed_by, failed_of, dropped_of, delete_settled_by, delete_settled, delete_failed_by, delete_failed, prune_step, read_told, shard_over, read_over, read_step, read_by, done_step, swaps_record, has_text, fallen, is_latest, test_left, faulted, answered, stepped}
 use Rattle.esr_core.specs.Allowed.{NoCleanup}
 use Rattle.esr_core.proofs.AskedDeletes.{aborts}
 use Rattle.esr_repo.specs.Log.{asks_container, calls}
@@ -119,6 +119,17 @@ frame_asked w (Snapshot name indices moment) =
       tickets = le_next w.next_ticket;
       caller = refl;
     }
+frame_asked w (Clone source name indices moment None) = frame_same None w
+frame_asked w (Clone source name indices moment (Some taken)) =
+    record {
+      deletes = λ h. h;
+      come = come_same None w.tickets;
+      uuids = ops_new w.ops w.next_op (cloned_op w name moment taken) w.next_id refl;
+      next = λ t. le_next w.next_id;
+      ops = le_same (suc w.next_op);
+      tickets = le_next w.next_ticket;
+      caller = refl;
+    }
 frame_asked w (DeleteSnapshots names) = frame_delete w names
 frame_asked w command = frame_same None w
 
@@ -134,7 +145,7 @@ shard_plain index number uuids plan e = cc
 drop_plain : (uuids : List ℕ) (plan : Option Swap) → Drop ≡ Deleting uuids plan → ⊥
 drop_plain uuids plan e = cc
 
-final_plain : (info : SnapInfo) (results : List ShardResult) (made : Shelved) (uuids : List ℕ) (plan : Option Swap) → Finalize info results made ≡ Deleting uuids plan → ⊥
+final_plain : (info : SnapInfo) (results : List ShardResult) (made : Command) (uuids : List ℕ) (plan : Option Swap) → Finalize info results made ≡ Deleting uuids plan → ⊥
 final_plain info results made uuids plan e = cc
 
 frame_shard : (w : World) (o : ℕ) (op : Op) (base : Option ℕ) (s : Option ShardWork) → fin.get w.ops o ≡ Some op → Frame None w (taken_shard w o op base s)
@@ -161,7 +172,9 @@ frame_restore w o index number (Some r) = frame_restore_shard w o r (restore_sha
 frame_taken : (f : Formats) (w : World) (o : ℕ) (unit : Given) (op : Option Op) → fin.get w.ops o ≡ op → Frame None w (taken_by f w o unit op)
 frame_taken f w o (GivenShard index number base) (Some op) there = frame_shard w o op base (shard_of op.shards index number) there
 frame_taken f w o (GivenShard index number base) None there = frame_same None w
-frame_taken f w o (GivenFinalize info results) (Some op) there = frame_given w (final_ticket f w o op results) (come_plain None w.tickets w.next_ticket (final_ticket f w o op results) (final_plain (info_of op results) results (shelved_of f op)))
+frame_taken f w o (GivenClone index number source base) (Some op) there = frame_shard w o op base (shard_of op.shards index number) there
+frame_taken f w o (GivenClone index number source base) None there = frame_same None w
+frame_taken f w o (GivenFinalize info results) (Some op) there = frame_given w (final_ticket f w o op results) (come_plain None w.tickets w.next_ticket (final_ticket f w o op results) (final_plain (info_of op results) results (made_of f op)))
 frame_taken f w o (GivenFinalize info results) None there = frame_same None w
 frame_taken f w o (GivenRestore index number uuid) op there = frame_restore w o index number (fin.get w.restores o)
 frame_taken f w o GivenDrop op there = frame_given w (plain_ticket w o Drop) (come_plain None w.tickets w.next_ticket (plain_ticket w o Drop) drop_plain)
@@ -355,6 +368,7 @@ later_term a b lt = omega (arith, lt)
 
 frame_step : (f : Formats) (w : World) (k : ℕ) (step : Step) (reply : Reply) (image : Option Image) → Frame (settler step k) w (done_step f w k step reply image)
 frame_step f w k (AskStep (Snapshot name indices moment)) reply image = frame_asked w (Snapshot name indices moment)
+frame_step f w k (AskStep (Clone source name indices moment taken)) reply image = frame_asked w (Clone source name indices moment taken)
 frame_step f w k (AskStep (DeleteSnapshots names)) reply image = frame_asked w (DeleteSnapshots names)
 frame_step f w k (AskStep (Restore name place)) (AcceptedRestore o uuid indices) image =
     record { deletes = λ h. h; come = come_same None w.tickets; uuids = ops_same w.ops w.next_id; next = λ t. le_same w.next_id; ops = le_same (suc w.next_op); tickets = le_next w.next_ticket; caller = refl }
@@ -401,7 +415,7 @@ frame_fault : (f : Formats) (w : World) (k : ℕ) (step : Step) (image : Option 
 frame_fault f w k LatestStep image = frame_tried w k
 frame_fault f w k (BeginStep name) image = frame_either None w _ w (is_latest name) (frame_tried w k) (frame_same None w)
 frame_fault f w k (AskStep (Snapshot name indices moment)) image = frame_fallen None f w _ image (frame_step f w k (AskStep (Snapshot name indices moment)) HasEnded image)
-frame_fault f w k (AskStep (Clone source name indices moment)) image = frame_fallen None f w w image (frame_same None w)
+frame_fault f w k (AskStep (Clone source name indices moment taken)) image = frame_fallen None f w (asked w (Clone source name indices moment taken)) image (frame_asked w (Clone source name indices moment taken))
 frame_fault f w k (AskStep (DeleteSnapshots names)) image = frame_fallen None f w (asked_delete w names) image (frame_delete w names)
 frame_fault f w k (AskStep Cleanup) image = frame_fallen None f w w image (frame_same None w)
 frame_fault f w k RaiseStep image = frame_fallen None f w _ image (frame_step f w k RaiseStep HasEnded image)
@@ -455,6 +469,8 @@ rests_restore w o index number (Some r) = rests_restore_shard w o r (restore_sha
 rests_taken : (f : Formats) (w : World) (o : ℕ) (unit : Given) (op : Option Op) → Rests w (taken_by f w o unit op)
 rests_taken f w o (GivenShard index number base) (Some op) = rests_shard w o op base (shard_of op.shards index number)
 rests_taken f w o (GivenShard index number base) None = rests_same w
+rests_taken f w o (GivenClone index number source base) (Some op) = rests_shard w o op base (shard_of op.shards index number)
+rests_taken f w o (GivenClone index number source base) None = rests_same w
 rests_taken f w o (GivenFinalize info results) (Some op) = record { root = refl; deposed = refl }
 rests_taken f w o (GivenFinalize info results) None = rests_same w
 rests_taken f w o GivenDrop op = record { root = refl; deposed = refl }
@@ -538,6 +554,7 @@ rests_test w name (Some was) now = rests_same w
 
 rests_step : (f : Formats) (w : World) (k : ℕ) (step : Step) (reply : Reply) (image : Option Image) → swaps_record step ≡ false → Rests w (done_step f w k step reply image)
 rests_step f w k (AskStep (Snapshot name indices moment)) reply image e = absurd (swaps e)
+rests_step f w k (AskStep (Clone source name indices moment taken)) reply image e = absurd (swaps e)
 rests_step f w k (AskStep (DeleteSnapshots names)) reply image e = absurd (swaps e)
 rests_step f w k (AskStep (Restore name place)) (AcceptedRestore o uuid indices) image e = record { root = refl; deposed = refl }
 rests_step f w k (ReadStep read) reply image e = rests_read f w k read reply image
@@ -561,7 +578,7 @@ rests_fault : (f : Formats) (w : World) (k : ℕ) (step : Step) (image : Option 
 rests_fault f w k LatestStep image e = rests_change w k (λ t. record t { tried_latest = true }) (fin.get w.tickets k)
 rests_fault f w k (BeginStep name) image e = rests_either w _ w (is_latest name) (rests_change w k (λ t. record t { tried_latest = true }) (fin.get w.tickets k)) (rests_same w)
 rests_fault f w k (AskStep (Snapshot name indices moment)) image e = absurd (swaps e)
-rests_fault f w k (AskStep (Clone source name indices moment)) image e = absurd (swaps e)
+rests_fault f w k (AskStep (Clone source name indices moment taken)) image e = absurd (swaps e)
 rests_fault f w k (AskStep (DeleteSnapshots names)) image e = absurd (swaps e)
 rests_fault f w k (AskStep Cleanup) image e = absurd (swaps e)
 rests_fault f w k (ReadStep (CommitTest name)) image e = rests_test w name (fin.get w.blobs (f.names.text name)) (told_blob f image name)

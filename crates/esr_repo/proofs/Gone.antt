@@ -4,7 +4,7 @@ use Rattle.std.specs.Prelude.{if◌then◌else◌}
 use Rattle.std.specs.FinMap as fin
 use Rattle.esr_model.specs.Names.{BlobName, Snap, File, Part}
 use Rattle.esr_model.specs.Values.{Bytes, Has, RootSnap, RootData, SnapInfo, FileEntry, ShardResult, Formats}
-use Rattle.esr_model.specs.Shelf.{Shelved, names_uuid}
+use Rattle.esr_model.specs.Shelf.{Command, names_uuid}
 use Rattle.esr_model.specs.Image.{Image}
 use Rattle.esr_model.specs.Parts.{part_names}
 use Rattle.esr_model.specs.Finalize.{finalized_root}
@@ -120,7 +120,7 @@ gone_by w new frame tracked root gone uuid a = elim (away_was None w new frame.c
 
 -- ---- over the settle of a finalization
 
-final_is : (info : SnapInfo) (results : List ShardResult) (made : Shelved) (uuids : List ℕ) (plan : Option Swap) → Finalize info results made ≡ Deleting uuids plan → ⊥
+final_is : (info : SnapInfo) (results : List ShardResult) (made : Command) (uuids : List ℕ) (plan : Option Swap) → Finalize info results made ≡ Deleting uuids plan → ⊥
 final_is info results made uuids plan e = cc
 
 some_number : (a b : ℕ) → Some a ≡ Some b → a ≡ b

@@ -31,7 +31,7 @@ use Rattle.std.specs.FinMap.{FinMap, nat_cmp-IsAntisymmetric}
 use Rattle.std.specs.FinMap as fin
 use Rattle.esr_model.specs.Names.{BlobName, Latest, Snap}
 use Rattle.esr_model.specs.Values.{Bytes, Has, IndexRef, RootSnap, RootData, SnapInfo, ShardResult, ReadsBack, Formats}
-use Rattle.esr_model.specs.Shelf.{Shelved, Create}
+use Rattle.esr_model.specs.Shelf.{Command}
 use Rattle.esr_model.specs.Places.{numbered, places}
 use Rattle.esr_model.specs.Finalize.{Finalizes, finalized_root, done_at}
 use Rattle.esr_model.specs.Delete.{PrunedShard}
@@ -43,8 +43,8 @@ use Rattle.esr_core.specs.Pruning.{delete_swap, planned_work, planned, dooms}
 use Rattle.esr_core.specs.Restores.{AreApart, restore_shard}
 use Rattle.esr_core.specs.Deletes.{asked_delete}
 use Rattle.esr_core.specs.Tracked.{Named, FinalTracked, Tracked}
-use Rattle.esr_core.specs.Entry.{Snapshot, Restore, Clone, DeleteSnapshots, Cleanup, Given, GivenShard, GivenFinalize, GivenDrop, GivenRestore, GivenDelete, Read, ReadBlob, RestoredShard, CheckedAll, DrawTest, CommitTest, ReadFails, Prune, FetchShard, PlanShards, SettlePruned, RemoveDoomed, EndDelete, DeleteFails, Step, AskStep, TakeStep, DrawStep, BeginStep, CommitStep, LatestStep, FetchStep, RaiseStep, SettleStep, DoneStep, FailedStep, FinishStep, DroppedStep, ElectStep, ReadStep, PruneStep, DepotFault, DeposedAt, Reply, Gave, DrawnFrom, WasDone, WasThere, WasFetched, WasSettled, HasEnded, Refused, AcceptedRestore, Moment}
-use Rattle.esr_core.specs.After.{taken_shard, taken_by, taken_restore, taken_restore_shard, shard_of, with_given, committing, told_blob, fetching, settled_by, settled_of, done_by, done_of, is_stale, failed_by, failed_of, dropped_of, delete_failed_by, delete_failed, read_told, read_over, shard_over, read_step, read_by, prune_step, done_step, swaps_record, has_text, fallen, is_latest, tried, test_left, faulted, answered, blobs_in, after}
+use Rattle.esr_core.specs.Entry.{CloneOf, Snapshot, Restore, Clone, DeleteSnapshots, Cleanup, Given, GivenShard, GivenFinalize, GivenDrop, GivenRestore, GivenClone, GivenDelete, Read, ReadBlob, RestoredShard, CheckedAll, DrawTest, CommitTest, ReadFails, Prune, FetchShard, PlanShards, SettlePruned, RemoveDoomed, EndDelete, DeleteFails, Step, AskStep, TakeStep, DrawStep, BeginStep, CommitStep, LatestStep, FetchStep, RaiseStep, SettleStep, DoneStep, FailedStep, FinishStep, DroppedStep, ElectStep, ReadStep, PruneStep, DepotFault, DeposedAt, Reply, Gave, DrawnFrom, WasDone, WasThere, WasFetched, WasSettled, HasEnded, Refused, AcceptedRestore, Moment}
+use Rattle.esr_core.specs.After.{asked, taken_shard, taken_by, taken_restore, taken_restore_shard, shard_of, with_given, committing, told_blob, fetching, settled_by, settled_of, done_by, done_of, is_stale, failed_by, failed_of, dropped_of, delete_failed_by, delete_failed, read_told, read_over, shard_over, read_step, read_by, prune_step, done_step, swaps_record, has_text, fallen, is_latest, tried, test_left, faulted, answered, blobs_in, after}
 use Rattle.esr_core.specs.Allowed as allowed
 use Rattle.esr_core.specs.Allowed.{FetchingShard, ShardMissing, FetchShardFails, Planning, PlanSpent, SettlingDelete, SettleDeleteStale, SettleDeleteFails, RemovingDoomed, RemoveDoomedFails, EndingDelete, FailingDelete, PruneAllows, NoDeleting, HaveGenerations, RemovesDoomed, MayRemoveTests, Told, SameBlobs, Adds, WasMade, IsInInfo, AreIndicesIn, Settles, VerifyAllows, Allows, Allowed}
 use Rattle.esr_core.proofs.AskedDeletes.{delete_leaves}
@@ -84,7 +84,7 @@ KeepsInfos f was now = (uuid : ℕ) (bytes : Bytes) → At f was (Snap uuid) byt
 abbrev pub InfosThere : Formats → World → World → Type 0
 InfosThere f w v = KeepsInfos f w.blobs v.blobs
 
-final_other : (work : Work) (info : SnapInfo) (results : List ShardResult) (made : Shelved) → work ≡ Finalize info results made → IsNoDelete work
+final_other : (work : Work) (info : SnapInfo) (results : List ShardResult) (made : Command) → work ≡ Finalize info results made → IsNoDelete work
 final_other work info results made is uuids plan e = apart (sym is ∙ e)
   where
     apart : Finalize info results made ≡ Deleting uuids plan → ⊥
@@ -234,6 +234,10 @@ fetching_work name (Some bytes) t = refl
 keeps_delete : (w : World) (names : List Bytes) → Keeps w (asked_delete w names)
 keeps_delete w names = subst (Keeps w) (sym (delete_leaves w names)) (record { root = refl; works = works_same w.tickets; none = λ h. h })
 
+keeps_clone : (w : World) (source name : Bytes) (indices : List Bytes) (moment : ℕ) (taken : Option CloneOf) → Keeps w (asked w (Clone source name indices moment taken))
+keeps_clone w source name indices moment None = keeps_same w
+keeps_clone w source name indices moment (Some taken) = record { root = refl; works = works_same w.tickets; none = λ h. h }
+
 -- ---- take
 
 keeps_shard : (w : World) → AreBelow w → (o : ℕ) (op : Op) (base : Option ℕ) (s : Option ShardWork) → Keeps w (taken_shard w o op base s)
@@ -251,6 +255,8 @@ keeps_restore w o index number (Some r) = keeps_restore_shard w o r (restore_sha
 keeps_taken : (f : Formats) (w : World) → AreBelow w → (o : ℕ) (unit : Given) (op : Option Op) → Keeps w (taken_by f w o unit op)
 keeps_taken f w below o (GivenShard index number base) (Some op) = keeps_shard w below o op base (shard_of op.shards index number)
 keeps_taken f w below o (GivenShard index number base) None = keeps_same w
+keeps_taken f w below o (GivenClone index number source base) (Some op) = keeps_shard w below o op base (shard_of op.shards index number)
+keeps_taken f w below o (GivenClone index number source base) None = keeps_same w
 keeps_taken f w below o (GivenFinalize info results) (Some op) = record { root = refl; works = works_more w.tickets w.next_ticket (final_ticket f w o op results) below; none = none_more w.tickets w.next_ticket (final_ticket f w o op results) below }
 keeps_taken f w below o (GivenFinalize info results) None = keeps_same w
 keeps_taken f w below o GivenDrop op = record { root = refl; works = works_more w.tickets w.next_ticket (plain_ticket w o Drop) below; none = none_more w.tickets w.next_ticket (plain_ticket w o Drop) below }
@@ -361,6 +367,7 @@ keeps_prune f w k prune reply image e =
 
 keeps_done_step : (f : Formats) (w : World) → AreBelow w → (k : ℕ) (step : Step) (reply : Reply) (image : Option Image) → IsNoSettle step → Keeps w (done_step f w k step reply image)
 keeps_done_step f w below k (AskStep (Snapshot name indices moment)) reply image no_settle = record { root = refl; works = works_same w.tickets; none = λ h. h }
+keeps_done_step f w below k (AskStep (Clone source name indices moment taken)) reply image no_settle = keeps_clone w source name indices moment taken
 keeps_done_step f w below k (AskStep (DeleteSnapshots names)) reply image no_settle = keeps_delete w names
 keeps_done_step f w below k (AskStep (Restore name place)) (AcceptedRestore o uuid indices) image no_settle = record { root = refl; works = works_same w.tickets; none = λ h. h }
 keeps_done_step f w below k TakeStep (Gave ticket op unit) image no_settle = keeps_taken f w below op unit (fin.get w.ops op)
@@ -396,7 +403,7 @@ keeps_fault : (f : Formats) (w : World) → AreBelow w → (k : ℕ) (step : Ste
 keeps_fault f w below k LatestStep image no_settle = keeps_change w k (λ t. record t { tried_latest = true }) (λ t. refl) (fin.get w.tickets k) refl
 keeps_fault f w below k (BeginStep name) image no_settle = keeps_either w (tried w k) w (is_latest name) (keeps_change w k (λ t. record t { tried_latest = true }) (λ t. refl) (fin.get w.tickets k) refl) (keeps_same w)
 keeps_fault f w below k (AskStep (Snapshot name indices moment)) image no_settle = keeps_fallen f w _ image (keeps_done_step f w below k (AskStep (Snapshot name indices moment)) HasEnded image tt)
-keeps_fault f w below k (AskStep (Clone source name indices moment)) image no_settle = keeps_fallen f w w image (keeps_same w)
+keeps_fault f w below k (AskStep (Clone source name indices moment taken)) image no_settle = keeps_fallen f w (asked w (Clone source name indices moment taken)) image (keeps_clone w source name indices moment taken)
 keeps_fault f w below k (AskStep (DeleteSnapshots names)) image no_settle = keeps_fallen f w (asked_delete w names) image (keeps_delete w names)
 keeps_fault f w below k (AskStep Cleanup) image no_settle = keeps_fallen f w w image (keeps_same w)
 keeps_fault f w below k RaiseStep image no_settle = keeps_fallen f w _ image (keeps_done_step f w below k RaiseStep HasEnded image tt)
@@ -534,6 +541,7 @@ module _ (f : Formats) (size : ℕ) (w : World) where
   allowed_kept who step reply image tests (allowed.Electing im room same) plain = same_kept im same
   allowed_kept who step reply image tests (allowed.Looking im same) plain = same_kept im same
   allowed_kept who step reply image tests (allowed.AskingRestore name place r im h same) plain = same_kept im same
+  allowed_kept who step reply image tests (allowed.AskingClone source name names moment taken r im h same) plain = same_kept im same
   allowed_kept who step reply image tests (allowed.AskingDelete names r im h same) plain = same_kept im same
   allowed_kept who step reply image tests (allowed.Verifying read r im h) plain = verified_kept read r im tests h
   allowed_kept who step reply image tests (allowed.Reading k read r im h same) plain = same_kept im same
@@ -707,7 +715,7 @@ pub record HasSettled (f : Formats) (w v : World) (k : ℕ) (i : Info) : Type 0 
   pub present : t.term ≡ w.term
   pub info : SnapInfo
   pub results : List ShardResult
-  pub made : Shelved
+  pub made : Command
   pub work : t.work ≡ Finalize info results made
   pub root : v.root ≡ finalized_root t.root info results
   pub works : WorksStay w v
@@ -785,26 +793,26 @@ module _ (f : Formats) (w v : World) (k : ℕ) (i : Info) (tr : Tracked w) (h : 
 -- ---- the settle of a finalization, as a step
 
 -- its world
-settled_is : (f : Formats) (w : World) (k n : ℕ) (t : Ticket) (info : SnapInfo) (results : List ShardResult) (made : Shelved) → t.work ≡ Finalize info results made → t.raised ≡ Some n
-    → settled_of f w k (Some t) ≡ settled_by f w k t (Some (record { root = finalized_root t.root info results; own = metadata f info; commands = Create made ∷ [] })) (Some n)
+settled_is : (f : Formats) (w : World) (k n : ℕ) (t : Ticket) (info : SnapInfo) (results : List ShardResult) (made : Command) → t.work ≡ Finalize info results made → t.raised ≡ Some n
+    → settled_of f w k (Some t) ≡ settled_by f w k t (Some (record { root = finalized_root t.root info results; own = metadata f info; commands = made ∷ [] })) (Some n)
 settled_is f w k n t info results made work raised = λ j. settled_by f w k t (swap_of f (work j) t.root) (raised j)
 
-pub settled_root : (f : Formats) (w : World) (k n : ℕ) (t : Ticket) (info : SnapInfo) (results : List ShardResult) (made : Shelved) → t.work ≡ Finalize info results made → t.raised ≡ Some n
+pub settled_root : (f : Formats) (w : World) (k n : ℕ) (t : Ticket) (info : SnapInfo) (results : List ShardResult) (made : Command) → t.work ≡ Finalize info results made → t.raised ≡ Some n
     → (settled_of f w k (Some t)).root ≡ finalized_root t.root info results
 settled_root f w k n t info results made work raised = ap (λ (x : World). x.root) (settled_is f w k n t info results made work raised)
 
-pub settled_works : (f : Formats) (w : World) (k n : ℕ) (t : Ticket) (info : SnapInfo) (results : List ShardResult) (made : Shelved) → fin.get w.tickets k ≡ Some t → t.work ≡ Finalize info results made → t.raised ≡ Some n
+pub settled_works : (f : Formats) (w : World) (k n : ℕ) (t : Ticket) (info : SnapInfo) (results : List ShardResult) (made : Command) → fin.get w.tickets k ≡ Some t → t.work ≡ Finalize info results made → t.raised ≡ Some n
     → WorksStay w (settled_of f w k (Some t))
 settled_works f w k n t info results made there work raised =
     subst (WorksStay w) (sym (settled_is f w k n t info results made work raised)) (works_again w.tickets k t (record t { settled = true }) there refl)
 
-settled_none : (f : Formats) (w : World) (k n : ℕ) (t : Ticket) (info : SnapInfo) (results : List ShardResult) (made : Shelved) → fin.get w.tickets k ≡ Some t → t.work ≡ Finalize info results made → t.raised ≡ Some n
+settled_none : (f : Formats) (w : World) (k n : ℕ) (t : Ticket) (info : SnapInfo) (results : List ShardResult) (made : Command) → fin.get w.tickets k ≡ Some t → t.work ≡ Finalize info results made → t.raised ≡ Some n
     → NoDeleting (settled_of f w k (Some t)) → NoDeleting w
 settled_none f w k n t info results made there work raised none =
     none_again w.tickets k t (record t { settled = true }) there refl (subst (λ (x : World). NoneOf x.tickets) (settled_is f w k n t info results made work raised) none)
 
 -- the world of a settle, where its ticket is told
-pub of_ticket : (f : Formats) (w : World) (k n : ℕ) (i : Info) (t : Ticket) (info : SnapInfo) (results : List ShardResult) (made : Shelved) → IsOut w k t → t.settled ≡ false → t.term ≡ w.term
+pub of_ticket : (f : Formats) (w : World) (k n : ℕ) (i : Info) (t : Ticket) (info : SnapInfo) (results : List ShardResult) (made : Command) → IsOut w k t → t.settled ≡ false → t.term ≡ w.term
     → t.work ≡ Finalize info results made → t.raised ≡ Some n → info_of_code i ≡ info → AreApart (map ref_of_code i.indices) → ReadsBack f.info info
     → HasSettled f w (settled_of f w k (Some t)) k i
 of_ticket f w k n i t info results made out unsettled present work raised code apart back =
@@ -825,7 +833,7 @@ of_ticket f w k n i t info results made out unsettled present work raised code a
       back = back;
     }
 
-pub infos_settled_of : (f : Formats) (w : World) (k n : ℕ) (t : Ticket) (tells : Bool) (infos : List Info) (i : Info) (info : SnapInfo) (results : List ShardResult) (made : Shelved) → Tracked w → IsOut w k t → t.settled ≡ false → t.term ≡ w.term
+pub infos_settled_of : (f : Formats) (w : World) (k n : ℕ) (t : Ticket) (tells : Bool) (infos : List Info) (i : Info) (info : SnapInfo) (results : List ShardResult) (made : Command) → Tracked w → IsOut w k t → t.settled ≡ false → t.term ≡ w.term
     → t.work ≡ Finalize info results made → t.raised ≡ Some n → info_of_code i ≡ info → AreApart (map ref_of_code i.indices) → ReadsBack f.info info
     → AreListed w.root infos → AreInfosOf f w tells infos → AreInfosOf f (settled_of f w k (Some t)) tells (infos ++ i ∷ [])
 infos_settled_of f w k n t tells infos i info results made tr out unsettled present work raised code apart back listed h =
@@ -856,7 +864,7 @@ settling : (f : Formats) (size : ℕ) (w : World) (who : ℕ) (image : Option Im
 settling f size w who image (allowed.Settling k im s same) = (s, same)
 
 -- the world after a settle that was answered Ok
-pub of_step : (f : Formats) (size : ℕ) (w : World) (m : Moment) (i : Info) (t : Ticket) (info : SnapInfo) (results : List ShardResult) (made : Shelved) → Allowed f size w m
+pub of_step : (f : Formats) (size : ℕ) (w : World) (m : Moment) (i : Info) (t : Ticket) (info : SnapInfo) (results : List ShardResult) (made : Command) → Allowed f size w m
     → m.entry.step ≡ SettleStep → m.entry.reply ≡ WasSettled → fin.get w.tickets m.entry.who ≡ Some t → t.work ≡ Finalize info results made
     → info_of_code i ≡ info → AreApart (map ref_of_code i.indices) → ReadsBack f.info info
     → HasSettled f w (after f w m) m.entry.who i × InfosThere f w (after f w m)
@@ -883,7 +891,7 @@ of_step f size w m i t info results made a step_is reply_is there work code apar
         code apart back in
         (in_step f w (answered f w m.entry.who m.entry.step m.entry.reply m.image) (after f w m) m.entry.who i refl refl (subst (λ (x : World). HasSettled f w x m.entry.who i) was over), same_kept f size w m.image same)
 
-pub infos_settle_step : (f : Formats) (size : ℕ) (w : World) (m : Moment) (tells : Bool) (infos : List Info) (i : Info) (t : Ticket) (info : SnapInfo) (results : List ShardResult) (made : Shelved) → Tracked w → Allowed f size w m
+pub infos_settle_step : (f : Formats) (size : ℕ) (w : World) (m : Moment) (tells : Bool) (infos : List Info) (i : Info) (t : Ticket) (info : SnapInfo) (results : List ShardResult) (made : Command) → Tracked w → Allowed f size w m
     → m.entry.step ≡ SettleStep → m.entry.reply ≡ WasSettled → fin.get w.tickets m.entry.who ≡ Some t → t.work ≡ Finalize info results made
     → info_of_code i ≡ info → AreApart (map ref_of_code i.indices) → ReadsBack f.info info
     → AreListed w.root infos → AreInfosOf f w tells infos → AreInfosOf f (after f w m) tells (infos ++ i ∷ []) × AreListed (after f w m).root (infos ++ i ∷ [])
@@ -902,7 +910,7 @@ done_one (s ∷ shards) (x ∷ a) [] p q = absurd q
 done_one (s ∷ shards) (x ∷ a) (y ∷ b) p q = λ j. done_same x y (sym p.0 ∙ q.0) j ∷ done_one shards a b p.1 q.1 j
 
 -- the info of a finalization that is out is that of its op
-pub final_info : (w : World) (k : ℕ) (t : Ticket) (info : SnapInfo) (results : List ShardResult) (made : Shelved) → Tracked w → IsOut w k t → t.settled ≡ false → t.term ≡ w.term → t.work ≡ Finalize info results made
+pub final_info : (w : World) (k : ℕ) (t : Ticket) (info : SnapInfo) (results : List ShardResult) (made : Command) → Tracked w → IsOut w k t → t.settled ≡ false → t.term ≡ w.term → t.work ≡ Finalize info results made
     → (x : Op) (r : List ShardResult) → fin.get w.ops t.op ≡ Some x → AllDone x.shards r → info_of x r ≡ info
 final_info w k t info results made tr out unsettled present work x r there done =
     let law : FinalTracked w.root w.ops t info results = tr.finals k t info results made out.there out.out unsettled present work in

@@ -16,6 +16,7 @@ pub mod Written
 pub mod Swapping
 pub mod Accepts
 pub mod AskedDeletes
+pub mod Clones
 pub mod Doing
 pub mod Taken
 pub mod Reading

@@ -175,6 +175,8 @@ module _ {old : Look} {s : Start} {clock : ℕ} {es : List Entry} {k : Kept} {d 
         (record {
           left = λ text bytes h. left_was gone (world_of s seen).blobs text bytes h;
           stays = λ name bytes at other. (left_stays gone (world_of s seen).blobs ((formats_of s).names.text name) (λ h. other (is_name name at.1.0 (within ((formats_of s).names.text name) h))) ∙ at.0, at.1);
+          others = λ text bytes h other. left_stays gone (world_of s seen).blobs text (λ q.
+              let found = Has-mapped name_kind.text names text (subst (λ (xs : List Bytes). Has xs text) named (within text q)) in other found.0 found.1 (sym (names_text s found.0) ∙ found.2)) ∙ h;
         })
 
   all_gone : (o : Option Held) → o ≡ drop_known (now old) texts → (j : Held) → o ≡ Some j → AreGone s seen names j.blobs

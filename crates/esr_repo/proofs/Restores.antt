@@ -88,7 +88,7 @@ refs_apart qs refs = apart_from [] qs refs (names_distinct qs refs) (ids_distinc
 
 -- ---- it is accepted
 
-told_so : (s : Start) (w : World) (uuid : ℕ) (indices : List IndexRef) (image : Option Image) → CanTell s image → WasMade (formats_of s) w uuid indices ⊎ (s.tells ≡ true → IsInInfo (formats_of s) w uuid indices)
+pub told_so : (s : Start) (w : World) (uuid : ℕ) (indices : List IndexRef) (image : Option Image) → CanTell s image → WasMade (formats_of s) w uuid indices ⊎ (s.tells ≡ true → IsInInfo (formats_of s) w uuid indices)
     → WasMade (formats_of s) w uuid indices ⊎ Told image (λ blobs. IsInInfo (formats_of s) w uuid indices)
 told_so s w uuid indices image tells (inl made) = inl made
 told_so s w uuid indices image tells (inr there) = inr (told_if s image _ tells there)

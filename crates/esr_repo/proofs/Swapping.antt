@@ -8,7 +8,7 @@ use Rattle.std.proofs.lemmas.Bool.Decides.{Decides-int_eq}
 use Rattle.std.proofs.lemmas.Int.{ints, to_z_pos}
 use Rattle.std.specs.FinMap as fin
 use Rattle.esr_model.specs.Image.{Blobs, Image}
-use Rattle.esr_model.specs.Shelf.{Shelved}
+use Rattle.esr_model.specs.Shelf.{Command}
 use Rattle.esr_model.specs.Values.{ClusterRecord, RootData, SnapInfo, ShardResult, ReadsBack, Formats}
 use Rattle.esr_core.specs.World.{World, Op, AllDone, Ticket, Work, Shard, Finalize, Deleting, Drop, Swap, swap, swap_of, record_ops, ledger_of, record_of}
 use Rattle.esr_core.specs.Steps.{IsOut, MaySettle}
@@ -63,7 +63,7 @@ unfolding formats
 info_kind_is s = refl
 
 abbrev IsFinal : Ticket → Type 0
-IsFinal t = (info : SnapInfo) × (results : List ShardResult) × (made : Shelved) × (t.work ≡ Finalize info results made)
+IsFinal t = (info : SnapInfo) × (results : List ShardResult) × (made : Command) × (t.work ≡ Finalize info results made)
 
 none_some : (b : Swap) → None ≡ Some b → ⊥
 none_some b q = cc

@@ -10,9 +10,9 @@ use Rattle.esr_model.specs.Values.{Bytes, ReadsBack, Formats}
 use Rattle.esr_model.specs.Uploads.{same_bytes}
 use Rattle.esr_model.specs.Image.{Image}
 use Rattle.esr_core.specs.World.{World, Ticket, Swap, swap, record_of}
-use Rattle.esr_core.specs.Entry.{Snapshot, Clone, DeleteSnapshots, Cleanup, Step, AskStep, RaiseStep, SettleStep, DroppedStep, ElectStep, Prune, SettlePruned, PruneStep, Reply, HasEnded, Refused, DepotFault, Entry, Moment}
+use Rattle.esr_core.specs.Entry.{CloneOf, Snapshot, Clone, DeleteSnapshots, Cleanup, Step, AskStep, RaiseStep, SettleStep, DroppedStep, ElectStep, Prune, SettlePruned, PruneStep, Reply, HasEnded, Refused, DepotFault, Entry, Moment}
 use Rattle.esr_core.specs.After.{with_given, done_step, swaps_record, text_is, has_text, settled_by, settled_of, dropped_of, delete_settled_by, delete_settled, fallen, faulted, answered, blobs_in, after}
-use Rattle.esr_core.specs.Allowed.{Accepts, Raises, DeleteAllows, GoingInto, DeleteFault, PruneAllows, SettlingDelete, SettleDeleteFails, Allows, SameBlobs, Told, Allowed}
+use Rattle.esr_core.specs.Allowed.{Accepts, Raises, AcceptsClone, CloneAllows, OpeningClone, CloneFault, DeleteAllows, GoingInto, DeleteFault, PruneAllows, SettlingDelete, SettleDeleteFails, Allows, SameBlobs, Told, Allowed}
 use Rattle.esr_core.specs.Allowed as allowed
 use Rattle.esr_core.specs.Left.{Leaves}
 use Rattle.esr_core.proofs.AskedDeletes.{delete_leaves}
@@ -61,7 +61,7 @@ swap_calls step reply h a = swap_asks step h
 module _ (f : Formats) (w : World) (who : ℕ) where
   done_is : (step : Step) (reply : Reply) (image : Option Image) → swaps_record step ≡ true → done_step f w who step reply image ≡ done_step f w who step HasEnded None
   done_is (AskStep (Snapshot name indices moment)) reply image h = refl
-  done_is (AskStep (Clone source name indices moment)) reply image h = refl
+  done_is (AskStep (Clone source name indices moment taken)) reply image h = refl
   done_is (AskStep (DeleteSnapshots names)) reply image h = refl
   done_is (AskStep Cleanup) reply image h = refl
   done_is RaiseStep reply image h = refl
@@ -79,7 +79,7 @@ module _ (f : Formats) (w : World) (who : ℕ) where
   -- or to one of two, where it failed
   faulted_is : (step : Step) (image : Option Image) → swaps_record step ≡ true → faulted f w who step image ≡ fallen f w (done_step f w who step HasEnded None) image
   faulted_is (AskStep (Snapshot name indices moment)) image h = refl
-  faulted_is (AskStep (Clone source name indices moment)) image h = refl
+  faulted_is (AskStep (Clone source name indices moment taken)) image h = refl
   faulted_is (AskStep (DeleteSnapshots names)) image h = refl
   faulted_is (AskStep Cleanup) image h = refl
   faulted_is RaiseStep image h = refl
@@ -117,7 +117,8 @@ module _ (f : Formats) (w : World) (who : ℕ) where
 
   swapped_live : (step : Step) → swaps_record step ≡ true → (done_step f w who step HasEnded None).deposed ≡ w.deposed
   swapped_live (AskStep (Snapshot name indices moment)) h = refl
-  swapped_live (AskStep (Clone source name indices moment)) h = refl
+  swapped_live (AskStep (Clone source name indices moment None)) h = refl
+  swapped_live (AskStep (Clone source name indices moment (Some taken))) h = refl
   swapped_live (AskStep (DeleteSnapshots names)) h = ap (λ (v : World). v.deposed) (delete_leaves w names)
   swapped_live (AskStep Cleanup) h = refl
   swapped_live RaiseStep h = given_live (λ t. record t { raised = Some w.pending }) (fin.get w.tickets who)
@@ -132,21 +133,27 @@ delete_may_fail : {w : World} {names : List Bytes} {reply : Reply} → DeleteAll
 delete_may_fail (GoingInto acc) a = DeleteFault acc
 delete_may_fail other a = absurd cc
 
+clone_may_fail : {f : Formats} {w : World} {source name : Bytes} {names : List Bytes} {moment : ℕ} {taken : Option CloneOf} {reply : Reply} {image : Option Image} → CloneAllows f w source name names moment taken reply image → is_refused reply ≡ false
+    → CloneAllows f w source name names moment taken (Refused DepotFault) image
+clone_may_fail {f} {w} {source} {name} {names} {moment} (OpeningClone what o im acc) a = CloneFault what im (subst (λ n. AcceptsClone f w source name names moment n what im) acc.number acc)
+clone_may_fail other a = absurd cc
+
 prune_may_fail : {f : Formats} {w : World} {who : ℕ} {prune : Prune} {reply : Reply} {image : Option Image} → PruneAllows f w who prune reply image → swaps_record (PruneStep prune) ≡ true → is_refused reply ≡ false
-    → (left : Option Image) → SameBlobs w left → PruneAllows f w who prune (Refused DepotFault) left
-prune_may_fail (SettlingDelete k im s present same) h a left is = SettleDeleteFails k left s present is
-prune_may_fail other h a left is = absurd cc
+    → SameBlobs w image → PruneAllows f w who prune (Refused DepotFault) image
+prune_may_fail (SettlingDelete k im s present same) h a is = SettleDeleteFails k im s present is
+prune_may_fail other h a is = absurd cc
 
 may_fail : {f : Formats} {part_size : ℕ} {w : World} {who : ℕ} {step : Step} {reply : Reply} {image : Option Image} → Allows f part_size w who step reply image → swaps_record step ≡ true → is_refused reply ≡ false
-    → (left : Option Image) → SameBlobs w left → Allows f part_size w who step (Refused DepotFault) left
-may_fail {f} {part_size} {w} (allowed.Accepting name indices moment o im acc same) h a left is = allowed.AskFails name indices moment left (subst (λ n. Accepts f w name indices moment n) acc.number acc) is
-may_fail (allowed.AskingDelete names reply im d same) h a left is = allowed.AskingDelete names (Refused DepotFault) left (delete_may_fail d a) is
-may_fail {f} {part_size} {w} (allowed.Raising k n im r same) h a left is = allowed.RaiseFails k left (subst (λ n. Raises f w k n) r.n_is r) is
-may_fail (allowed.Settling k im r same) h a left is = allowed.SettleFails k left r is
-may_fail (allowed.Dropping k im r same) h a left is = allowed.DropFails k left r is
-may_fail (allowed.Electing im room same) h a left is = allowed.ElectFails left room is
-may_fail (allowed.Pruning k prune reply im p) h a left is = allowed.Pruning k prune (Refused DepotFault) left (prune_may_fail p h a left is)
-may_fail other h a left is = absurd cc
+    → SameBlobs w image → Allows f part_size w who step (Refused DepotFault) image
+may_fail {f} {part_size} {w} (allowed.Accepting name indices moment o im acc same) h a is = allowed.AskFails name indices moment im (subst (λ n. Accepts f w name indices moment n) acc.number acc) is
+may_fail (allowed.AskingClone source name names moment taken reply im c same) h a is = allowed.AskingClone source name names moment taken (Refused DepotFault) im (clone_may_fail c a) is
+may_fail (allowed.AskingDelete names reply im d same) h a is = allowed.AskingDelete names (Refused DepotFault) im (delete_may_fail d a) is
+may_fail {f} {part_size} {w} (allowed.Raising k n im r same) h a is = allowed.RaiseFails k im (subst (λ n. Raises f w k n) r.n_is r) is
+may_fail (allowed.Settling k im r same) h a is = allowed.SettleFails k im r is
+may_fail (allowed.Dropping k im r same) h a is = allowed.DropFails k im r is
+may_fail (allowed.Electing im room same) h a is = allowed.ElectFails im room is
+may_fail (allowed.Pruning k prune reply im p) h a is = allowed.Pruning k prune (Refused DepotFault) im (prune_may_fail p h a is)
+may_fail other h a is = absurd cc
 
 -- ---- the image
 
@@ -286,7 +293,7 @@ module _ {old : Look} {s : Start} {clock : ℕ} {es : List Entry} {k : Kept} {d 
     bad_allowed : Swapping (now old) o text → Allowed (formats_of s) s.part_size was bad_moment
     bad_allowed h =
         record {
-          answered = inl (b.live, may_fail (m.allows (option_map image_of o) (tell_of o h) (told_blobs o h)) m.swaps m.answers (option_map image_of o) (told_blobs o h));
+          answered = inl (b.live, may_fail (m.allows (option_map image_of o) (tell_of o h) (told_blobs o h)) m.swaps m.answers (told_blobs o h));
           record_back =
               subst (λ kind. ReadsBack kind (record_of (after (formats_of s) was bad_moment))) (sym (cluster_is s))
               (subst (λ r. ReadsBack cluster_kind r) (sym bad_record) (back_either up was (has_text (option_map image_of o) ((formats_of s).cluster.text (record_of up))) back_up steady.record_back));

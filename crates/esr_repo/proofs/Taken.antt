@@ -7,8 +7,8 @@ use Rattle.std.specs.FinMap.{FinMap}
 use Rattle.std.specs.FinMap as fin
 use Rattle.esr_model.specs.Finalize.{finalized_root}
 use Rattle.esr_model.specs.Values.{Bytes, Has, IndexRef, RootData, SnapInfo, ShardResult, ReadsBack, Formats}
-use Rattle.esr_core.specs.World.{World, Op, Deletion, ShardWork, Done, AllDone, Work as UnitWork, Shard, Finalize, Deleting, Drop, Ticket, RestoreShard, Restoring, Reader, info_of, shelved_of}
-use Rattle.esr_core.specs.Entry.{Given, GivenShard, GivenFinalize, GivenDrop, GivenRestore, TakeStep, Gave, NothingReady, Moment}
+use Rattle.esr_core.specs.World.{World, Op, Deletion, ShardWork, Done, AllDone, Work as UnitWork, Shard, Finalize, Deleting, Drop, Ticket, RestoreShard, Restoring, Reader, info_of, made_of}
+use Rattle.esr_core.specs.Entry.{Given, GivenShard, GivenFinalize, GivenDrop, GivenRestore, GivenClone, TakeStep, Gave, NothingReady, Moment}
 use Rattle.esr_core.specs.Ready.{ReadyFinalize, AnyReady}
 use Rattle.esr_core.specs.Restores.{restore_shard, reader_of as restore_reader}
 use Rattle.esr_core.specs.Steps.{shard_ticket, final_ticket}
@@ -58,6 +58,7 @@ given_based w o (works.Shard uuid shard index place) copy h = refl
 given_based w o (works.Finalize info shards) copy h = refl
 given_based w o works.Drop copy h = refl
 given_based w o (works.RestoreShard uuid shard index place) copy h = refl
+given_based w o (works.CloneShard source uuid shard index) copy h = refl
 given_based w o (works.Delete uuids) copy h = refl
 given_based w o work copy h = absurd h
 
@@ -66,6 +67,7 @@ gives_based w o (works.Shard uuid shard index place) copy h = h
 gives_based w o (works.Finalize info shards) copy h = h
 gives_based w o works.Drop copy h = h
 gives_based w o (works.RestoreShard uuid shard index place) copy h = h
+gives_based w o (works.CloneShard source uuid shard index) copy h = h
 gives_based w o (works.Delete uuids) copy h = h
 gives_based w o work copy h = absurd h
 
@@ -121,6 +123,7 @@ given_so s w u made gives has = go u.work refl gives.gives
     go (works.Shard uuid shard index place) is h = h.gives
     go works.Drop is h = h
     go (works.RestoreShard uuid shard index place) is h = h.gives
+    go (works.CloneShard source uuid shard index) is h = h.gives
     go (works.Delete uuids) is h = h
     go (works.Finalize info shards) is h =
         let root = has info shards is in
@@ -142,13 +145,15 @@ next_restore w o index number (Some r) = go (restore_shard r.shards index number
     go None = refl
     go (Some s) = refl
 
+next_shard : (w : World) (o : ℕ) (op : Op) (base : Option ℕ) (s : Option ShardWork) → (taken_shard w o op base s).next_id ≡ w.next_id
+next_shard w o op base None = refl
+next_shard w o op base (Some s) = refl
+
 next_taken : (f : Formats) (w : World) (o : ℕ) (unit : Given) (op : Option Op) → (taken_by f w o unit op).next_id ≡ w.next_id
-next_taken f w o (GivenShard index number base) (Some op) = go (shard_of op.shards index number)
-  where
-    go : (s : Option ShardWork) → (taken_shard w o op base s).next_id ≡ w.next_id
-    go None = refl
-    go (Some s) = refl
+next_taken f w o (GivenShard index number base) (Some op) = next_shard w o op base (shard_of op.shards index number)
 next_taken f w o (GivenShard index number base) None = refl
+next_taken f w o (GivenClone index number source base) (Some op) = next_shard w o op base (shard_of op.shards index number)
+next_taken f w o (GivenClone index number source base) None = refl
 next_taken f w o (GivenFinalize info results) (Some op) = refl
 next_taken f w o (GivenFinalize info results) None = refl
 next_taken f w o GivenDrop op = refl
@@ -239,14 +244,15 @@ module _ (s : Start) (old new : List Moment) (u : ReadyUnit) (made : Option Root
   put : (t : Ticket) → or_no_ticket (fin.get (fin.insert w.tickets w.next_ticket t) u.ticket) ≡ t
   put t = ap (λ (k : ℕ). or_no_ticket (fin.get (fin.insert w.tickets w.next_ticket t) k)) gives.ticket ∙ ap or_no_ticket (put_there w.tickets w.next_ticket t)
 
-  shard_is : (op : Op) (z : ShardWork) (index number uuid : ℕ) (base : Option ℕ) (name place : Bytes) → z.ref.id ≡ index → z.number ≡ number → uuid ≡ op.uuid → name ≡ z.ref.name → place ≡ z.place → base ≡ option_map number_of u.copy.base
-      → shard_ticket w u.op op z base ≡ fresh (Shard index number) u.op uuid place name w.term u.copy
-  shard_is op z index number uuid base name place index_is number_is uuid_is name_is place_is base_is = λ i. record {
+  shard_is : (op : Op) (z : ShardWork) (index number uuid : ℕ) (source base : Option ℕ) (name place : Bytes) → z.ref.id ≡ index → z.number ≡ number → uuid ≡ op.uuid → name ≡ z.ref.name → place ≡ z.place → op.source ≡ source → base ≡ option_map number_of u.copy.base
+      → shard_ticket w u.op op z base ≡ record (fresh (Shard index number) u.op uuid place name w.term u.copy) { source = source }
+  shard_is op z index number uuid source base name place index_is number_is uuid_is name_is place_is source_is base_is = λ i. record {
     work = Shard (index_is i) (number_is i);
     op = u.op;
     uuid = sym uuid_is i;
     place = sym place_is i;
     name = sym name_is i;
+    source = source_is i;
     term = w.term;
     safe = sym gives.copy.safe i;
     root = sym gives.copy.root i;
@@ -262,13 +268,14 @@ module _ (s : Start) (old new : List Moment) (u : ReadyUnit) (made : Option Root
     out = true;
   }
 
-  final_is : (op : Op) (info : SnapInfo) (results : List ShardResult) → info ≡ info_of op results → None ≡ option_map number_of u.copy.base → final_ticket f w u.op op results ≡ fresh (Finalize info results (shelved_of f op)) u.op info.uuid [] [] w.term u.copy
+  final_is : (op : Op) (info : SnapInfo) (results : List ShardResult) → info ≡ info_of op results → None ≡ option_map number_of u.copy.base → final_ticket f w u.op op results ≡ fresh (Finalize info results (made_of f op)) u.op info.uuid [] [] w.term u.copy
   final_is op info results info_is base_is = λ i. record {
-    work = Finalize (sym info_is i) results (shelved_of f op);
+    work = Finalize (sym info_is i) results (made_of f op);
     op = u.op;
     uuid = (sym info_is i).uuid;
     place = [];
     name = [];
+    source = None;
     term = w.term;
     safe = sym gives.copy.safe i;
     root = sym gives.copy.root i;
@@ -291,6 +298,7 @@ module _ (s : Start) (old new : List Moment) (u : ReadyUnit) (made : Option Root
     uuid = 0;
     place = [];
     name = [];
+    source = None;
     term = w.term;
     safe = sym gives.copy.safe i;
     root = sym gives.copy.root i;
@@ -328,13 +336,24 @@ module _ (s : Start) (old new : List Moment) (u : ReadyUnit) (made : Option Root
             ∙ ap (ticket_by (GivenShard shard.index.number shard.number (option_map number_of u.copy.base))) h.gives.ready.op_there
             ∙ ap (λ (x : Option ShardWork). or_no_ticket (fin.get (taken_shard w u.op h.gives.op (option_map number_of u.copy.base) x).tickets u.ticket)) h.gives.found
             ∙ put (shard_ticket w u.op h.gives.op h.gives.s (option_map number_of u.copy.base))
-            ∙ shard_is h.gives.op h.gives.s shard.index.number shard.number uuid.number (option_map number_of u.copy.base) index place found.0 found.1 h.uuid_is h.name_is h.place_is refl,
+            ∙ shard_is h.gives.op h.gives.s shard.index.number shard.number uuid.number None (option_map number_of u.copy.base) index place found.0 found.1 h.uuid_is h.name_is h.place_is h.gives.source_is refl,
+        h.few,
+      )
+  took_by (works.CloneShard source uuid shard index) t q is h base t_is q_is =
+      let found = shard_found h.gives.op.shards shard.index.number shard.number h.gives.s h.gives.found in (
+        w.term,
+        h.gives.s.place,
+        t_is
+            ∙ ap (ticket_by (GivenClone shard.index.number shard.number source.number (option_map number_of u.copy.base))) h.gives.ready.op_there
+            ∙ ap (λ (x : Option ShardWork). or_no_ticket (fin.get (taken_shard w u.op h.gives.op (option_map number_of u.copy.base) x).tickets u.ticket)) h.gives.found
+            ∙ put (shard_ticket w u.op h.gives.op h.gives.s (option_map number_of u.copy.base))
+            ∙ shard_is h.gives.op h.gives.s shard.index.number shard.number uuid.number (Some source.number) (option_map number_of u.copy.base) index h.gives.s.place found.0 found.1 h.uuid_is h.name_is refl h.gives.source_is refl,
         h.few,
       )
   took_by (works.Finalize info shards) t q is h base t_is q_is =
       let root = has info shards is in (
         w.term,
-        shelved_of f h.0,
+        made_of f h.0,
         t_is
             ∙ ap (ticket_by (GivenFinalize (info_of_code info) (map result_of shards))) h.1.op_there
             ∙ put (final_ticket f w u.op h.0 (map result_of shards))

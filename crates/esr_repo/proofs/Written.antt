@@ -3,11 +3,11 @@ use Rattle.std.proofs.Common.{◌≡◌, ℕ, Bool, true, false, List, Option, S
 use Rattle.std.specs.Prelude.{if◌then◌else◌}
 use Rattle.std.specs.FinMap as fin
 use Rattle.esr_model.specs.Image.{Image}
-use Rattle.esr_model.specs.Names.{BlobName, Root, Latest, IndexMeta, ShardIndex}
+use Rattle.esr_model.specs.Names.{BlobName, Root, Latest, IndexMeta, ShardSnap, ShardIndex}
 use Rattle.esr_model.specs.Values.{Bytes, Has, Formats}
 use Rattle.esr_core.specs.World.{World, Ticket, Work, Shard, Finalize, Deleting, Drop, Swap, swap, swap_of, metadata}
 use Rattle.esr_core.specs.Entry.{Step, BeginStep, CommitStep, LatestStep, FetchStep, WasBegun, WasDone, WasThere, WasReplaced, WasFetched, WasAbsent, Refused, DepotFault, Moment}
-use Rattle.esr_core.specs.Steps.{noting, IsOut, SwapCommits, ShardCommits, MayCommit}
+use Rattle.esr_core.specs.Steps.{noting, IsOut, SwapCommits, ShardCommits, MayCommit, IsToFetch}
 use Rattle.esr_core.specs.Texts.{IsMetaOf}
 use Rattle.esr_core.specs.After.{change, committing, fetching, told_blob, is_latest, tried as tried_in}
 use Rattle.esr_core.specs.Allowed.{Commits, Refinds, Fetches, Puts, IsMetadata, Told, latest_text, Beginning, BeginningLatest, Committing, Finding, Replacing, Fetching, Missing, Taken, BeginFails, BeginLatestFails, CommitFails, ReplaceFails, FetchFails}
@@ -93,15 +93,19 @@ replaced_ticket s old mid new k contents r e can did = replaced s old new k r ca
 
 -- ---- fetch
 
+-- what a ticket fetches is an index or a snapshot of a shard
+fetched_stored : (t : Ticket) (name : BlobName) → IsToFetch t name → name ≡ Latest → ⊥
+fetched_stored t name to_fetch e = elim to_fetch.3 [ inl of_base ↦ no_index to_fetch.0 to_fetch.1 of_base.0 (sym of_base.2 ∙ e) | inr of_source ↦ no_snap to_fetch.0 to_fetch.1 of_source.0 (sym of_source.2 ∙ e) ]
+  where
+    no_index : (index shard base : ℕ) → ShardIndex index shard base ≡ Latest → ⊥
+    no_index index shard base q = cc
+
+    no_snap : (index shard source : ℕ) → ShardSnap index shard source ≡ Latest → ⊥
+    no_snap index shard source q = cc
+
 fetched_so : (s : Start) (log : List Moment) (k : ℕ) (name : BlobName) → CanFetch (ticket_of s log k) name → IsNamed s name → Fetches (formats_of s) (world_of s log) k name
 fetched_so s log k name can named =
-    record { t = ticket_of s log k; out = out_is s log k can.out; stored = (named, stored); index = can.index; shard = can.number; base = can.base; work = can.work; base_is = can.base_is; name_is = can.name_is }
-  where
-    stored : name ≡ Latest → ⊥
-    stored e = differ (sym can.name_is ∙ e)
-      where
-        differ : ShardIndex can.index can.number can.base ≡ Latest → ⊥
-        differ q = cc
+    record { t = ticket_of s log k; out = out_is s log k can.out; stored = (named, fetched_stored (ticket_of s log k) name can.to_fetch); to_fetch = can.to_fetch }
 
 fetch_by : (s : Start) (log : List Moment) (k : ℕ) (name : BlobName) → CanFetch (ticket_of s log k) name → MayFetch s log k (FetchStep name) name
 fetch_by s log k name can = record {

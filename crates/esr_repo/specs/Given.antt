@@ -15,9 +15,10 @@ use Rattle.esr_progress.specs.declared.unit.Work.{Work}
 use Rattle.esr_progress.specs.declared.unit.Work.TheVariants as works
 use Rattle.esr_progress.specs.declared.unit.ReadyUnit.{ReadyUnit}
 
--- only the unit of a shard has a base
+-- only the unit of a shard has a base, or that of a clone's
 abbrev pub base_for : Work → Option Id → Option Id
 base_for (works.Shard uuid shard index place) base = base
+base_for (works.CloneShard source uuid shard index) base = base
 base_for work base = None
 
 abbrev pub based : ReadyUnit → ReadyUnit

@@ -34,7 +34,7 @@ fn indices_copy(alloc: Global, indices: &AskedIndices) -> Result<AskedIndices, A
 }
 
 /// A copy of the names of indices.
-fn index_names_copy(alloc: Global, names: &IndexNames) -> Result<IndexNames, AllocError>
+pub(crate) fn index_names_copy(alloc: Global, names: &IndexNames) -> Result<IndexNames, AllocError>
     ensures { IfOk result (λ copy. copy ≡ names.now) }
 {
     let mut copy = IndexNames::with_capacity(alloc, names.len())?;
@@ -104,8 +104,9 @@ fn command_refusal(refusal: Refusal) -> Option<EntryRefusal>
         Refusal::NameInUse { uuid } => Some(EntryRefusal::NameInUse { uuid }),
         Refusal::TooMany { limit } => Some(EntryRefusal::TooMany { limit }),
         Refusal::IdsSpent { next } => Some(EntryRefusal::IdsSpent { next }),
-        // Of restores and deletes.
+        // Of restores, clones and deletes.
         Refusal::NoSnapshot { .. } => unreachable!(),
+        Refusal::NoIndex { .. } => unreachable!(),
         Refusal::BeingDeleted { .. } => unreachable!(),
         Refusal::CloneRunning { .. } => unreachable!(),
         Refusal::RestoreRunning { .. } => unreachable!(),
@@ -127,6 +128,7 @@ fn delete_refusal(refusal: Refusal) -> Option<EntryRefusal>
         Refusal::TooMany { limit } => Some(EntryRefusal::TooMany { limit }),
         // Of other commands.
         Refusal::NameInUse { .. } => unreachable!(),
+        Refusal::NoIndex { .. } => unreachable!(),
         Refusal::BeingDeleted { .. } => unreachable!(),
         Refusal::IdsSpent { .. } => unreachable!(),
     }

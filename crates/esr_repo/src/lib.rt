@@ -6,6 +6,7 @@ mod asking;
 mod begun;
 mod calls;
 mod checking;
+mod cloning;
 mod deleting;
 mod ending;
 mod kept;

@@ -48,6 +48,7 @@ fn restore_refusal(refusal: Refusal) -> EntryRefusal
         Refusal::BeingDeleted { op } => EntryRefusal::BeingDeleted { op },
         Refusal::TooMany { limit } => EntryRefusal::TooMany { limit },
         // Of other commands.
+        Refusal::NoIndex { .. } => unreachable!(),
         Refusal::Memory => unreachable!(),
         Refusal::CleanupRunning { .. } => unreachable!(),
         Refusal::NameInUse { .. } => unreachable!(),
@@ -98,7 +99,7 @@ impl<D: Depot, K: Told> Repo<D, K> {
     }
 
     /// The indices of a listed snapshot.
-    fn indices_of(&self, alloc: Global, uuid: Id) -> Result<IndexRefs, AllocError>
+    pub(crate) fn indices_of(&self, alloc: Global, uuid: Id) -> Result<IndexRefs, AllocError>
         requires live { IsLive K.start self.now }
         requires listed { (name : Bytes) × IsListed (world_of K.start self.now) name uuid.number }
         ensures indices { IfOk result (λ indices. HasIndices (formats_of K.start) (world_of K.start self.now) K.start.tells uuid.number (map ref_of_code indices)) }

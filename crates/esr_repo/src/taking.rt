@@ -24,11 +24,11 @@ use esr_results::{ShardResults, finalized};
 use esr_root::RootData;
 use std::alloc::{AllocError, Global};
 
-/// A unit without a base, but for that of a shard.
+/// A unit without a base, but for that of a shard, of a clone's too.
 fn based(mut unit: ReadyUnit) -> ReadyUnit
     ensures { result ≡ based unit }
 {
-    if !matches!(unit.work, Work::Shard { .. }) {
+    if !matches!(unit.work, Work::Shard { .. } | Work::CloneShard { .. }) {
         unit.copy.base = None;
     }
     unit

@@ -5,7 +5,7 @@ use Rattle.std.proofs.lemmas.List.{take_more, take_all, drop_more}
 use Rattle.esr_model.specs.Values.{Bytes}
 use Rattle.esr_core.specs.After.{or_else}
 use Rattle.esr_core.specs.Entry as entry
-use Rattle.esr_core.specs.Entry.{Snapshot, DeleteSnapshots, Step, AskStep, Accepted, Gave, ElectedTerm, Entry}
+use Rattle.esr_core.specs.Entry.{Snapshot, Clone, DeleteSnapshots, Step, AskStep, Accepted, Gave, ElectedTerm, Entry}
 use Rattle.esr_report.specs.declared.reply.Reply.{Reply as CodeReply}
 use Rattle.esr_report.specs.declared.tickets.OpEnd.{OpEnd}
 use Rattle.esr_report.specs.Replies.{Reply, is_op, name_by, name_of_op, is_over, final_kept, final_step, final_from, final_out, abort_by, abort_of, aborts_at}
@@ -84,6 +84,7 @@ if_some false name answer = refl
 -- it is accepted under a name as the op that it is accepted as
 named_by : (op : ℕ) (step : Step) (reply : entry.Reply) (answer : Option Reply) → if_named (name_by op step reply) answer ≡ (if is_op op (accepted_by step reply) then answer else None)
 named_by op (AskStep (Snapshot name indices moment)) (Accepted o) answer = if_some (o == op) name answer
+named_by op (AskStep (Clone source name indices moment (Some taken))) (Accepted o) answer = if_some (o == op) name answer
 named_by op step reply answer = refl
 
 named_as : (op : ℕ) (x : Entry) (answer : Option Reply) (o : Option ℕ) → accepted_by x.step x.reply ≡ o → if_named (name_by op x.step x.reply) answer ≡ (if is_op op o then answer else None)

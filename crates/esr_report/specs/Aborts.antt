@@ -2,7 +2,7 @@
 use Rattle.std.specs.Prelude.{ℕ, Bool, true, false, Option, Some, None}
 use Rattle.esr_model.specs.Values.{Bytes}
 use Rattle.esr_core.specs.Entry as entry
-use Rattle.esr_core.specs.Entry.{Snapshot, DeleteSnapshots, Step, AskStep, Accepted, Gave, ElectedTerm}
+use Rattle.esr_core.specs.Entry.{Snapshot, Clone, DeleteSnapshots, Step, AskStep, Accepted, Gave, ElectedTerm}
 use Rattle.esr_report.specs.Replies.{Reply, final_given}
 
 -- a delete was accepted
@@ -10,9 +10,10 @@ abbrev pub asks_delete : Step → entry.Reply → Bool
 asks_delete (AskStep (DeleteSnapshots names)) (Accepted d) = true
 asks_delete step reply = false
 
--- the op as which a snapshot was accepted
+-- the op as which a snapshot or a clone was accepted
 abbrev pub accepted_by : Step → entry.Reply → Option ℕ
 accepted_by (AskStep (Snapshot name indices moment)) (Accepted o) = Some o
+accepted_by (AskStep (Clone source name indices moment (Some taken))) (Accepted o) = Some o
 accepted_by step reply = None
 
 -- the answer, where a snapshot was accepted under a name

@@ -5,7 +5,7 @@ use Rattle.esr_model.specs.Places.{places}
 use Rattle.esr_model.specs.Uploads.{same_bytes}
 use Rattle.esr_core.specs.After.{or_else, swaps_record}
 use Rattle.esr_core.specs.Entry as entry
-use Rattle.esr_core.specs.Entry.{Given, GivenShard, GivenFinalize, GivenDrop, GivenRestore, GivenClone, GivenDelete, GivenCleanup, Why, OfDepot, Read, RestoredShard, CheckedAll, VerifiedAll, ReadFails, SettlePruned, DeleteFails, Snapshot, DeleteSnapshots, Step, AskStep, SettleStep, FailedStep, FinishStep, LookStep, ReadStep, PruneStep, Refusal, DeposedAt, DepotFault, Accepted, AcceptedRestore, Gave, WasSettled, HasEnded, ElectedTerm, Looked, Entry}
+use Rattle.esr_core.specs.Entry.{Given, GivenShard, GivenFinalize, GivenDrop, GivenRestore, GivenClone, GivenDelete, GivenCleanup, Why, OfDepot, Read, RestoredShard, CheckedAll, VerifiedAll, ReadFails, SettlePruned, DeleteFails, Snapshot, Clone, DeleteSnapshots, Step, AskStep, SettleStep, FailedStep, FinishStep, LookStep, ReadStep, PruneStep, Refusal, DeposedAt, DepotFault, Accepted, AcceptedRestore, Gave, WasSettled, HasEnded, ElectedTerm, Looked, Entry}
 use Rattle.esr_script.specs.declared.item.Item.{Item}
 use Rattle.esr_script.specs.declared.item.Item.TheVariants as items
 use Rattle.esr_script.specs.declared.item.ScriptLine.{ScriptLine}
@@ -84,9 +84,10 @@ ends_at all op e = if is_op op (op_of_ticket all e.who) then ends_by all e.who e
 
 -- ---- a delete that aborts a snapshot
 
--- the name under which a snapshot was accepted as this op
+-- the name under which a snapshot or a clone was accepted as this op
 abbrev pub name_by : ℕ → Step → entry.Reply → Option Bytes
 name_by op (AskStep (Snapshot name indices moment)) (Accepted o) = if o == op then Some name else None
+name_by op (AskStep (Clone source name indices moment (Some taken))) (Accepted o) = if o == op then Some name else None
 name_by op step reply = None
 
 abbrev pub name_of_op : List Entry → ℕ → Option Bytes

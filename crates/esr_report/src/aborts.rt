@@ -13,7 +13,7 @@ use esr_names::SnapName;
 use esr_progress::Command;
 use std::alloc::AllocError;
 
-/// The name under which a snapshot was accepted as this op.
+/// The name under which a snapshot or a clone was accepted as this op.
 fn name_by(entry: &Entry, op: u64) -> Option<&SnapName>
     ensures { option_copied result ≡ name_by op entry.now.step entry.now.reply }
 {
@@ -24,11 +24,14 @@ fn name_by(entry: &Entry, op: u64) -> Option<&SnapName>
             },
             Answer::Accepted { op: accepted },
         ) => (*accepted == op).then_some(name),
+        (Step::AskClone { name, .. }, Answer::Accepted { op: accepted }) => {
+            (*accepted == op).then_some(name)
+        }
         _ => None,
     }
 }
 
-/// The name of the snapshot that was accepted as this op.
+/// The name of the snapshot or the clone that was accepted as this op.
 fn name_of_op(entries: &[Entry], op: u64) -> Option<&SnapName>
     ensures { option_copied result ≡ name_of_op entries.now op }
 {
@@ -170,7 +173,7 @@ fn aborts_at(before: &[Entry], op: u64, entry: &Entry) -> Option<End>
     }
 }
 
-/// The op as which a snapshot was accepted.
+/// The op as which a snapshot or a clone was accepted.
 fn accepted_op(entry: &Entry) -> Option<u64>
     ensures { result ≡ accepted_by entry.now.step entry.now.reply }
 {
@@ -181,6 +184,7 @@ fn accepted_op(entry: &Entry) -> Option<u64>
             },
             Answer::Accepted { op },
         ) => Some(*op),
+        (Step::AskClone { .. }, Answer::Accepted { op }) => Some(*op),
         _ => None,
     }
 }

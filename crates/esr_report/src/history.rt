@@ -34,6 +34,7 @@ fn swaps_record(step: &Step) -> bool
 {
     match step {
         Step::Ask { command } => is_recorded(command),
+        Step::AskClone { .. } => true,
         Step::Raise => true,
         Step::Settle => true,
         Step::Dropped => true,
@@ -98,6 +99,7 @@ fn is_of_line(entry: &Entry) -> bool
 {
     let is_line = match &entry.step {
         Step::Ask { command: _ } => true,
+        Step::AskClone { .. } => true,
         Step::Look => true,
         Step::Read { read } => is_line_read(read, &entry.answer),
         _ => false,
@@ -237,6 +239,7 @@ fn answer_at(
 {
     match &entry.step {
         Step::Ask { command: _ } => ask_reply(alloc, entries, told, &entry.answer),
+        Step::AskClone { .. } => ask_reply(alloc, entries, told, &entry.answer),
         Step::Look => look_reply(alloc, &entry.answer),
         Step::Read { read } => Ok(read_reply(read, &entry.answer)),
         _ => Ok(None),

@@ -16,9 +16,8 @@ ghost use Rattle.esr_restore.specs.Went.{Went};
 
 use crate::law::refusals;
 use crate::trouble::Trouble;
-use esr_depot::CallError;
+use esr_depot::{CallError, read_whole};
 use esr_desk::{Desk, StepRefusal, Why};
-use esr_fetch::read_whole;
 use esr_formats::read_shard_snap;
 use esr_json::ReadRefusal;
 use esr_names::{BlobName, Id, ShardId};

@@ -6,9 +6,10 @@ use Rattle.std.proofs.lemmas.Bool.{ltb-true}
 use Rattle.esr_model.specs.Values.{Bytes, Has}
 use Rattle.esr_core.specs.Entry.{AskedIndex}
 use Rattle.esr_core.specs.Allowed.{AreDistinct}
+use Rattle.esr_core.specs.Restores.{AreOnce}
 use Rattle.esr_progress.specs.Asked.{HasShards, IsAskable}
 use Rattle.esr_script.specs.declared.item.AskedIndex.{AskedIndex as LineIndex}
-use Rattle.esr_run.specs.Script.{has_shards, have_shards, is_named, has_name, have_own_names, is_askable}
+use Rattle.esr_run.specs.Script.{has_shards, have_shards, is_named, has_name, have_own_names, is_askable, is_same_name, names_one, have_names_once}
 use Rattle.esr_complete.specs.Lines.{index_of_line, command_of_line}
 
 both : (a b : Bool) → (a && b) ≡ true → (a ≡ true) × (b ≡ true)
@@ -68,3 +69,21 @@ unfolding is_askable
 askable name asked moment e =
     let h = both (have_shards asked) (have_own_names asked) e in
     (own_names asked h.1, all_shards asked h.0)
+
+-- ---- the indices of a clone
+
+not_among : (name : Bytes) (names : List Bytes) → names_one name names ≡ false → Has names name → ⊥
+unfolding is_same_name
+not_among name [] e has = has
+not_among name (other ∷ names) e (inl same) =
+    let h = neither (is_same_name name other) (names_one name names) e in
+    let here : is_same_name name other ≡ true = (bytes_eq-Decides other name).1 same in
+    let not_here : is_same_name name other ≡ false = h.0 in
+    cc
+not_among name (other ∷ names) e (inr has) = not_among name names (neither (is_same_name name other) (names_one name names) e).1 has
+
+pub names_once : (names : List Bytes) → have_names_once names ≡ true → AreOnce names
+names_once [] e = tt
+names_once (name ∷ names) e =
+    let h = unless (names_one name names) (have_names_once names) e in
+    (not_among name names h.0, names_once names h.1)

@@ -20,7 +20,7 @@ use Rattle.esr_desk.specs.Start.{Start, Legal, formats_of, world_of, ticket_of}
 use Rattle.esr_desk.specs.Readers.{or_no_reader}
 use Rattle.esr_checking.specs.Caller.{caller_of}
 use Rattle.esr_checking.specs.Shown.{Counts}
-use Rattle.esr_quiet.specs.Asked.{is_line_ask, asked_steps, GrewAsking}
+use Rattle.esr_quiet.specs.Asked.{is_line_ask, as_asked, asked_steps, GrewAsking}
 use Rattle.esr_quiet.specs.Numbers.{HasNoTickets}
 use Rattle.esr_quiet.proofs.Prefixes.{legal_front}
 use Rattle.esr_drive.specs.Restored.{Restoration, restorations_by, restorations_in, RestoresNone}
@@ -62,14 +62,14 @@ and_false false = refl
 unasked_more : (rest : List Moment) → AllOfCheck rest → asked_steps rest ≡ []
 unasked_more [] all = refl
 unasked_more (m ∷ rest) all =
-    ap (λ (b : Bool). if b then m.entry.step ∷ asked_steps rest else asked_steps rest)
+    ap (λ (b : Bool). if b then as_asked m.entry.step ∷ asked_steps rest else asked_steps rest)
     (ap (λ (b : Bool). (m.entry.who == 0) && b) (ap is_line_ask all.1.1 ∙ check_asks all.1.0 all.1.2) ∙ and_false (m.entry.who == 0))
     ∙ unasked_more rest all.2
 
 look_asked : (m : Moment) (rest : List Moment) → m.entry.who ≡ 0 → m.entry.step ≡ LookStep → AllOfCheck rest → asked_steps (m ∷ rest) ≡ LookStep ∷ []
 look_asked m rest who step all =
-    ap (λ (b : Bool). if b then m.entry.step ∷ asked_steps rest else asked_steps rest) (ap (λ (k : ℕ). (k == 0) && is_line_ask m.entry.step) who ∙ ap is_line_ask step)
-    ∙ ap (λ (x : Step). x ∷ asked_steps rest) step ∙ ap (λ (l : List Step). LookStep ∷ l) (unasked_more rest all)
+    ap (λ (b : Bool). if b then as_asked m.entry.step ∷ asked_steps rest else asked_steps rest) (ap (λ (k : ℕ). (k == 0) && is_line_ask m.entry.step) who ∙ ap is_line_ask step)
+    ∙ ap (λ (x : Step). as_asked x ∷ asked_steps rest) step ∙ ap (λ (l : List Step). LookStep ∷ l) (unasked_more rest all)
 
 begun_asks : (s : Start) (old new : List Moment) → HasBegun old new → (Legal s old → Legal s new) → GrewAsking s (LookStep ∷ []) old new
 begun_asks s old new h legal = record { more = h.look ∷ h.rest; is = h.is; legal = legal; asked = λ alone. look_asked h.look h.rest h.looker h.looks h.all }

@@ -1,13 +1,12 @@
 -- What a run over quiet objects ends with.
-use Rattle.std.proofs.Common.{◌≡◌, ◌⊎◌, ℕ, suc, ◌+◌, ◌^◌, ◌<◌, ◌≤◌, Bool, true, false, cond, nat_lt, List, [], ◌∷◌, ◌++◌, map, length, Option, Some, is_some, refl, sym, ap, ◌∙◌, subst, inl, inr, ⊎_elim, arith}
-use Rattle.std.specs.FinMap as fin
+use Rattle.std.proofs.Common.{◌≡◌, ◌⊎◌, ℕ, suc, ◌+◌, ◌^◌, ◌<◌, ◌≤◌, Bool, true, false, cond, nat_lt, List, [], ◌∷◌, ◌++◌, map, length, Option, Some, None, is_some, refl, sym, ap, ◌∙◌, subst, inl, inr, ⊎_elim, arith}
 use Rattle.std.specs.Prelude.{◌&&◌, ◌==◌, unwrap_or, if◌then◌else◌}
 use Rattle.std.proofs.lemmas.Bool.{ltb-true, ltb-false}
 use Rattle.std.proofs.lemmas.List.Sums.{sum_by-cons}
 use Rattle.esr_model.specs.Values.{Bytes, Has, Formats}
 use Rattle.esr_model.specs.Image.{Image}
 use Rattle.esr_core.specs.World.{World, Caller, Opened}
-use Rattle.esr_core.specs.Entry.{AskedIndex, Snapshot, DeleteSnapshots, Restore, Step, AskStep, ElectStep, Reply, Refused, DepotFault, DeposedAt, IdsSpent, GenerationsSpent, TermsSpent, Entry, Moment}
+use Rattle.esr_core.specs.Entry.{AskedIndex, CloneOf, Snapshot, Clone, Restore, Step, AskStep, ElectStep, Reply, Refused, DepotFault, DeposedAt, IdsSpent, GenerationsSpent, TermsSpent, Entry, Moment}
 use Rattle.esr_core.specs.Allowed as allowed
 use Rattle.esr_core.specs.Allowed.{Allows, Allowed}
 use Rattle.esr_core.specs.History.{world_from, IsLegal, AreTold}
@@ -28,8 +27,8 @@ use Rattle.esr_repo.specs.Log.{image_of, image_at, log_from, log_of, tick}
 use Rattle.esr_repo.specs.Counted.{is_fault, fault_entries}
 use Rattle.esr_repo.specs.Calm.{IsCalm}
 use Rattle.esr_repo.specs.Deposed.{FailedSwap, AreDeposedSo}
-use Rattle.esr_quiet.specs.Asked.{is_line_ask, is_asked, asked_steps, AreSteady}
-use Rattle.esr_quiet.specs.Smooth.{IsSmooth, IsSpent, AreCalm, AreUnelected, NoDeleteAsked, NoneFailed, NoneUnrestored, NoneUnverified, NoneAsked}
+use Rattle.esr_quiet.specs.Asked.{is_line_ask, is_asked, as_asked, asked_steps, AreSteady}
+use Rattle.esr_quiet.specs.Smooth.{IsSmooth, IsSpent, AreCalm, AreUnelected, NoCloneAsked, NoneFailed, NoneUndeleted, NoneUnrestored, NoneUnverified, NoneAsked}
 use Rattle.esr_quiet.specs.Refusals.{AreByRule}
 use Rattle.esr_complete.specs.Lines.{index_of_line, steps_of_item, steps_of, IsKnown, AreKnown, entries_of}
 use Rattle.esr_complete.specs.InTurn.{IsInTurn, AreChecksInTurn}
@@ -155,6 +154,7 @@ nobodys f size w who step reply image (allowed.ElectSpent im last same) = refl
 nobodys f size w who step reply image (allowed.AskFails name indices moment im accepts same) = refl
 nobodys f size w who step reply image (allowed.ElectFails im room same) = refl
 nobodys f size w who step reply image (allowed.AskingRestore name place answer im allows same) = refl
+nobodys f size w who step reply image (allowed.AskingClone source name names moment taken answer im allows same) = refl
 nobodys f size w who step reply image (allowed.AskingDelete names answer im allows same) = refl
 nobodys f size w who step reply image a = tt
 
@@ -189,15 +189,15 @@ module _ (s : Start) (log : List Moment) (es : List Entry) (entries : entries_of
 pub asked_true : (e : Entry) → e.who ≡ 0 → is_line_ask e.step ≡ true → is_asked e ≡ true
 asked_true e who ask = ap (λ (k : ℕ). (k == 0) && is_line_ask e.step) who ∙ ask
 
-behind : (n : Moment) (log : List Moment) (step : Step) (b : Bool) → Has (asked_steps log) step → Has (if b then n.entry.step ∷ asked_steps log else asked_steps log) step
+behind : (n : Moment) (log : List Moment) (step : Step) (b : Bool) → Has (asked_steps log) step → Has (if b then as_asked n.entry.step ∷ asked_steps log else asked_steps log) step
 behind n log step true h = inr h
 behind n log step false h = h
 
-pub in_asked : (log : List Moment) (m : Moment) → Has log m → is_asked m.entry ≡ true → Has (asked_steps log) m.entry.step
+pub in_asked : (log : List Moment) (m : Moment) → Has log m → is_asked m.entry ≡ true → Has (asked_steps log) (as_asked m.entry.step)
 in_asked [] m h asked = absurd h
 in_asked (n ∷ log) m (inl e) asked =
-    subst (λ (l : List Step). Has l m.entry.step) (sym (ap (λ (b : Bool). if b then n.entry.step ∷ asked_steps log else asked_steps log) (ap (λ (x : Moment). is_asked x.entry) e ∙ asked))) (inl (ap (λ (x : Moment). x.entry.step) e))
-in_asked (n ∷ log) m (inr h) asked = behind n log m.entry.step (is_asked n.entry) (in_asked log m h asked)
+    subst (λ (l : List Step). Has l (as_asked m.entry.step)) (sym (ap (λ (b : Bool). if b then as_asked n.entry.step ∷ asked_steps log else asked_steps log) (ap (λ (x : Moment). is_asked x.entry) e ∙ asked))) (inl (ap (λ (x : Moment). as_asked x.entry.step) e))
+in_asked (n ∷ log) m (inr h) asked = behind n log (as_asked m.entry.step) (is_asked n.entry) (in_asked log m h asked)
 
 pub in_wanted : (first rest wanted : List Step) (step : Step) → first ++ rest ≡ wanted → Has first step → Has wanted step
 in_wanted first rest wanted step is h = subst (λ (l : List Step). Has l step) is (go first h)
@@ -228,6 +228,8 @@ of_line moment (line ∷ lines) step h = ⊎_elim
 pub no_election : (moment : ℕ) (item : Item) → Has (steps_of_item moment item) ElectStep → ⊥
 no_election moment (items.Snapshot name indices) (inl e) = cc
 no_election moment (items.Snapshot name indices) (inr h) = h
+no_election moment (items.Clone source name indices) (inl e) = cc
+no_election moment (items.Clone source name indices) (inr h) = h
 no_election moment (items.Delete names) (inl e) = cc
 no_election moment (items.Delete names) (inr h) = h
 no_election moment (items.Restore name place) (inl e) = cc
@@ -246,20 +248,22 @@ known_line [] line known h = absurd h
 known_line (x ∷ lines) line known (inl e) = subst (λ (l : ScriptLine). IsKnown l.item) e known.0
 known_line (x ∷ lines) line known (inr h) = known_line lines line known.1 h
 
--- none of these is a delete
-asks_no_delete : (moment : ℕ) (item : Item) (names : List Bytes) → IsKnown item → Has (steps_of_item moment item) (AskStep (DeleteSnapshots names)) → ⊥
-asks_no_delete moment (items.Snapshot name indices) names known (inl e) = cc
-asks_no_delete moment (items.Snapshot name indices) names known (inr h) = h
-asks_no_delete moment (items.Delete called) names known h = known
-asks_no_delete moment (items.Restore name place) names known (inl e) = cc
-asks_no_delete moment (items.Restore name place) names known (inr h) = h
-asks_no_delete moment items.List names known (inl e) = cc
-asks_no_delete moment items.List names known (inr h) = h
-asks_no_delete moment items.Check names known (inl e) = cc
-asks_no_delete moment items.Check names known (inr h) = h
-asks_no_delete moment items.Verify names known (inl e) = cc
-asks_no_delete moment items.Verify names known (inr h) = h
-asks_no_delete moment item names known h = h
+-- none of these is a clone
+asks_no_clone : (moment : ℕ) (item : Item) (source name : Bytes) (names : List Bytes) (when : ℕ) (taken : Option CloneOf) → IsKnown item → Has (steps_of_item moment item) (AskStep (Clone source name names when taken)) → ⊥
+asks_no_clone moment (items.Snapshot called indices) source name names when taken known (inl e) = cc
+asks_no_clone moment (items.Snapshot called indices) source name names when taken known (inr h) = h
+asks_no_clone moment (items.Clone of called indices) source name names when taken known h = known
+asks_no_clone moment (items.Delete called) source name names when taken known (inl e) = cc
+asks_no_clone moment (items.Delete called) source name names when taken known (inr h) = h
+asks_no_clone moment (items.Restore called place) source name names when taken known (inl e) = cc
+asks_no_clone moment (items.Restore called place) source name names when taken known (inr h) = h
+asks_no_clone moment items.List source name names when taken known (inl e) = cc
+asks_no_clone moment items.List source name names when taken known (inr h) = h
+asks_no_clone moment items.Check source name names when taken known (inl e) = cc
+asks_no_clone moment items.Check source name names when taken known (inr h) = h
+asks_no_clone moment items.Verify source name names when taken known (inl e) = cc
+asks_no_clone moment items.Verify source name names when taken known (inr h) = h
+asks_no_clone moment item source name names when taken known h = h
 
 -- the indices of a snapshot that was asked are those of the line's
 record OfSnapshot (item : Item) (indices : List AskedIndex) : Type 0 where
@@ -271,6 +275,8 @@ record OfSnapshot (item : Item) (indices : List AskedIndex) : Type 0 where
 of_snapshot : (moment : ℕ) (item : Item) (name : Bytes) (indices : List AskedIndex) (when : ℕ) → Has (steps_of_item moment item) (AskStep (Snapshot name indices when)) → OfSnapshot item indices
 of_snapshot moment (items.Snapshot called of) name indices when (inl e) = let same : map index_of_line of ≡ indices = cc in record { name = called; line_indices = of; item_is = refl; indices_are = sym same }
 of_snapshot moment (items.Snapshot called of) name indices when (inr h) = absurd h
+of_snapshot moment (items.Clone source called of) name indices when (inl e) = absurd cc
+of_snapshot moment (items.Clone source called of) name indices when (inr h) = absurd h
 of_snapshot moment (items.Delete names) name indices when (inl e) = absurd cc
 of_snapshot moment (items.Delete names) name indices when (inr h) = absurd h
 of_snapshot moment (items.Restore called place) name indices when (inl e) = absurd cc
@@ -288,6 +294,8 @@ of_restore : (moment : ℕ) (item : Item) (name place : Bytes) → Has (steps_of
 of_restore moment (items.Restore called below) name place h = (called, below, refl)
 of_restore moment (items.Snapshot called of) name place (inl e) = absurd cc
 of_restore moment (items.Snapshot called of) name place (inr h) = absurd h
+of_restore moment (items.Clone source called of) name place (inl e) = absurd cc
+of_restore moment (items.Clone source called of) name place (inr h) = absurd h
 of_restore moment (items.Delete names) name place (inl e) = absurd cc
 of_restore moment (items.Delete names) name place (inr h) = absurd h
 of_restore moment items.List name place (inl e) = absurd cc
@@ -340,7 +348,7 @@ module _ {S F H T : Type 0} (laws : QuietLaws S F H T) (count : Counts S F H T) 
   abbrev log : List Moment
   log = log_of after clock history
 
-  module _ (no_deletes : world.deletes ≡ fin.empty) (legal : Legal s log) (told : s.tells ≡ true → AreTold log) (shown : AreShown {S = S} {F = F} {H = H} {T = T} count s log faults) (once : AreOnce s log) (tested : AreTested s log) (calm : IsCalm true after.sure history) (named : AreDeposedSo history)
+  module _ (legal : Legal s log) (told : s.tells ≡ true → AreTold log) (shown : AreShown {S = S} {F = F} {H = H} {T = T} count s log faults) (once : AreOnce s log) (tested : AreTested s log) (calm : IsCalm true after.sure history) (named : AreDeposedSo history)
       (made : MadeFirst s (steps_of moment lines) [] log) (apart : AreClosed s log) (quiet_for : IsQuietFor telling before lines) (tells_all : TellsAll (formats_by telling) world log) (few : length history < 2 ^ 40) (unspent : (e : Entry) → Has history e → IsSpent e.reply → ⊥) where
     entries : entries_of log ≡ history
     entries = entries_are (image_at after) clock history
@@ -352,17 +360,18 @@ module _ {S F H T : Type 0} (laws : QuietLaws S F H T) (count : Counts S F H T) 
     nobody = asks_nobody s log history entries legal none_faults named
 
     -- what nobody's ticket asked is what lines ask for
-    wanted : (m : Moment) → Has log m → m.entry.who ≡ 0 → is_line_ask m.entry.step ≡ true → OfLine moment lines m.entry.step
+    wanted : (m : Moment) → Has log m → m.entry.who ≡ 0 → is_line_ask m.entry.step ≡ true → OfLine moment lines (as_asked m.entry.step)
     wanted m h who ask =
         let asked : asked_steps log ≡ made.first = ap asked_steps made.grew.is ∙ made.grew.asked refl in
-        let first : Has made.first m.entry.step = subst (λ (l : List Step). Has l m.entry.step) asked (in_asked log m h (asked_true m.entry who ask)) in
-        of_line moment lines m.entry.step (in_wanted made.first made.rest (steps_of moment lines) m.entry.step made.is first)
+        let step : Step = as_asked m.entry.step in
+        let first : Has made.first step = subst (λ (l : List Step). Has l step) asked (in_asked log m h (asked_true m.entry who ask)) in
+        of_line moment lines step (in_wanted made.first made.rest (steps_of moment lines) step made.is first)
 
     steady : AreSteady s log
     steady m name indices when h is a number has below =
         let who : m.entry.who ≡ 0 = subst (IsNobodys m.entry.who) is (nobody m h) in
         let from = wanted m h who (ap is_line_ask is) in
-        let snap = of_snapshot moment from.line.item name indices when (subst (λ (step : Step). Has (steps_of_item moment from.line.item) step) is from.step_is) in
+        let snap = of_snapshot moment from.line.item name indices when (subst (λ (step : Step). Has (steps_of_item moment from.line.item) (as_asked step)) is from.step_is) in
         let one = in_map snap.line_indices a (subst (λ (l : List AskedIndex). Has l a) snap.indices_are has) in
         let less : number < one.0.shards = subst (λ (x : AskedIndex). number < x.shards) (sym one.2) below in
         let there : telling.is_there a.place a.name number ≡ Some true =
@@ -373,13 +382,13 @@ module _ {S F H T : Type 0} (laws : QuietLaws S F H T) (count : Counts S F H T) 
     unelected m h is =
         let who : m.entry.who ≡ 0 = subst (IsNobodys m.entry.who) is (nobody m h) in
         let from = wanted m h who (ap is_line_ask is) in
-        no_election moment from.line.item (subst (λ (step : Step). Has (steps_of_item moment from.line.item) step) is from.step_is)
+        no_election moment from.line.item (subst (λ (step : Step). Has (steps_of_item moment from.line.item) (as_asked step)) is from.step_is)
 
-    undeleted : NoDeleteAsked log
-    undeleted m h names is =
+    uncloned : NoCloneAsked log
+    uncloned m h source name names when taken is =
         let who : m.entry.who ≡ 0 = subst (IsNobodys m.entry.who) is (nobody m h) in
         let from = wanted m h who (ap is_line_ask is) in
-        asks_no_delete moment from.line.item names (known_line lines from.line quiet_for.known from.there) (subst (λ (step : Step). Has (steps_of_item moment from.line.item) step) is from.step_is)
+        asks_no_clone moment from.line.item source name names when None (known_line lines from.line quiet_for.known from.there) (subst (λ (step : Step). Has (steps_of_item moment from.line.item) (as_asked step)) is from.step_is)
 
     tells : s.tells ≡ true
     tells = ap is_some quiet_for.holds.told
@@ -393,8 +402,6 @@ module _ {S F H T : Type 0} (laws : QuietLaws S F H T) (count : Counts S F H T) 
       shelf = quiet_for.shelf;
       kept = quiet_for.holds.kept;
       opened = opened quiet_for.holds.image quiet_for.holds.told;
-      no_deletes = no_deletes;
-      no_delete_asked = undeleted;
       legal = legal;
       told = told tells;
       honest = tells_all.honest;
@@ -404,17 +411,21 @@ module _ {S F H T : Type 0} (laws : QuietLaws S F H T) (count : Counts S F H T) 
       calm = calm_is s log history entries legal none_faults named;
       unspent = λ m h spent. unspent m.entry (subst (λ (l : List Entry). Has l m.entry) entries (has_entry log m h)) spent;
       unelected = unelected;
+      no_clone_asked = uncloned;
     }
 
     none_failed : NoneFailed log
     none_failed = laws.fails (unit_counts count) s log faults smooth shown.units
+
+    none_undeleted : NoneUndeleted log
+    none_undeleted = laws.deletes (unit_counts count) s log faults smooth shown.deletes
 
     -- no line asks for a restore
     unasked : ((line : ScriptLine) (name place : Bytes) → Has lines line → line.item ≡ items.Restore name place → ⊥) → NoneAsked log
     unasked none m name place h is =
         let who : m.entry.who ≡ 0 = subst (IsNobodys m.entry.who) is (nobody m h) in
         let from = wanted m h who (ap is_line_ask is) in
-        let it = of_restore moment from.line.item name place (subst (λ (step : Step). Has (steps_of_item moment from.line.item) step) is from.step_is) in
+        let it = of_restore moment from.line.item name place (subst (λ (step : Step). Has (steps_of_item moment from.line.item) (as_asked step)) is from.step_is) in
         none from.line it.0 it.1 from.there it.2
 
     none_unrestored : NoneUnrestored log
@@ -450,14 +461,14 @@ module _ {S F H T : Type 0} (laws : QuietLaws S F H T) (count : Counts S F H T) 
         let checks : AreChecksInTurn moment lines log = inr (are_parts s moment lines log refl done.parted (never_deposed s log history entries legal none_faults named)) in
         let asked : asked_steps log ≡ steps_of moment lines = ap asked_steps done.grew.is ∙ done.grew.asked refl in
         record {
-          answered = subst (λ (es : List Entry). AreAnswered lines (replies lines es)) entries (laws.answered s log lines moment smooth none_failed none_unrestored none_unverified checks rules (in_turn done.closed) done.idle known asked);
-          ends = subst (λ (es : List Entry). EndsWell lines es) entries (laws.ends s log lines moment smooth none_failed none_unrestored none_unverified checks rules (in_turn done.closed) done.idle known asked);
+          answered = subst (λ (es : List Entry). AreAnswered lines (replies lines es)) entries (laws.answered s log lines moment smooth none_failed none_undeleted none_unrestored none_unverified checks rules (in_turn done.closed) done.idle known asked);
+          ends = subst (λ (es : List Entry). EndsWell lines es) entries (laws.ends s log lines moment smooth none_failed none_undeleted none_unrestored none_unverified checks rules (in_turn done.closed) done.idle known asked);
           waits = done.waits;
         }
 
-  pub completes : (status : ℕ) → (no_deletes : world.deletes ≡ fin.empty) → Legal s log → (s.tells ≡ true → AreTold log) → AreShown {S = S} {F = F} {H = H} {T = T} count s log faults → AreOnce s log → AreTested s log → IsCalm true after.sure history → AreDeposedSo history
+  pub completes : (status : ℕ) → Legal s log → (s.tells ≡ true → AreTold log) → AreShown {S = S} {F = F} {H = H} {T = T} count s log faults → AreOnce s log → AreTested s log → IsCalm true after.sure history → AreDeposedSo history
       → MadeFirst s (steps_of moment lines) [] log → AreClosed s log → AreDone s moment lines [] log ⊎ HasFallen s moment lines [] log → AreKnown lines → status ≡ status_of (ending lines history) → IsQuietFor telling before lines → Completes telling size moment lines before world clock after history status
-  completes status no_deletes legal told shown once tested calm named made apart done known is quiet_for tells_all =
+  completes status legal told shown once tested calm named made apart done known is quiet_for tells_all =
       ⊎_elim
       (λ (spent : Spent history). inl (inl spent))
       (λ (unspent : (e : Entry) → Has history e → IsSpent e.reply → ⊥).
@@ -466,8 +477,8 @@ module _ {S F H T : Type 0} (laws : QuietLaws S F H T) (count : Counts S F H T) 
       (λ (few : length history < 2 ^ 40).
       inr (
         ⊎_elim
-            (λ (all : AreDone s moment lines [] log). well no_deletes legal told shown once tested calm named made apart quiet_for tells_all few unspent known all)
-            (λ (stopped : HasFallen s moment lines [] log). absurd (not_stopped no_deletes legal told shown once tested calm named made apart quiet_for tells_all few unspent stopped))
+            (λ (all : AreDone s moment lines [] log). well legal told shown once tested calm named made apart quiet_for tells_all few unspent known all)
+            (λ (stopped : HasFallen s moment lines [] log). absurd (not_stopped legal told shown once tested calm named made apart quiet_for tells_all few unspent stopped))
             done,
         is,
       ))

@@ -13,7 +13,7 @@ use Rattle.esr_core.proofs.Histories.{deposed_stays}
 use Rattle.esr_script.specs.declared.item.ScriptLine.{ScriptLine}
 use Rattle.esr_desk.specs.Start.{Start, Legal, formats_of, world_of}
 use Rattle.esr_quiet.specs.Numbers.{HasNoTickets}
-use Rattle.esr_quiet.specs.Asked.{is_line_ask, asked_steps}
+use Rattle.esr_quiet.specs.Asked.{is_line_ask, as_asked, asked_steps}
 use Rattle.esr_quiet.specs.Smooth.{AreUnelected}
 use Rattle.esr_quiet.proofs.Prefixes.{legal_rest, legal_front, world_both}
 use Rattle.esr_complete.specs.Lines.{steps_of_item, steps_of}
@@ -55,9 +55,10 @@ module _ (s : Start) (moment : ℕ) (lines : List ScriptLine) (alone : s.alone �
   elected_by front back m is who elects =
       let there : Has log m = subst (λ (l : List Moment). Has l m) (sym is) (in_middle front back m) in
       let asked : asked_steps log ≡ made.first = ap asked_steps made.grew.is ∙ made.grew.asked alone in
-      let first : Has made.first m.entry.step = subst (λ (l : List Step). Has l m.entry.step) asked (in_asked log m there (asked_true m.entry who (ap is_line_ask elects))) in
-      let from = of_line moment lines m.entry.step (in_wanted made.first made.rest (steps_of moment lines) m.entry.step made.is first) in
-      no_election moment from.line.item (subst (λ (step : Step). Has (steps_of_item moment from.line.item) step) elects from.step_is)
+      let asks : Step = as_asked m.entry.step in
+      let first : Has made.first asks = subst (λ (l : List Step). Has l asks) asked (in_asked log m there (asked_true m.entry who (ap is_line_ask elects))) in
+      let from = of_line moment lines asks (in_wanted made.first made.rest (steps_of moment lines) asks made.is first) in
+      no_election moment from.line.item (subst (λ (step : Step). Has (steps_of_item moment from.line.item) (as_asked step)) elects from.step_is)
 
   -- in a front of the history whose last world isn't deposed
   unelected : (front back : List Moment) → log ≡ front ++ back → (world_of s front).deposed ≡ false → AreUnelected front

@@ -8,7 +8,7 @@ use Rattle.esr_core.specs.World.{World, record_of, Opened, OpenedEmpty, OpenedRe
 use Rattle.esr_core.specs.World as core
 use Rattle.esr_core.specs.Entry.{Entry, Moment}
 use Rattle.esr_core.specs.After.{after as world_after}
-use Rattle.esr_core.specs.History.{IsLegal, AllKnown, AreTold, AreHonest, committed}
+use Rattle.esr_core.specs.History.{IsLegal, TellsHandedOut, AreTold, AreHonest, committed}
 use Rattle.esr_core.specs.Left.{Leaves, safe_of, safe_by, safe_in}
 use Rattle.esr_depot.specs.Image.{Image as Held}
 use Rattle.esr_depot.specs.Look.{Look, now}
@@ -24,9 +24,8 @@ use Rattle.esr_repo.specs.Log.{image_at, tick, ticks, log_from, log_of}
 use Rattle.esr_repo.specs.Grown.{world_step}
 use Rattle.esr_repo.specs.Past.{IsPast}
 use Rattle.esr_run.specs.Start.{Telling, known_by, told_by, formats_by, start_of, LegalRun}
-use Rattle.esr_run.specs.Images.{Holds, TellsAll, StaysKept, EveryImageKept, AnsweredStay}
+use Rattle.esr_run.specs.Images.{Holds, TellsWork, StaysKept, EveryImageKept, AnsweredStay}
 use Rattle.esr_run.specs.Laws.{Laws}
-use Rattle.esr_run.proofs.Settled.{delete_left}
 use Rattle.esr_run.proofs.Worlds.{opened_image}
 
 some_same : (x y : Held) → Some x ≡ Some y → x ≡ y
@@ -90,7 +89,7 @@ leaves_here f part_size w (m ∷ log) i e = inl e
 
 -- what holds of a history that began in the opened world of a kept image
 record Ran (f : Formats) (part_size : ℕ) (image : Image) (shelf : List Shelved) (w : World) (log : List Moment) : Type 0 where
-  known : AllKnown f
+  known : TellsHandedOut f w log
   kept : IsKept f image shelf
   opened : Opened f image w
   back : ReadsBack f.cluster (record_of w)
@@ -122,7 +121,7 @@ start_at files size quiet before mid k o = start_of files size quiet before (wor
 
 ran : (files : Telling) (size : ℕ) (quiet : Bool) (before mid after : Look) (k : Kept) (history : List Entry) (o : IsOpening before mid k)
     → LegalRun (start_at files size quiet before mid k o) mid.clock after history → IsPast (start_at files size quiet before mid k o) mid.clock mid.since after history
-    → (shelf : List Shelved) (h : Holds (formats_by files) before shelf) → TellsAll (formats_by files) (world_at before mid k o) (log_of after mid.clock history)
+    → (shelf : List Shelved) (h : Holds (formats_by files) before shelf) → TellsWork (formats_by files) (world_at before mid k o) (log_of after mid.clock history)
     → Ran (formats_by files) size (image_of h.image) shelf (world_at before mid k o) (log_of after mid.clock history)
 ran files size quiet before mid after k history o run past shelf h t =
     record {
@@ -173,18 +172,9 @@ log_on at t (x ∷ front) e back = ap (λ (l : List Moment). record { entry = x;
 
 pub answers_stay : (laws : Laws) (files : Telling) (size : ℕ) (quiet : Bool) (before mid after : Look) (k : Kept) (history : List Entry) (o : IsOpening before mid k)
     → LegalRun (start_at files size quiet before mid k o) mid.clock after history → IsPast (start_at files size quiet before mid k o) mid.clock mid.since after history
-    → AnsweredStay (start_at files size quiet before mid k o) mid.clock history before after
-answers_stay laws files size quiet before mid after k history o run past shelf h t front back e n split settles i left =
-    elim settles.step [
-      | inl one ↦
-          laws.stays f size (image_of h.image) shelf w first rest m settles.ticket n (image_of i) r.known r.kept r.opened
-          (subst (IsLegal f size w) log_is r.legal) (subst AreTold log_is r.told) (subst (AreHonest f w) log_is r.honest)
-          one settles.answered settles.there settles.raised since
-      | inr one ↦
-          delete_left f size first rest w shelf m settles.ticket n (image_of i) r.known (laws.lawful f (image_of h.image) shelf w r.kept r.opened)
-          (subst (IsLegal f size w) log_is r.legal) (subst AreTold log_is r.told) (subst (AreHonest f w) log_is r.honest)
-          one settles.answered settles.there settles.raised since
-    ]
+    → AnsweredStay (start_at files size quiet before mid k o) mid.clock history after
+answers_stay laws files size quiet before mid after k history o run past front back e n split settles i left =
+    laws.stays f size w first rest m settles.ticket n (image_of i) o.order.tracked o.order.ranked (subst (IsLegal f size w) log_is run.legal) settles.step settles.answered settles.there settles.raised since
   where
     s : Start
     s = start_at files size quiet before mid k o
@@ -203,9 +193,6 @@ answers_stay laws files size quiet before mid after k history o run past shelf h
 
     m : Moment
     m = record { entry = e; image = image_at after (tick (ticks mid.clock front) e) }
-
-    r : Ran f size (image_of h.image) shelf w (log_of after mid.clock history)
-    r = ran files size quiet before mid after k history o run past shelf h t
 
     log_is : log_of after mid.clock history ≡ first ++ m ∷ rest
     log_is = ap (log_of after mid.clock) split ∙ log_on (image_at after) mid.clock front e back

@@ -7,7 +7,6 @@ pub mod Asking
 pub mod Scripts
 pub mod Numbering
 pub mod Worlds
-pub mod Settled
 pub mod Keeping
 pub mod Ending
 pub mod Restoring

@@ -124,10 +124,13 @@ spent_waiting s new (steps.Refused refusal) h alone = tt
 -- ---- a line that was refused
 
 -- a front of what it asks for was asked, and all of it where the history tells the refusal
+pub made_asked : (s : Start) (old new : List Moment) (step wanted : Step) (e : StepRefusal) → asks_of step ≡ wanted ∷ [] → Refusing s old new 0 step (told_refusal e) → LineMade {X = Unit} s (wanted ∷ []) old new (Err e)
+made_asked s old new step wanted steps.Memory asks h = record { first = []; rest = wanted ∷ []; grew = asking_refused s old new step None h; is = refl }
+made_asked s old new step wanted steps.TurnsSpent asks h = record { first = []; rest = wanted ∷ []; grew = asking_refused s old new step None h; is = refl }
+made_asked s old new step wanted (steps.Refused refusal) asks h = subst (λ (l : List Step). GrewAsking s l old new) asks (asking_refused s old new step (Some (refusal_of refusal)) h)
+
 pub made_refused : (s : Start) (old new : List Moment) (step : Step) (e : StepRefusal) → asks_of step ≡ step ∷ [] → Refusing s old new 0 step (told_refusal e) → LineMade {X = Unit} s (step ∷ []) old new (Err e)
-made_refused s old new step steps.Memory asks h = record { first = []; rest = step ∷ []; grew = asking_refused s old new step None h; is = refl }
-made_refused s old new step steps.TurnsSpent asks h = record { first = []; rest = step ∷ []; grew = asking_refused s old new step None h; is = refl }
-made_refused s old new step (steps.Refused refusal) asks h = subst (λ (l : List Step). GrewAsking s l old new) asks (asking_refused s old new step (Some (refusal_of refusal)) h)
+made_refused s old new step e asks h = made_asked s old new step step e asks h
 
 -- where it asks for nothing, nothing was asked
 none_first : (first rest : List Step) → first ++ rest ≡ [] → first ≡ []

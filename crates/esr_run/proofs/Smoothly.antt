@@ -1,9 +1,8 @@
 -- Completeness, from the end of a run to its words.
 use Rattle.std.proofs.Common.{◌≡◌, ◌⊎◌, ℕ, ◌+◌, ◌^◌, ◌<◌, ◌≤◌, Bool, true, false, not, nat_lt, List, [], Option, Some, None, Result, Ok, Err, refl, sym, ap, ◌∙◌, subst, inl, inr, ⊎_elim, arith}
 use Rattle.std.proofs.lemmas.Bool.{ltb-true, ltb-false}
-use Rattle.std.specs.FinMap as fin
 use Rattle.esr_model.specs.Values.{Bytes}
-use Rattle.esr_core.specs.World.{World, numbered_deletes}
+use Rattle.esr_core.specs.World.{World}
 use Rattle.esr_core.specs.Entry.{Entry}
 use Rattle.esr_depot.specs.Look.{Look, now}
 use Rattle.esr_depot.specs.Calls.{HasCause}
@@ -83,7 +82,7 @@ opens_well {S} {F} {H} {T} laws quiet_laws count files size workers moment lines
     (λ (is : status ≡ status_of (ending lines history)).
     inr (inr (
       opened_run laws count files size workers moment lines quiet before mid after k history faults o quiet_is legal past shown once tested single removed calm made verified takes,
-      completes quiet_laws count files size moment lines before after world mid.clock history faults (λ i e. o.opens i _ _ e) status none_kept
+      completes quiet_laws count files size moment lines before after world mid.clock history faults (λ i e. o.opens i _ _ e) status
           (subst (λ (s : Start). LegalRun s mid.clock after history) same legal).legal
           (subst (λ (s : Start). IsPast s mid.clock mid.since after history) same past).told
           (subst (λ (s : Start). AreShown {S = S} {F = F} {H = H} {T = T} count s (log_of after mid.clock history) faults) same shown)
@@ -100,9 +99,6 @@ opens_well {S} {F} {H} {T} laws quiet_laws count files size workers moment lines
   where
     world : World
     world = world_in (now before) o.cluster o.root
-
-    none_kept : world.deletes ≡ fin.empty
-    none_kept = ap (λ (kept : List (List ℕ)). numbered_deletes 1 kept) (quiet_for.undeleted o.cluster o.root (o.finds quiet_for.holds.image quiet_for.holds.told))
 
     yes_quiet : quiet ≡ true
     yes_quiet = quiet_is quiet_for.sure

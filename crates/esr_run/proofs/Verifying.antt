@@ -20,7 +20,7 @@ use Rattle.esr_desk.specs.Readers.{or_no_reader}
 use Rattle.esr_desk.specs.Outcome.{Waited, Stepped, Outcome}
 use Rattle.esr_checking.specs.Caller.{caller_of}
 use Rattle.esr_checking.specs.Shown.{Counts}
-use Rattle.esr_quiet.specs.Asked.{is_line_ask, asked_steps, GrewAsking}
+use Rattle.esr_quiet.specs.Asked.{is_line_ask, as_asked, asked_steps, GrewAsking}
 use Rattle.esr_quiet.specs.Asking.{asking_none}
 use Rattle.esr_quiet.specs.Numbers.{HasNoTickets}
 use Rattle.esr_quiet.specs.Smooth.{HasDrawn}
@@ -227,7 +227,7 @@ further_asks read h = absurd h
 unasked_more : (rest : List Moment) → AllFurther rest → asked_steps rest ≡ []
 unasked_more [] all = refl
 unasked_more (m ∷ rest) all =
-    ap (λ (b : Bool). if b then m.entry.step ∷ asked_steps rest else asked_steps rest)
+    ap (λ (b : Bool). if b then as_asked m.entry.step ∷ asked_steps rest else asked_steps rest)
     (ap (λ (b : Bool). (m.entry.who == 0) && b) (ap is_line_ask all.1.1 ∙ further_asks all.1.0 all.1.2) ∙ and_false (m.entry.who == 0))
     ∙ unasked_more rest all.2
   where
@@ -237,8 +237,8 @@ unasked_more (m ∷ rest) all =
 
 draw_asked : (m : Moment) (rest : List Moment) → m.entry.who ≡ 0 → m.entry.step ≡ ReadStep DrawTest → AllFurther rest → asked_steps (m ∷ rest) ≡ ReadStep DrawTest ∷ []
 draw_asked m rest who step all =
-    ap (λ (b : Bool). if b then m.entry.step ∷ asked_steps rest else asked_steps rest) (ap (λ (k : ℕ). (k == 0) && is_line_ask m.entry.step) who ∙ ap is_line_ask step)
-    ∙ ap (λ (x : Step). x ∷ asked_steps rest) step ∙ ap (λ (l : List Step). ReadStep DrawTest ∷ l) (unasked_more rest all)
+    ap (λ (b : Bool). if b then as_asked m.entry.step ∷ asked_steps rest else asked_steps rest) (ap (λ (k : ℕ). (k == 0) && is_line_ask m.entry.step) who ∙ ap is_line_ask step)
+    ∙ ap (λ (x : Step). as_asked x ∷ asked_steps rest) step ∙ ap (λ (l : List Step). ReadStep DrawTest ∷ l) (unasked_more rest all)
 
 begun_asks : (s : Start) (old new : List Moment) → HasBegun old new → (Legal s old → Legal s new) → GrewAsking s (ReadStep DrawTest ∷ []) old new
 begun_asks s old new h legal = record { more = h.draw ∷ h.rest; is = h.is; legal = legal; asked = λ alone. draw_asked h.draw h.rest h.drawer h.drew h.all }

@@ -149,7 +149,7 @@ pub record IsOpenedRun {S F H T : Type 0} (count : Counts S F H T) (files : Tell
   pub order : IsInOrder world
   pub legal : LegalRun (start_of files size quiet before world) clock after history
   pub every_image : EveryImageKept (formats_by files) world (log_of after clock history) before after
-  pub answered : AnsweredStay (start_of files size quiet before world) clock history before after
+  pub answered : AnsweredStay (start_of files size quiet before world) clock history after
   -- each failure of a unit that the history tells has its cause, and the objects that failed are listed
   pub shown : AreShown count (start_of files size quiet before world) (log_of after clock history) faults
   -- no blob is committed twice, but for the metadata of a finalization

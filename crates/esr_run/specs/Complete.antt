@@ -1,13 +1,11 @@
 -- Completeness: what a run ends with where nothing fails.
-use Rattle.std.specs.Prelude.{◌≡◌, ◌⊎◌, ℕ, ◌^◌, ◌<◌, ◌≤◌, true, List, [], length, Some, Ok, Err}
+use Rattle.std.specs.Prelude.{◌≡◌, ◌⊎◌, ℕ, ◌^◌, ◌<◌, ◌≤◌, true, List, [], length, Some, Err}
 use Rattle.esr_model.specs.Values.{Bytes, Has}
 use Rattle.esr_model.specs.Shelf.{Shelved}
 use Rattle.esr_core.specs.World.{World}
 use Rattle.esr_core.specs.Entry.{Entry, Moment}
 use Rattle.esr_depot.specs.Image.{Image as Held}
 use Rattle.esr_depot.specs.Look.{Look, now}
-use Rattle.esr_record.specs.Record.{Record}
-use Rattle.esr_root.specs.Root.{Root}
 use Rattle.esr_script.specs.declared.item.AskedIndex.{AskedIndex}
 use Rattle.esr_script.specs.declared.item.Item.TheVariants as items
 use Rattle.esr_script.specs.declared.item.ScriptLine.{ScriptLine}
@@ -15,7 +13,6 @@ use Rattle.esr_report.specs.Replies.{replies}
 use Rattle.esr_report.specs.Status.{ending, status_of}
 use Rattle.esr_desk.specs.Start.{Start}
 use Rattle.esr_opening.specs.Found.{LastTerm, found}
-use Rattle.esr_opening.specs.Terms.{kept_of}
 use Rattle.esr_repo.specs.Log.{log_of}
 use Rattle.esr_quiet.specs.Smooth.{IsSpent}
 use Rattle.esr_complete.specs.Lines.{AreKnown}
@@ -33,14 +30,13 @@ AreThere telling lines = (line : ScriptLine) (name : Bytes) (indices : List Aske
 abbrev pub AsksRestore : List ScriptLine → Type 0
 AsksRestore lines = (line : ScriptLine) × (name : Bytes) × (place : Bytes) × Has lines line × (line.item ≡ items.Restore name place)
 
--- The container tells its image, which is kept and whose record has no open delete, and it is sure to serve 2^62 calls; the sources
--- are quiet, and each shard for which the lines ask is there; the targets are quiet, if some line asks for a restore; and no line
--- asks for a delete, nor for a command that is not there yet.
+-- The container tells its image, which is kept, and it is sure to serve 2^62 calls; the sources are quiet, and each shard for which
+-- the lines ask is there; the targets are quiet, if some line asks for a restore; and no line asks for a clone, nor for a command
+-- that is not there yet.
 pub record IsQuietFor (telling : Telling) (before : Look) (lines : List ScriptLine) : Type 0 where
   pub sure : 2 ^ 62 ≤ before.sure
   pub shelf : List Shelved
   pub holds : Holds (formats_by telling) before shelf
-  pub undeleted : (cluster : Record) (root : Root) → found holds.image ≡ Ok (cluster, root) → kept_of cluster ≡ []
   pub sources : telling.is_quiet ≡ true
   pub there : AreThere telling lines
   pub targets : AsksRestore lines → telling.targets_quiet ≡ true

@@ -6,7 +6,7 @@ use Rattle.esr_model.specs.Shelf.{Shelved, shelf_after}
 use Rattle.esr_model.specs.Kept.{Kept}
 use Rattle.esr_core.specs.World.{World, Ticket}
 use Rattle.esr_core.specs.Entry.{Entry, SettlePruned, SettleStep, PruneStep, WasSettled, Moment}
-use Rattle.esr_core.specs.History.{AllKnown, AreHonest, committed}
+use Rattle.esr_core.specs.History.{AllKnown, TellsHandedOut, AreHonest, committed}
 use Rattle.esr_core.specs.Left.{safe_in}
 use Rattle.esr_depot.specs.Image.{Image as Held}
 use Rattle.esr_depot.specs.Look.{Look, now}
@@ -25,6 +25,12 @@ pub record TellsAll (f : Formats) (world : World) (log : List Moment) : Type 0 w
   pub known : AllKnown f
   pub honest : AreHonest f world log
 
+-- the sources tell each shard that the run handed out, and what they tell and what stands in the container have equal bytes
+-- where they have equal length and digest
+pub record TellsWork (f : Formats) (world : World) (log : List Moment) : Type 0 where
+  pub known : TellsHandedOut f world log
+  pub honest : AreHonest f world log
+
 -- no command was carried out: each image since the entry is kept for the shelf of the entry
 abbrev pub StaysKept : Formats → Look → Look → Type 0
 StaysKept f before after = (shelf : List Shelved) → Holds f before shelf → (i : Held) → after.since before.clock i → Kept f (image_of i) shelf
@@ -32,7 +38,7 @@ StaysKept f before after = (shelf : List Shelved) → Holds f before shelf → (
 -- each image since the entry is kept for the shelf of the entry with the commands that count in that image
 abbrev pub EveryImageKept : Formats → World → List Moment → Look → Look → Type 0
 EveryImageKept f world log before after =
-    (shelf : List Shelved) → Holds f before shelf → TellsAll f world log → (i : Held) → after.since before.clock i
+    (shelf : List Shelved) → Holds f before shelf → TellsWork f world log → (i : Held) → after.since before.clock i
     → Kept f (image_of i) (shelf_after shelf (committed f (safe_in f (image_of i)) world log))
 
 -- in this world the entry is a settle that was answered, of a finalization's or a delete's ticket that had raised that root
@@ -44,8 +50,7 @@ pub record Settles (world : World) (e : Entry) (n : ℕ) : Type 0 where
   pub raised : ticket.raised ≡ Some n
 
 -- a settle that was answered stays: in each image since its moment its root is the safe one, or lies below it
-abbrev pub AnsweredStay : Start → ℕ → List Entry → Look → Look → Type 0
-AnsweredStay s clock history before after =
-    (shelf : List Shelved) → Holds (formats_of s) before shelf → TellsAll (formats_of s) s.world (log_of after clock history)
-    → (front back : List Entry) (e : Entry) (n : ℕ) → history ≡ front ++ e ∷ back → Settles (world_of s (log_of after clock front)) e n
+abbrev pub AnsweredStay : Start → ℕ → List Entry → Look → Type 0
+AnsweredStay s clock history after =
+    (front back : List Entry) (e : Entry) (n : ℕ) → history ≡ front ++ e ∷ back → Settles (world_of s (log_of after clock front)) e n
     → (i : Held) → after.since (ticks clock (front ++ e ∷ [])) i → suc n ≤ safe_in (formats_of s) (image_of i)

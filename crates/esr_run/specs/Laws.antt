@@ -6,12 +6,13 @@ use Rattle.esr_model.specs.Image.{Image, Blobs}
 use Rattle.esr_model.specs.Kept.{Kept}
 use Rattle.esr_model.specs.Shelf.{Shelved, shelf_after}
 use Rattle.esr_core.specs.World.{World, Ticket, image_of, record_of, opened, Opened}
-use Rattle.esr_core.specs.Entry.{Asked, Read, AskStep, TakeStep, LookStep, ReadStep, Refusal, StaleTerm, Refused, Given, Gave, Moment, SettleStep, WasSettled}
+use Rattle.esr_core.specs.Entry.{Asked, Read, AskStep, TakeStep, LookStep, ReadStep, Refusal, StaleTerm, Refused, Given, Gave, Moment, SettleStep, SettlePruned, PruneStep, WasSettled}
 use Rattle.esr_core.specs.After.{after}
-use Rattle.esr_core.specs.History.{world_from, IsLegal, AllKnown, AreTold, AreHonest, committed}
+use Rattle.esr_core.specs.History.{world_from, IsLegal, TellsHandedOut, AreTold, AreHonest, committed}
 use Rattle.esr_core.specs.Ids.{Law}
 use Rattle.esr_core.specs.Allowed.{Allowed}
 use Rattle.esr_core.specs.Tracked.{Tracked}
+use Rattle.esr_core.specs.Ranked.{Ranked}
 use Rattle.esr_core.specs.ReadTracked.{ReadTracked}
 use Rattle.esr_core.specs.Left.{Leaves, safe_in}
 use Rattle.esr_core.specs.Refusing.{RefusedSo, SwapFailed}
@@ -22,10 +23,10 @@ use Rattle.esr_script.specs.declared.item.ScriptLine.{ScriptLine}
 use Rattle.esr_report.specs.Replies.{replies}
 use Rattle.esr_reading.specs.Shown as reading
 use Rattle.esr_checking.specs.Shown as checking
-use Rattle.esr_quiet.specs.Caused.{AreCaused, AreReadCaused, AreEndsCaused}
+use Rattle.esr_quiet.specs.Caused.{AreCaused, AreReadCaused, AreDeleteCaused, AreEndsCaused}
 use Rattle.esr_quiet.specs.Numbers.{HasNoTickets}
 use Rattle.esr_quiet.specs.Asked.{asked_steps}
-use Rattle.esr_quiet.specs.Smooth.{IsSmooth, NoneFailed, NoneUnrestored, NoneUnverified, NoneAsked, AreUnelected}
+use Rattle.esr_quiet.specs.Smooth.{IsSmooth, NoneFailed, NoneUndeleted, NoneUnrestored, NoneUnverified, NoneAsked, AreUnelected}
 use Rattle.esr_quiet.specs.Refusals.{AreByRule}
 use Rattle.esr_complete.specs.Lines.{steps_of, AreKnown, entries_of}
 use Rattle.esr_complete.specs.InTurn.{IsInTurn, AreChecksInTurn}
@@ -36,11 +37,10 @@ pub record Laws : Type 0 where
   pub lawful : (f : Formats) (image : Image) (shelf : List Shelved) (w : World) → Kept f image shelf → Opened f image w → Law f w shelf
   pub kept : (f : Formats) (w : World) (shelf : List Shelved) → Law f w shelf → ReadsBack f.cluster (record_of w) → Kept f (image_of f w) shelf
   pub one_shelf : (f : Formats) (image : Image) (a b : List Shelved) → Kept f image a → Kept f image b → a ≡ b
-  pub left : (f : Formats) (part_size : ℕ) (image : Image) (shelf : List Shelved) (w : World) (log : List Moment) (i : Image) → AllKnown f → Kept f image shelf → Opened f image w → ReadsBack f.cluster (record_of w) → IsLegal f part_size w log
+  pub left : (f : Formats) (part_size : ℕ) (image : Image) (shelf : List Shelved) (w : World) (log : List Moment) (i : Image) → TellsHandedOut f w log → Kept f image shelf → Opened f image w → ReadsBack f.cluster (record_of w) → IsLegal f part_size w log
       → AreTold log → AreHonest f w log → Leaves f part_size w log i → Kept f i (shelf_after shelf (committed f (safe_in f i) w log))
-  pub stays : (f : Formats) (part_size : ℕ) (image : Image) (shelf : List Shelved) (w : World) (before rest : List Moment) (m : Moment) (t : Ticket) (n : ℕ) (i : Image) → AllKnown f → Kept f image shelf → Opened f image w
-      → IsLegal f part_size w (before ++ m ∷ rest) → AreTold (before ++ m ∷ rest) → AreHonest f w (before ++ m ∷ rest) → m.entry.step ≡ SettleStep → m.entry.reply ≡ WasSettled
-      → fin.get (world_from f w before).tickets m.entry.who ≡ Some t → t.raised ≡ Some n → Leaves f part_size (after f (world_from f w before) m) rest i → suc n ≤ safe_in f i
+  pub stays : (f : Formats) (part_size : ℕ) (w : World) (before rest : List Moment) (m : Moment) (t : Ticket) (n : ℕ) (i : Image) → Tracked w → Ranked w → IsLegal f part_size w (before ++ m ∷ rest) → (m.entry.step ≡ SettleStep) ⊎ (m.entry.step ≡ PruneStep SettlePruned)
+      → m.entry.reply ≡ WasSettled → fin.get (world_from f w before).tickets m.entry.who ≡ Some t → t.raised ≡ Some n → Leaves f part_size (after f (world_from f w before) m) rest i → suc n ≤ safe_in f i
 
 -- what steps leave of tickets
 pub record StepsStay : Type 0 where
@@ -65,11 +65,12 @@ pub record Refusals : Type 0 where
 -- the laws of histories in which nothing fails
 pub record QuietLaws (S F H T : Type 0) : Type 0 where
   pub fails : (c : Counts S F H T) (s : Start) (log : List Moment) (faults : List (Fault S F H T)) → IsSmooth s log → AreCaused c s log faults → NoneFailed log
+  pub deletes : (c : Counts S F H T) (s : Start) (log : List Moment) (faults : List (Fault S F H T)) → IsSmooth s log → AreDeleteCaused c s log faults → NoneUndeleted log
   pub restores : (c : reading.Counts F T) (s : Start) (log : List Moment) (faults : List (Fault S F H T)) → IsSmooth s log → s.sure_targets ≡ true → AreReadCaused c s log faults → NoneUnrestored log
   pub unasked : (s : Start) (log : List Moment) → IsSmooth s log → NoneAsked log → NoneUnrestored log
   pub verifies : (c : checking.Counts S F) (s : Start) (log : List Moment) (faults : List (Fault S F H T)) → IsSmooth s log → AreEndsCaused c s log faults → NoneUnverified log
   pub rules : (s : Start) (log : List Moment) → IsSmooth s log → NoneFailed log → AreByRule log
-  pub answered : (s : Start) (log : List Moment) (lines : List ScriptLine) (moment : ℕ) → IsSmooth s log → NoneFailed log → NoneUnrestored log → NoneUnverified log → AreChecksInTurn moment lines log → AreByRule log → IsInTurn s log → IsIdle s log → AreKnown lines → asked_steps log ≡ steps_of moment lines
+  pub answered : (s : Start) (log : List Moment) (lines : List ScriptLine) (moment : ℕ) → IsSmooth s log → NoneFailed log → NoneUndeleted log → NoneUnrestored log → NoneUnverified log → AreChecksInTurn moment lines log → AreByRule log → IsInTurn s log → IsIdle s log → AreKnown lines → asked_steps log ≡ steps_of moment lines
       → AreAnswered lines (replies lines (entries_of log))
-  pub ends : (s : Start) (log : List Moment) (lines : List ScriptLine) (moment : ℕ) → IsSmooth s log → NoneFailed log → NoneUnrestored log → NoneUnverified log → AreChecksInTurn moment lines log → AreByRule log → IsInTurn s log → IsIdle s log → AreKnown lines → asked_steps log ≡ steps_of moment lines
+  pub ends : (s : Start) (log : List Moment) (lines : List ScriptLine) (moment : ℕ) → IsSmooth s log → NoneFailed log → NoneUndeleted log → NoneUnrestored log → NoneUnverified log → AreChecksInTurn moment lines log → AreByRule log → IsInTurn s log → IsIdle s log → AreKnown lines → asked_steps log ≡ steps_of moment lines
       → EndsWell lines (entries_of log)

@@ -44,10 +44,23 @@ have_own_names (a ∷ asked) = if has_name a.name asked then false else have_own
 unfoldable pub is_askable : List AskedIndex → Bool
 is_askable asked = have_shards asked && have_own_names asked
 
--- a snapshot, a delete, a restore, a wait, a list, a check or a verification: the other commands are not there yet
+unfoldable pub is_same_name : Bytes → Bytes → Bool
+is_same_name name other = bytes_eq other name
+
+-- one of them is this name
+abbrev pub names_one : Bytes → List Bytes → Bool
+names_one name [] = false
+names_one name (other ∷ names) = if is_same_name name other then true else names_one name names
+
+-- no name stands twice, nor does one in a line that was read
+abbrev pub have_names_once : List Bytes → Bool
+have_names_once [] = true
+have_names_once (name ∷ names) = if names_one name names then false else have_names_once names
+
+-- a snapshot, a clone, a delete, a restore, a wait, a list, a check or a verification: the other commands are not there yet
 abbrev pub is_carried : Item → Bool
 is_carried (items.Snapshot name indices) = is_askable indices
-is_carried (items.Clone source name indices) = false
+is_carried (items.Clone source name indices) = have_names_once indices
 is_carried (items.Delete names) = true
 is_carried (items.Restore name place) = true
 is_carried items.Cleanup = false

@@ -1,7 +1,8 @@
 //! The lines of a script are carried out, in order.
 ghost use Rattle.std.specs.Prelude.{◌≡◌, ◌⊎◌, ◌+◌, ◌<◌, ◌≤◌, ℕ, Bool, ◌^◌, ◌∷◌, ◌++◌, [], true, false, None, OnOk};
 ghost use Rattle.esr_script.specs.declared.item.Item.TheVariants.{Wait, Check};
-ghost use Rattle.esr_core.specs.Entry.{DeleteSnapshots, Restore, DrawTest, AskStep, LookStep, ReadStep};
+ghost use Rattle.esr_core.specs.Entry.{Clone, DeleteSnapshots, Restore, DrawTest, AskStep, LookStep, ReadStep};
+ghost use Rattle.esr_core.specs.Restores.{AreOnce};
 ghost use Rattle.esr_core.specs.Tracked.{Tracked};
 ghost use Rattle.esr_core.specs.ReadTracked.{ReadTracked};
 ghost use Rattle.esr_desk.specs.Sources.{AreSources};
@@ -24,9 +25,9 @@ use crate::command::command_of;
 use crate::law::{steps_stay, work_leaves};
 use esr_checking::{CheckDesk, VerifyDesk};
 use esr_deleting::DeleteDesk;
-use esr_desk::{Desk, StepRefusal, UnitRefusal};
+use esr_desk::{CloneDesk, Desk, StepRefusal, UnitRefusal};
 use esr_drive::{RestoredTarget, RestoredTargets, work};
-use esr_names::{SnapName, SnapNames};
+use esr_names::{IndexNames, SnapName, SnapNames};
 use esr_reading::RestoreDesk;
 use esr_script::{AskedIndex, Item, ScriptLine};
 use esr_seq::Text;
@@ -60,6 +61,33 @@ fn ask<Q: Desk>(
         Ok(_) => Ok(()),
         Err(refusal) => Err(refusal),
     }
+}
+
+/// Asks for a clone: of these indices, each named once, or of all where none is named.
+fn make_clone<Q: CloneDesk>(
+    alloc: Global,
+    desk: &mut Q,
+    source: &SnapName,
+    name: &SnapName,
+    indices: &IndexNames,
+    moment: u64,
+) -> Result<(), StepRefusal>
+    requires once { AreOnce indices.now }
+    requires numbered { HasNoTickets Q.start }
+    requires ops { Tracked Q.start.world }
+    ensures made { LineMade Q.start (AskStep (Clone source.now name.now indices.now moment None) ∷ []) (Q.seen desk.old) (Q.seen desk.new) result }
+    ensures rests { Q.start.alone ≡ true → AreIn Q.start (Q.seen desk.old) → LineRests Q.start (Q.seen desk.new) result }
+    ensures spent { Q.start.alone ≡ true → LineSpends (Q.seen desk.new) result }
+    ensures none { Q.start.alone ≡ true → RestoresNone (Q.seen desk.old) (Q.seen desk.new) }
+    ensures takes { Q.start.alone ≡ true → idle_takes (Q.seen desk.new) ≡ idle_takes (Q.seen desk.old) }
+    ensures unchecked { Q.start.alone ≡ true → EndsNone (Q.seen desk.old) (Q.seen desk.new) }
+    ensures verified { (workers : ℕ) (checks : Bool) → Q.start.alone ≡ true → MayVerify Q.start workers checks (Q.seen desk.old) → VerifiesOn Q.start workers checks (Q.seen desk.new) result }
+{
+    steps_stay();
+    if let Err(refusal) = desk.clone_snapshot(alloc, source, name, indices, moment) {
+        return Err(refusal);
+    }
+    Ok(())
 }
 
 /// Asks for a delete of all these snapshots.
@@ -234,7 +262,11 @@ fn check<Q: CheckDesk>(alloc: Global, desk: &mut Q) -> Result<(), StepRefusal>
 }
 
 fn carry_line<
-    Q: RestoreDesk<Shard = S::Shard, Target = T::Target> + DeleteDesk + VerifyDesk + CheckDesk,
+    Q: RestoreDesk<Shard = S::Shard, Target = T::Target>
+        + DeleteDesk
+        + CloneDesk
+        + VerifyDesk
+        + CheckDesk,
     S: Sources,
     T: Targets,
     G: Gate,
@@ -276,6 +308,11 @@ fn carry_line<
 {
     match item {
         Item::Snapshot { name, indices } => ask(alloc, desk, name, indices.as_slice(), moment),
+        Item::Clone {
+            source,
+            name,
+            indices,
+        } => make_clone(alloc, desk, source, name, indices, moment),
         Item::Delete { names } => delete(alloc, desk, names),
         Item::Restore { name, place } => restore(alloc, desk, name, place),
         Item::Wait => wait(alloc, desk, sources, targets, gate, part_size, filled),
@@ -289,7 +326,11 @@ fn carry_line<
 /// Carries out the lines. A refusal that the history tells is no reason to stop; none is carried out once the desk's turns
 /// are spent.
 fn carry_lines<
-    Q: RestoreDesk<Shard = S::Shard, Target = T::Target> + DeleteDesk + VerifyDesk + CheckDesk,
+    Q: RestoreDesk<Shard = S::Shard, Target = T::Target>
+        + DeleteDesk
+        + CloneDesk
+        + VerifyDesk
+        + CheckDesk,
     S: Sources,
     T: Targets,
     G: Gate,
@@ -381,7 +422,11 @@ fn work_out<
 /// Carries out the lines, and works all units that are ready then. The targets that restores filled are put to those that are
 /// given.
 pub(crate) fn carry<
-    Q: RestoreDesk<Shard = S::Shard, Target = T::Target> + DeleteDesk + VerifyDesk + CheckDesk,
+    Q: RestoreDesk<Shard = S::Shard, Target = T::Target>
+        + DeleteDesk
+        + CloneDesk
+        + VerifyDesk
+        + CheckDesk,
     S: Sources,
     T: Targets,
     G: Gate,

@@ -49,6 +49,7 @@ pub(crate) fn quiet_laws<S, F, H, T>()
     ensures { QuietLaws S F H T }
 {
     esr_quiet::no_unit_fails::<S, F, H, T>();
+    esr_quiet::no_delete_fails::<S, F, H, T>();
     esr_quiet::no_restore_fails::<S, F, H, T>();
     esr_quiet::no_unasked_restore_fails();
     esr_quiet::no_check_fails::<S, F, H, T>();

@@ -1,7 +1,7 @@
 //! Which lines of a script can be carried out.
 ghost use Rattle.std.specs.Prelude.{◌≡◌, Ok, IfOk, IfErr};
 ghost use Rattle.esr_script.specs.Script.{script_of};
-ghost use Rattle.esr_run.specs.Script.{has_shards, have_shards, is_named, has_name, have_own_names, is_askable, is_carried, first_bad};
+ghost use Rattle.esr_run.specs.Script.{has_shards, have_shards, is_named, has_name, have_own_names, is_askable, is_same_name, names_one, have_names_once, is_carried, first_bad};
 ghost use Rattle.esr_run.specs.Stops.{AreGood, IsBadIn};
 
 use crate::stop::Stop;
@@ -65,12 +65,48 @@ fn is_askable(indices: &[AskedIndex]) -> bool
     have_shards(indices) && have_own_names(indices)
 }
 
+#[tactic(auto, unfolding(crate::specs::Script::is_same_name))]
+fn is_same_name(name: &IndexName, other: &IndexName) -> bool
+    ensures { result ≡ is_same_name name.now other.now }
+{
+    *other == *name
+}
+
+fn names_one(name: &IndexName, names: &[IndexName]) -> bool
+    ensures { result ≡ names_one name.now names.now }
+{
+    for other in names {
+        if is_same_name(name, other) {
+            return true;
+        }
+    }
+    false
+}
+
+fn have_names_once(names: &[IndexName]) -> bool
+    ensures { result ≡ have_names_once names.now }
+{
+    let mut left = names;
+    while let [name, rest @ ..] = left {
+        if names_one(name, rest) {
+            return false;
+        }
+        left = rest;
+    }
+    true
+}
+
 /// The line can be carried out: the other commands are not there yet.
 pub(crate) fn is_carried(item: &Item) -> bool
     ensures { result ≡ is_carried item.now }
 {
     match item {
         Item::Snapshot { name: _, indices } => is_askable(indices.as_slice()),
+        Item::Clone {
+            source: _,
+            name: _,
+            indices,
+        } => have_names_once(indices.as_slice()),
         Item::Delete { names: _ } => true,
         Item::Restore { name: _, place: _ } => true,
         Item::Wait => true,

@@ -3,6 +3,7 @@
 
 mod check;
 mod checking;
+mod cloning;
 mod deleting;
 mod desk;
 mod faults;

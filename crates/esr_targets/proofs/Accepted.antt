@@ -8,7 +8,7 @@ use Rattle.esr_core.specs.ReadTracked.{ReadTracked}
 use Rattle.esr_script.specs.declared.item.Item.{Item}
 use Rattle.esr_script.specs.declared.item.ScriptLine.{ScriptLine}
 use Rattle.esr_desk.specs.Start.{Start, formats_of, world_of, Legal}
-use Rattle.esr_quiet.specs.Asked.{asked_steps}
+use Rattle.esr_quiet.specs.Asked.{as_asked, asked_steps}
 use Rattle.esr_complete.specs.Lines.{steps_of_item, steps_of, entries_of}
 use Rattle.esr_targets.specs.Lines.{AreNumbered, op_of_reply, ops_at, ops_from, ops_of_lines, AcceptedLine}
 use Rattle.esr_targets.specs.Listed.{line_of}
@@ -38,7 +38,7 @@ module _ (laws : ReaderLaws) (s : Start) (t : Tracked s.world) (l : ReadTracked 
     asks = accepted_asked (formats_of s) s.part_size (world_of s x.before) x.m op r.uuid r.indices (allowed_at laws s t l log legal x.before x.after x.m x.log_is) reply_is
 
     item_asks : steps_of_item moment r.line.item ≡ AskStep (Restore asks.name asks.place) ∷ []
-    item_asks = r.step ∙ ap (λ (y : Entry). y.step ∷ []) (sym x.entry_is) ∙ ap (λ (y : Step). y ∷ []) asks.step_is
+    item_asks = r.step ∙ ap (λ (y : Entry). as_asked y.step ∷ []) (sym x.entry_is) ∙ ap (λ (y : Step). as_asked y ∷ []) asks.step_is
 
     asked_there : asked_steps x.before ≡ steps_of moment r.earlier
     asked_there = asked_same x.before ∙ ap steps_by x.earlier_is ∙ r.steps

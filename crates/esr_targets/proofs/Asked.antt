@@ -2,7 +2,7 @@
 use Rattle.std.proofs.Common.{◌≡◌, Bool, true, false, if◌then◌else◌, List, [], ◌∷◌, ◌++◌, refl, ap, ◌∙◌, inl, inr}
 use Rattle.esr_model.specs.Values.{Has}
 use Rattle.esr_core.specs.Entry.{Step, Entry, Moment}
-use Rattle.esr_quiet.specs.Asked.{is_asked, asked_steps}
+use Rattle.esr_quiet.specs.Asked.{is_asked, as_asked, asked_steps}
 use Rattle.esr_complete.specs.Lines.{entries_of}
 use Rattle.esr_targets.specs.Lines.{asked_entries}
 use Rattle.esr_targets.proofs.Splits.{heads, nothing_split}
@@ -11,8 +11,8 @@ use Rattle.esr_targets.proofs.Ops.{steps_by}
 abbrev pub asked_of : List Moment → List Entry
 asked_of log = asked_entries (entries_of log)
 
-steps_same : (b : Bool) (e : Entry) (steps : List Step) (es : List Entry) → steps ≡ steps_by es → (if b then e.step ∷ steps else steps) ≡ steps_by (if b then e ∷ es else es)
-steps_same true e steps es h = ap (λ (l : List Step). e.step ∷ l) h
+steps_same : (b : Bool) (e : Entry) (steps : List Step) (es : List Entry) → steps ≡ steps_by es → (if b then as_asked e.step ∷ steps else steps) ≡ steps_by (if b then e ∷ es else es)
+steps_same true e steps es h = ap (λ (l : List Step). as_asked e.step ∷ l) h
 steps_same false e steps es h = h
 
 pub asked_same : (log : List Moment) → asked_steps log ≡ steps_by (asked_of log)

@@ -1,19 +1,20 @@
 -- The ops of lines, by the entries that were asked.
-use Rattle.std.proofs.Common.{◌≡◌, ◌⊎◌, ℕ, ◌<◌, Bool, if◌then◌else◌, List, [], ◌∷◌, ◌++◌, Some, map, append_assoc, refl, sym, ap, ◌∙◌, inl, inr, arith}
+use Rattle.std.proofs.Common.{◌≡◌, ◌⊎◌, ℕ, ◌<◌, Bool, if◌then◌else◌, List, [], ◌∷◌, ◌++◌, Some, None, map, append_assoc, refl, sym, ap, ◌∙◌, inl, inr, arith}
 use Rattle.std.proofs.lemmas.Bool.Decides.{eqb_tells}
 use Rattle.esr_model.specs.Values.{Bytes, Has, IndexRef}
-use Rattle.esr_core.specs.Entry.{DeleteSnapshots, Restore, Step, DrawTest, AskStep, LookStep, ReadStep, Reply, AcceptedRestore, Entry}
+use Rattle.esr_core.specs.Entry.{Clone, DeleteSnapshots, Restore, Step, DrawTest, AskStep, LookStep, ReadStep, Reply, AcceptedRestore, Entry}
 use Rattle.esr_core.proofs.Reading.{none_some, some_same, Has-either}
 use Rattle.esr_script.specs.declared.item.Item.{Item}
 use Rattle.esr_script.specs.declared.item.Item.TheVariants as items
 use Rattle.esr_script.specs.declared.item.ScriptLine.{ScriptLine}
+use Rattle.esr_quiet.specs.Asked.{as_asked}
 use Rattle.esr_complete.specs.Lines.{command_of_line, steps_of_item, steps_of}
 use Rattle.esr_targets.specs.Lines.{AreNumbered, op_of_reply, ops_by, ops_at, ops_from}
 use Rattle.esr_targets.specs.Listed.{line_of}
 use Rattle.esr_targets.proofs.Splits.{heads, nothing_first}
 
 abbrev pub steps_by : List Entry → List Step
-steps_by es = map (λ (e : Entry). e.step) es
+steps_by es = map (λ (e : Entry). as_asked e.step) es
 
 -- ---- the line of an op
 
@@ -49,7 +50,7 @@ pub record LineAt (moment : ℕ) (lines : List ScriptLine) (es : List Entry) (op
   pub after : List Entry
   pub es_is : es ≡ before ++ e ∷ after
   pub steps : steps_by before ≡ steps_of moment earlier
-  pub step : steps_of_item moment line.item ≡ e.step ∷ []
+  pub step : steps_of_item moment line.item ≡ as_asked e.step ∷ []
   pub uuid : ℕ
   pub indices : List IndexRef
   pub reply : e.reply ≡ AcceptedRestore op uuid indices
@@ -101,8 +102,8 @@ module _ (moment : ℕ) (line : ScriptLine) (lines : List ScriptLine) (op number
       → ((fs : List Entry) → steps_by fs ++ rest ≡ steps_of moment lines → line_of (ops_from lines fs) op ≡ Some number → LineAt moment lines fs op number) → LineAt moment (line ∷ lines) es op number
   ask st [] rest one same found on = absurd (none_some number found)
   ask st (e ∷ es) rest one same found on =
-      let h = heads e.step st (steps_by es ++ rest) (steps_of moment lines) same in
-      let step : steps_of_item moment line.item ≡ e.step ∷ [] = one ∙ ap (λ (x : Step). x ∷ []) (sym h.0) in
+      let h = heads (as_asked e.step) st (steps_by es ++ rest) (steps_of moment lines) same in
+      let step : steps_of_item moment line.item ≡ as_asked e.step ∷ [] = one ∙ ap (λ (x : Step). x ∷ []) (sym h.0) in
       elim (in_reply e.reply line.number (ops_from lines es) op number found) [
         | inl here ↦
             record {
@@ -132,7 +133,7 @@ module _ (moment : ℕ) (line : ScriptLine) (lines : List ScriptLine) (op number
               e = r.e;
               after = r.after;
               es_is = ap (λ (l : List Entry). e ∷ l) r.es_is;
-              steps = ap (λ (l : List Step). e.step ∷ l) r.steps ∙ ap (λ (l : List Step). l ++ steps_of moment r.earlier) (sym step);
+              steps = ap (λ (l : List Step). as_asked e.step ∷ l) r.steps ∙ ap (λ (l : List Step). l ++ steps_of moment r.earlier) (sym step);
               step = r.step;
               uuid = r.uuid;
               indices = r.indices;
@@ -144,6 +145,7 @@ module _ (moment : ℕ) (line : ScriptLine) (lines : List ScriptLine) (op number
   by_item : (es : List Entry) (rest : List Step) (item : Item) → line.item ≡ item → steps_by es ++ rest ≡ steps_of_item moment item ++ steps_of moment lines → line_of (ops_at line es (ops_from lines) item) op ≡ Some number
       → ((fs : List Entry) → steps_by fs ++ rest ≡ steps_of moment lines → line_of (ops_from lines fs) op ≡ Some number → LineAt moment lines fs op number) → LineAt moment (line ∷ lines) es op number
   by_item es rest (items.Snapshot name indices) is same found on = ask (AskStep (command_of_line name indices moment)) es rest (ap (steps_of_item moment) is) same found on
+  by_item es rest (items.Clone source name indices) is same found on = ask (AskStep (Clone source name indices moment None)) es rest (ap (steps_of_item moment) is) same found on
   by_item es rest (items.Delete names) is same found on = ask (AskStep (DeleteSnapshots names)) es rest (ap (steps_of_item moment) is) same found on
   by_item es rest (items.Restore name place) is same found on = ask (AskStep (Restore name place)) es rest (ap (steps_of_item moment) is) same found on
   by_item es rest items.List is same found on = ask LookStep es rest (ap (steps_of_item moment) is) same found on
@@ -161,11 +163,12 @@ module _ (moment : ℕ) (line : ScriptLine) (earlier lines : List ScriptLine) (f
   both_asked : (st : Step) (es : List Entry) → steps_by es ≡ st ∷ steps_of moment earlier → ops_by line.number (es ++ fs) (ops_from (earlier ++ lines)) ≡ ops_by line.number es (ops_from earlier) ++ ops_from lines fs
   both_asked st [] same = absurd (nothing_first st (steps_of moment earlier) same)
   both_asked st (e ∷ es) same =
-      ap (λ (l : List (ℕ × ℕ)). op_of_reply line.number e.reply ++ l) (on es (heads e.step st (steps_by es) (steps_of moment earlier) same).1)
+      ap (λ (l : List (ℕ × ℕ)). op_of_reply line.number e.reply ++ l) (on es (heads (as_asked e.step) st (steps_by es) (steps_of moment earlier) same).1)
       ∙ sym (append_assoc (op_of_reply line.number e.reply) (ops_from earlier es) (ops_from lines fs))
 
   both_by : (es : List Entry) (item : Item) → steps_by es ≡ steps_of_item moment item ++ steps_of moment earlier → ops_at line (es ++ fs) (ops_from (earlier ++ lines)) item ≡ ops_at line es (ops_from earlier) item ++ ops_from lines fs
   both_by es (items.Snapshot name indices) same = both_asked (AskStep (command_of_line name indices moment)) es same
+  both_by es (items.Clone source name indices) same = both_asked (AskStep (Clone source name indices moment None)) es same
   both_by es (items.Delete names) same = both_asked (AskStep (DeleteSnapshots names)) es same
   both_by es (items.Restore name place) same = both_asked (AskStep (Restore name place)) es same
   both_by es items.List same = both_asked LookStep es same
@@ -175,7 +178,7 @@ module _ (moment : ℕ) (line : ScriptLine) (earlier lines : List ScriptLine) (f
 
 none_asked : (es fs : List Entry) (lines : List ScriptLine) → steps_by es ≡ [] → ops_from lines (es ++ fs) ≡ ops_from lines fs
 none_asked [] fs lines same = refl
-none_asked (e ∷ es) fs lines same = absurd (nothing_first e.step (steps_by es) (sym same))
+none_asked (e ∷ es) fs lines same = absurd (nothing_first (as_asked e.step) (steps_by es) (sym same))
 
 pub ops_both : (moment : ℕ) (earlier lines : List ScriptLine) (es fs : List Entry) → steps_by es ≡ steps_of moment earlier → ops_from (earlier ++ lines) (es ++ fs) ≡ ops_from earlier es ++ ops_from lines fs
 ops_both moment [] lines es fs same = none_asked es fs lines same
@@ -223,6 +226,7 @@ module _ (line : ScriptLine) (lines : List ScriptLine) (p : ℕ × ℕ) where
 
   op_by_item : (es : List Entry) (item : Item) → Has (ops_at line es (ops_from lines) item) p → ((fs : List Entry) → Has (ops_from lines fs) p → OpAt lines fs p) → OpAt (line ∷ lines) es p
   op_by_item es (items.Snapshot name indices) h on = op_asked es h on
+  op_by_item es (items.Clone source name indices) h on = op_asked es h on
   op_by_item es (items.Delete names) h on = op_asked es h on
   op_by_item es (items.Restore name place) h on = op_asked es h on
   op_by_item es items.List h on = op_asked es h on
@@ -267,6 +271,7 @@ module _ (line : ScriptLine) (lines : List ScriptLine) (first : (later : ScriptL
 
   one_by_item : (es : List Entry) (item : Item) → Has (ops_at line es (ops_from lines) item) (o, n) → Has (ops_at line es (ops_from lines) item) (p, n) → ((fs : List Entry) → Has (ops_from lines fs) (o, n) → Has (ops_from lines fs) (p, n) → o ≡ p) → o ≡ p
   one_by_item es (items.Snapshot name indices) a b on = one_asked es a b on
+  one_by_item es (items.Clone source name indices) a b on = one_asked es a b on
   one_by_item es (items.Delete names) a b on = one_asked es a b on
   one_by_item es (items.Restore name place) a b on = one_asked es a b on
   one_by_item es items.List a b on = one_asked es a b on
@@ -285,6 +290,7 @@ other_command name place st not e = not name place (heads st (AskStep (Restore n
 
 pub restore_item : (moment : ℕ) (item : Item) (name place : Bytes) → steps_of_item moment item ≡ AskStep (Restore name place) ∷ [] → item ≡ items.Restore name place
 restore_item moment (items.Snapshot n indices) name place e = absurd (other_command name place (AskStep (command_of_line n indices moment)) (λ a b x. cc) e)
+restore_item moment (items.Clone source called indices) name place e = absurd (other_command name place (AskStep (Clone source called indices moment None)) (λ a b x. cc) e)
 restore_item moment (items.Delete names) name place e = absurd (other_command name place (AskStep (DeleteSnapshots names)) (λ a b x. cc) e)
 restore_item moment (items.Restore n l) name place e = same (heads (AskStep (Restore n l)) (AskStep (Restore name place)) [] [] e).0
   where

@@ -43,6 +43,7 @@ restore_gives (FullOfRestores uuid im listed spared full) e = cc
 gives_next : (f : Formats) (size : ℕ) (w : World) (who : ℕ) (step : Step) (k o index number uuid : ℕ) (image : Option Image) → Allows f size w who step (Gave k o (GivenRestore index number uuid)) image → k ≡ w.next_ticket
 gives_next f size w who step k o index number uuid image (allowed.Giving j p unit im is lowest g same) = is
 gives_next f size w who step k o index number uuid image (allowed.AskingRestore name place rep im h same) = absurd (restore_gives h refl)
+gives_next f size w who step k o index number uuid image (allowed.AskingClone source name names moment taken rep im h same) = elim h [ ]
 gives_next f size w who step k o index number uuid image (allowed.AskingDelete names rep im h same) = elim h [ ]
 gives_next f size w who step k o index number uuid image (allowed.Verifying read rep im h) = elim h [ ]
 gives_next f size w who step k o index number uuid image (allowed.Pruning j prune rep im h) = elim h [ ]
@@ -63,6 +64,7 @@ pub record AsksRestore (step : Step) : Type 0 where
 
 accepted_by : (f : Formats) (size : ℕ) (w : World) (who : ℕ) (step : Step) (o uuid : ℕ) (indices : List IndexRef) (image : Option Image) → Allows f size w who step (AcceptedRestore o uuid indices) image → AsksRestore step
 accepted_by f size w who step o uuid indices image (allowed.AskingRestore name place rep im h same) = record { name = name; place = place; step_is = refl }
+accepted_by f size w who step o uuid indices image (allowed.AskingClone source name names moment taken rep im h same) = elim h [ ]
 accepted_by f size w who step o uuid indices image (allowed.AskingDelete names rep im h same) = elim h [ ]
 accepted_by f size w who step o uuid indices image (allowed.Verifying read rep im h) = elim h [ ]
 accepted_by f size w who step o uuid indices image (allowed.Pruning j prune rep im h) = elim h [ ]

@@ -33,6 +33,7 @@ ops_by number (e ∷ es) more = op_of_reply number e.reply ++ more es
 -- a line that asks for none leaves them to those after it
 abbrev pub ops_at : ScriptLine → List Entry → (List Entry → List (ℕ × ℕ)) → Item → List (ℕ × ℕ)
 ops_at line es more (items.Snapshot name indices) = ops_by line.number es more
+ops_at line es more (items.Clone source name indices) = ops_by line.number es more
 ops_at line es more (items.Delete names) = ops_by line.number es more
 ops_at line es more (items.Restore name place) = ops_by line.number es more
 ops_at line es more items.List = ops_by line.number es more

@@ -8,7 +8,7 @@ use Rattle.esr_model.specs.Image.{Image}
 use Rattle.esr_model.specs.Kept.{Kept}
 use Rattle.esr_core.specs.World.{Opened}
 use Rattle.esr_core.specs.Entry.{Moment}
-use Rattle.esr_core.specs.History.{AllKnown, AreTold, AreHonest, committed}
+use Rattle.esr_core.specs.History.{TellsHandedOut, AreTold, AreHonest, committed}
 use Rattle.esr_core.specs.Restored.{IsShelvedAs}
 use Rattle.esr_source.specs.declared.address.Address.{Address}
 use Rattle.esr_script.specs.declared.item.ScriptLine.{ScriptLine}
@@ -20,13 +20,14 @@ use Rattle.esr_targets.specs.declared.target.Restored.{Restored}
 use Rattle.esr_targets.specs.Lines.{AcceptedLine}
 use Rattle.esr_targets.specs.Listed.{target_first}
 
--- The container told its image, which was kept for this shelf at the start, and the sources tell all files, honestly.
+-- The container told its image, which was kept for this shelf at the start, and the sources tell each shard that was handed
+-- out, honestly.
 pub record HasShelf (s : Start) (log : List Moment) (shelf : List Shelved) : Type 0 where
   pub tells : s.tells ≡ true
   pub image : Image
   pub kept : Kept (formats_of s) image shelf
   pub opened : Opened (formats_of s) image s.world
-  pub known : AllKnown (formats_of s)
+  pub known : TellsHandedOut (formats_of s) s.world log
   pub told : AreTold log
   pub honest : AreHonest (formats_of s) s.world log
 

@@ -77,7 +77,7 @@ fn asks(line: &ScriptLine) -> bool
             source: _,
             name: _,
             indices: _,
-        } => false,
+        } => true,
         Item::Delete { names: _ } => true,
         Item::Restore { name: _, place: _ } => true,
         Item::Cleanup => false,

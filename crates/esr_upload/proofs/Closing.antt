@@ -9,7 +9,7 @@ use Rattle.esr_model.specs.Uploads.{entries_from, id_after, shard_blobs, with_sn
 use Rattle.esr_core.specs.World.{Ticket}
 use Rattle.esr_core.specs.Steps.{Drew}
 use Rattle.esr_core.specs.Entry.{Moment}
-use Rattle.esr_core.specs.Allowed.{Based, DoneBy}
+use Rattle.esr_core.specs.Allowed.{Based, DoneBy, DoneAs}
 use Rattle.esr_source.specs.declared.files.ListedFile.{ListedFile}
 use Rattle.esr_shardidx.specs.declared.entry.FileEntry.{FileEntry as CodeEntry}
 use Rattle.esr_shardidx.specs.Snapshots.{SnapValue, are_snap_files}
@@ -69,7 +69,7 @@ module _ (s : Start) (at : ShardId) (uuid : Id) (base : IndexValue) (ps : List P
       ∙ ap (λ (n : ℕ). all ++ snap_blob at (snap_with es uuid) ∷ (ShardIndex i k n, shard_index_kind.text (with_snap v uuid.number ent)) ∷ []) (id_model s first v ps files named each)
       ∙ ap (λ (w : ShardFiles). all ++ snap_blob at (snap_with es uuid) ∷ (ShardIndex i k (first + new_count ps), shard_index_kind.text w) ∷ []) grown
 
-based_on : (f : Formats) (t u : Ticket) (index number : ℕ) (b : Option ℕ) (v : ShardFiles) → u.read ≡ t.read → Based f t index number b v → Based f u index number b v
+pub based_on : (f : Formats) (t u : Ticket) (index number : ℕ) (b : Option ℕ) (v : ShardFiles) → u.read ≡ t.read → Based f t index number b v → Based f u index number b v
 based_on f t u index number None v same based = based
 based_on f t u index number (Some g) v same based = (based.0, subst (λ (l : List (BlobName × Bytes)). Has l (ShardIndex index number g, based.0)) (sym same) based.1, based.2)
 
@@ -108,6 +108,9 @@ module _ (s : Start) (told : Option (List (Bytes × Bytes))) (listed : Option (L
 
   new_read : new.read ≡ old.read
   new_read = writes_keep (λ (t : Ticket). t.read) (λ t n w. refl) s written old new new_is
+
+  new_source : new.source ≡ None
+  new_source = writes_keep (λ (t : Ticket). t.source) (λ t n w. refl) s written old new new_is ∙ drawn.source_is
 
   new_place : new.place ≡ old.place
   new_place = writes_keep (λ (t : Ticket). t.place) (λ t n w. refl) s written old new new_is
@@ -200,7 +203,7 @@ module _ (s : Start) (told : Option (List (Bytes × Bytes))) (listed : Option (L
     last = new_last;
     snap_noted = subst (λ (u : ℕ). Has new.noted (ShardSnap at.index.number at.number u)) (sym new_uuid) (all_noted s last up (snap_blob at (snap_with es uuid)) (inl refl));
     index_noted = all_noted s last up (index_blob at (id_of (first + new_count ps)) (with_snap_of base (snap_with es uuid))) (inr (inl refl));
-    done = λ tells. done_by tells snap index;
+    done = λ tells. subst (λ (o : Option ℕ). DoneAs (formats_of s) s.part_size new (result_of (outcome_of at first ps)) o) (sym new_source) (done_by tells snap index);
   }
 
   -- the same of what the code reports

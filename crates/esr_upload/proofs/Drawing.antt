@@ -5,6 +5,7 @@ use Rattle.esr_names.specs.declared.blob.ShardId.{ShardId}
 use Rattle.esr_model.specs.Values.{Bytes}
 use Rattle.esr_core.specs.World.{Ticket, Shard, Deleting}
 use Rattle.esr_core.specs.Ready.{IsShard}
+use Rattle.esr_core.specs.Steps.{MostDrawn}
 use Rattle.esr_core.specs.Entry.{Moment}
 use Rattle.esr_core.specs.Allowed.{Based}
 use Rattle.esr_source.specs.declared.files.ListedFile.{ListedFile}
@@ -14,6 +15,7 @@ use Rattle.esr_source.specs.Address.{address}
 use Rattle.esr_shardidx.specs.Indices.{IndexValue}
 use Rattle.esr_root.specs.Root.{Root}
 use Rattle.esr_formats.specs.Ids.{number_of}
+use Rattle.esr_formats.specs.Formats.{formats}
 use Rattle.esr_formats.specs.Shards.{shard_index_of}
 use Rattle.esr_progress.specs.declared.unit.Work.{Work as CodeWork}
 use Rattle.esr_progress.specs.declared.unit.Work.TheVariants as works
@@ -46,6 +48,9 @@ module _ (s : Start) (told : Option (List (Bytes × Bytes))) (is_there : Option 
   read_name : read.name ≡ old.name
   read_name = ap (λ (t : Ticket). t.name) has.has_base.is
 
+  read_source : read.source ≡ None
+  read_source = ap (λ (t : Ticket). t.source) has.has_base.is ∙ unit.source_is
+
   is_at : IsAt read index number
   is_at = read_at s old read index number (shard_index_of base) has.has_base unit.at
 
@@ -69,18 +74,22 @@ module _ (s : Start) (told : Option (List (Bytes × Bytes))) (is_there : Option 
       let all = many in
       omega (arith, few, all, len)
 
+  number_is : (i k : ℕ) → Shard i k ≡ Shard index number → k ≡ number
+  number_is i k same = cc
+
+  most_drawn : (i k : ℕ) → read.work ≡ Shard i k → MostDrawn (formats_of s) read k (new_count ps + 1) read.source
+  unfolding formats
+  most_drawn i k work = subst (λ (o : Option ℕ). MostDrawn (formats_of s) read k (new_count ps + 1) o) (sym read_source) (λ known. most_at k (number_is i k (sym work ∙ is_at.work)) known)
+
   pub can_draw : (n : ℕ) → n ≡ new_count ps → CanDraw s read (n + 1)
   can_draw n count = subst (λ (m : ℕ). CanDraw s read (m + 1)) (sym count) (record {
     out = is_at.out;
     shard = subst IsShard (sym is_at.work) tt;
     once = ap (λ (t : Ticket). t.drawn) has.has_base.is ∙ unit.undrawn;
     some = omega arith;
-    most = λ i k work known. most_at k (number_is i k (sym work ∙ is_at.work)) known;
+    most = most_drawn;
     few = let few = count_le ps in let all = many in let bound = planned.few in omega (arith, few, all, bound);
   })
-    where
-      number_is : (i k : ℕ) → Shard i k ≡ Shard index number → k ≡ number
-      number_is i k same = cc
 
   pub has_drawn : (first n : ℕ) (new : Ticket) → n ≡ new_count ps → new ≡ record read { first = first; drawn = n + 1 } → HasDrawn s told listed index number uuid base ps first new
   has_drawn first n new count is = subst (λ (t : Ticket). HasDrawn s told listed index number uuid base ps first t) (sym is) (record {
@@ -90,6 +99,7 @@ module _ (s : Start) (told : Option (List (Bytes × Bytes))) (is_there : Option 
     drawn = ap (λ (m : ℕ). m + 1) count;
     unnoted = ap (λ (t : Ticket). t.noted) has.has_base.is ∙ unit.unnoted;
     unwritten = ap (λ (t : Ticket). t.wrote) has.has_base.is ∙ unit.unwritten;
+    source_is = read_source;
     based = λ tells. based_in read.base (has.has_base.based tells);
     none = has.none;
     whole = has.whole;
@@ -142,6 +152,7 @@ took_unit s files is_there is_quiet work root op copy t uuid at name place sourc
       unwritten = refl;
       uuid_is = refl;
       base_is = refl;
+      source_is = refl;
       tells = λ known. elim (sources.told place name at.number known) [
         | inl is ↦ inl (told_is ∙ is)
         | inr absent ↦ inr (there_is ∙ absent)

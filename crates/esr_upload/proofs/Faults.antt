@@ -79,7 +79,7 @@ empty_whole base empty = subst IsShardIndex (sym empty) (record { entries = tt; 
 
 pub no_index : (s : Start) (index number : ℕ) (u : Id) (t : Ticket) (base : IndexValue) → t.base ≡ None → base ≡ record { files = []; snapshots = [] } → HasIndex s index number u t t base
 no_index s index number u t base none empty = record {
-  has_base = record { read = t.read; is = refl; based = λ tells. empty_based s t index number t.base base none empty };
+  has_base = record { read = t.read; is = refl; kept = λ b h. h; based = λ tells. empty_based s t index number t.base base none empty };
   none = λ x. empty;
   whole = empty_whole base empty;
   unlisted = ap (λ (v : IndexValue). find (has_uuid u) v.snapshots) empty;

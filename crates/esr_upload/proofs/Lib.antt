@@ -1,4 +1,4 @@
-pub mod Refusals
+pub mod StepRefusals
 pub mod Going
 pub mod Noting
 pub mod Pieces

@@ -38,7 +38,7 @@ use Rattle.esr_upload.proofs.Going.{worked_none}
 
 -- ---- what a fetch makes of the ticket
 
-fetching_worked : (t : Ticket) (name : BlobName) (left : Option Bytes) → Worked t (fetching name left t)
+pub fetching_worked : (t : Ticket) (name : BlobName) (left : Option Bytes) → Worked t (fetching name left t)
 fetching_worked t name None = worked_none t
 fetching_worked t name (Some bytes) = record { first = t.first; drawn = t.drawn; noted = t.noted; wrote = t.wrote; read = (name, bytes) ∷ t.read; is = refl }
 
@@ -84,7 +84,7 @@ failed_read {T} s before now result e sure is failed cause quiet serves =
 
 -- ---- the base is at fault
 
-had_fetch : (s : Start) (old new : List Moment) (who : ℕ) (name : BlobName) (answer : Reply) → Stepped s old new who (FetchStep name) answer → HadFetch new who name answer
+pub had_fetch : (s : Start) (old new : List Moment) (who : ℕ) (name : BlobName) (answer : Reply) → Stepped s old new who (FetchStep name) answer → HadFetch new who name answer
 had_fetch s old new who name answer step = record {
   front = step.front;
   moment = record { entry = record { who = who; step = FetchStep name; reply = answer }; image = step.image };
@@ -113,7 +113,7 @@ absent_base left None s old new who index number base none at is step same = rec
 }
 absent_base left (Some f) s old new who index number base none at is step same = absurd cc
 
-told_has : (tells : Bool) (old new : Ticket) (name : BlobName) (b : Bytes) → new ≡ fetching name (if tells then Some b else None) old → tells ≡ true → Has new.read (name, b)
+pub told_has : (tells : Bool) (old new : Ticket) (name : BlobName) (b : Bytes) → new ≡ fetching name (if tells then Some b else None) old → tells ≡ true → Has new.read (name, b)
 told_has true old new name b is yes_is = subst (λ (t : Ticket). Has t.read (name, b)) (sym is) (inl refl)
 told_has false old new name b is yes_is = absurd cc
 
@@ -136,9 +136,9 @@ damaged_base s old new who index number base b read e why at is fetched had one 
 
 -- ---- the base is read
 
-fetching_base : (t : Ticket) (name : BlobName) (left : Option Bytes) → (read : List (BlobName × Bytes)) × (fetching name left t ≡ record t { read = read })
-fetching_base t name None = (t.read, refl)
-fetching_base t name (Some bytes) = ((name, bytes) ∷ t.read, refl)
+pub fetching_base : (t : Ticket) (name : BlobName) (left : Option Bytes) → (read : List (BlobName × Bytes)) × (fetching name left t ≡ record t { read = read }) × ((b : BlobName × Bytes) → Has t.read b → Has read b)
+fetching_base t name None = (t.read, refl, λ b h. h)
+fetching_base t name (Some bytes) = ((name, bytes) ∷ t.read, refl, λ b h. inr h)
 
 pub has_base : (s : Start) (old new : Ticket) (index number base : ℕ) (b : Bytes) (value : ShardFiles) → old.base ≡ Some base → new ≡ fetching (ShardIndex index number base) (told_bytes s b) old
     → shard_index_kind.read b ≡ Some value → HasBase s old new index number value
@@ -148,6 +148,7 @@ has_base s old new index number base b value is fetched reads =
     let same = fetched ∙ more.1 in record {
       read = more.0;
       is = same;
+      kept = λ b h. more.2 b h;
       based = λ tells. subst (λ (o : Option ℕ). Based (formats_of s) new index number o value) (sym (ap (λ (t : Ticket). t.base) same ∙ is)) (b, told_has s.tells old new (ShardIndex index number base) b fetched tells, reads);
     }
 
@@ -156,5 +157,6 @@ pub has_no_base : (s : Start) (t : Ticket) (index number : ℕ) → t.base ≡ N
 has_no_base s t index number is = record {
   read = t.read;
   is = refl;
+  kept = λ b h. h;
   based = λ tells. subst (λ (o : Option ℕ). Based (formats_of s) t index number o (record { files = []; snapshots = [] })) (sym is) refl;
 }

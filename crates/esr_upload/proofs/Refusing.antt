@@ -10,6 +10,7 @@ use Rattle.esr_names.specs.declared.blob.BlobName.TheVariants as names
 use Rattle.esr_model.specs.Names.{BlobName, ShardIndex}
 use Rattle.esr_model.specs.Values.{Bytes, Has}
 use Rattle.esr_core.specs.World.{Ticket, Work, Shard}
+use Rattle.esr_core.specs.Steps.{IsToFetch}
 use Rattle.esr_core.specs.Entry.{Reason, Why, OfDepot, OfSource, OfChange, OfAbsence, OfUnreadable, OfAhead, OfTaken, OfIdsSpent, OfGenerationsSpent, OfTarget, OfPrint, OfDisagreement, Step, FailedStep, Reply, WasFetched, WasAbsent, HasEnded, Refused, Refusal, DepotFault, NameTaken, IdsSpent, GenerationsSpent, Moment}
 use Rattle.esr_formats.specs.Ids.{number_of}
 use Rattle.esr_formats.specs.Names.{name_of}
@@ -50,7 +51,7 @@ passed (Err y) P e is holds = subst P (sym is) holds
 -- ---- a refusal that leaves the ticket out
 
 -- where a refusal ends no ticket, it is the refusal itself
-refusal_same : {S F H T : Type 0} (e refusal : StepRefusal) → cause_refused {S = S} {F = F} {H = H} {T = T} e ≡ Err refusal → e ≡ refusal
+pub refusal_same : {S F H T : Type 0} (e refusal : StepRefusal) → cause_refused {S = S} {F = F} {H = H} {T = T} e ≡ Err refusal → e ≡ refusal
 refusal_same steps.Memory refusal is = cc
 refusal_same steps.TurnsSpent refusal is = cc
 refusal_same (steps.Refused refusals.DepotFault) refusal is = cc
@@ -72,12 +73,12 @@ refusal_same (steps.Refused (refusals.RestoreRunning op)) refusal is = cc
 refusal_same (steps.Refused (refusals.BusyOp op)) refusal is = cc
 refusal_same (steps.Refused (refusals.BusyTicket ticket)) refusal is = cc
 
-damaged_memory : {S F H T : Type 0} (at : ShardId) (base : Option Id) (flaw : Flaw) (refusal : StepRefusal) → damaged_by {S = S} {F = F} {H = H} {T = T} at base flaw ≡ Err refusal → steps.Memory ≡ refusal
+pub damaged_memory : {S F H T : Type 0} (at : ShardId) (base : Option Id) (flaw : Flaw) (refusal : StepRefusal) → damaged_by {S = S} {F = F} {H = H} {T = T} at base flaw ≡ Err refusal → steps.Memory ≡ refusal
 damaged_memory at None flaw refusal is = cc
 damaged_memory at (Some b) flaw refusal is = cc
 
 -- a step that ends no ticket was refused since a record swap had failed
-work_halts : {S F H T : Type 0} (s : Start) (log : List Moment) (who : ℕ) (e refusal : StepRefusal) → IsWorkRefusal s log who e → cause_refused {S = S} {F = F} {H = H} {T = T} e ≡ Err refusal → Halts s log who e
+pub work_halts : {S F H T : Type 0} (s : Start) (log : List Moment) (who : ℕ) (e refusal : StepRefusal) → IsWorkRefusal s log who e → cause_refused {S = S} {F = F} {H = H} {T = T} e ≡ Err refusal → Halts s log who e
 work_halts s log who steps.Memory refusal h is = tt
 work_halts s log who steps.TurnsSpent refusal h is = h.0.1
 work_halts s log who (steps.Refused (refusals.Deposed entry)) refusal h is = h.0.0
@@ -154,10 +155,10 @@ module _ {S F H T : Type 0} (c : Counts S F H T) (s : Start) (old new : List Mom
   depot_on shows.Entry h = (had_on s old new who waited h.0, h.1)
   depot_on shows.Nothing h = h
 
-  base_on : (b : By S F H T) (name : BlobName) (before after : Type 0) → (before → after) → ReadShown b (IsBase (ticket_of s old who) name × before) → ReadShown b (IsBase (ticket_of s new who) name × after)
-  base_on (shows.Object object) name before after on h = h
-  base_on shows.Entry name before after on h = h
-  base_on shows.Nothing name before after on h = (subst (λ (t : Ticket). IsBase t name) (sym waited.alone) h.0, on h.1)
+  base_on : (b : By S F H T) (is_for : Ticket → Type 0) (before after : Type 0) → (before → after) → ReadShown b (is_for (ticket_of s old who) × before) → ReadShown b (is_for (ticket_of s new who) × after)
+  base_on (shows.Object object) is_for before after on h = h
+  base_on shows.Entry is_for before after on h = h
+  base_on shows.Nothing is_for before after on h = (subst is_for (sym waited.alone) h.0, on h.1)
 
   change_on : (b : By S F H T) (differ : Type 0) → ReadShown b (differ × IsUntold s (ticket_of s old who)) → ReadShown b (differ × IsUntold s (ticket_of s new who))
   change_on (shows.Object object) differ h = h
@@ -169,13 +170,13 @@ module _ {S F H T : Type 0} (c : Counts S F H T) (s : Start) (old new : List Mom
   step_on shows.Entry refusal h = refusal_on s old new who refusal waited h
   step_on shows.Nothing refusal h = h
 
-  shown_on : (why : Why) (b : By S F H T) → IsShown c s old who why b → IsShown c s new who why b
+  pub shown_on : (why : Why) (b : By S F H T) → IsShown c s old who why b → IsShown c s new who why b
   shown_on OfDepot b h = depot_on b h
   shown_on OfSource b h = subst (λ (t : Ticket). SourceShown c s t b) (sym waited.alone) h
   shown_on (OfChange first_len first_digest second_len second_digest) b h = change_on b ((first_len ≡ second_len) → (first_digest ≡ second_digest) → ⊥) h
-  shown_on (OfAbsence name) b h = base_on b name (HadFetch old who name WasAbsent) (HadFetch new who name WasAbsent) (fetch_on s old new who name WasAbsent waited) h
-  shown_on (OfUnreadable name reason) b h = base_on b name (WasUnreadable s old who name reason) (WasUnreadable s new who name reason) (unreadable_on s old new who name reason waited) h
-  shown_on (OfAhead name) b h = base_on b name (WasAhead s (ticket_of s old who) name) (WasAhead s (ticket_of s new who) name) (λ over. subst (λ (t : Ticket). WasAhead s t name) (sym waited.alone) over) h
+  shown_on (OfAbsence name) b h = base_on b (λ t. IsToFetch t name) (HadFetch old who name WasAbsent) (HadFetch new who name WasAbsent) (fetch_on s old new who name WasAbsent waited) h
+  shown_on (OfUnreadable name reason) b h = base_on b (λ t. IsToFetch t name) (WasUnreadable s old who name reason) (WasUnreadable s new who name reason) (unreadable_on s old new who name reason waited) h
+  shown_on (OfAhead name) b h = base_on b (λ t. IsBase t name) (WasAhead s (ticket_of s old who) name) (WasAhead s (ticket_of s new who) name) (λ over. subst (λ (t : Ticket). WasAhead s t name) (sym waited.alone) over) h
   shown_on (OfTaken name) b h = step_on b (NameTaken name) h
   shown_on (OfIdsSpent next) b h = step_on b (IdsSpent next) h
   shown_on (OfGenerationsSpent pending) b h = step_on b (GenerationsSpent pending) h
@@ -189,6 +190,10 @@ two_parts : (first second : Print) → first ≢ second → (first.len ≡ secon
 two_parts first second differ len digest =
     let made : ℕ → List ℕ → Print = λ n bytes. record { len = n; sha256 = bytes } in
     differ (ap (λ (n : ℕ). made n first.sha256) len ∙ ap (λ (bytes : List ℕ). made second.len bytes) digest)
+
+-- the base is among what the ticket fetches
+base_fetched : (t : Ticket) (name : BlobName) → IsBase t name → IsToFetch t name
+base_fetched t name base = (base.index, base.number, base.work, inl (base.base, base.base_is, base.name_is))
 
 had_last : (log : List Moment) (who : ℕ) (step : Step) (refusal : Refusal) → IsLast log who step (Refused refusal) → HadRefusal log who refusal
 had_last log who step refusal last = record {
@@ -205,7 +210,7 @@ module _ {S F H T : Type 0} (c : Counts S F H T) (files : Option (List (Bytes ×
   abbrev pub Caused : Cause S F H T → Type 0
   Caused cause = IsShown c s log who (why_of cause.why) cause.by × IsChangeOfUntold files cause.why
 
-  refused_shows : (index number : ℕ) (refusal : StepRefusal) (cause : Cause S F H T) → (s.quiet ≡ true → NeverFailed log) → (ticket_of s log who).work ≡ Shard index number → IsWorkRefusal s log who refusal → cause_refused {S = S} {F = F} {H = H} {T = T} refusal ≡ Ok cause → Caused cause
+  pub refused_shows : (index number : ℕ) (refusal : StepRefusal) (cause : Cause S F H T) → (s.quiet ≡ true → NeverFailed log) → (ticket_of s log who).work ≡ Shard index number → IsWorkRefusal s log who refusal → cause_refused {S = S} {F = F} {H = H} {T = T} refusal ≡ Ok cause → Caused cause
   refused_shows index number steps.Memory cause never work was is = cc
   refused_shows index number steps.TurnsSpent cause never work was is = cc
   refused_shows index number (steps.Refused refusals.DepotFault) cause never work was is =
@@ -250,12 +255,12 @@ module _ {S F H T : Type 0} (c : Counts S F H T) (files : Option (List (Bytes ×
 
   -- the flaw of a base of this name
   flaw_shows : (name : BlobName) (code : CodeName) (flaw : Flaw) → name_of code ≡ name → IsBase (ticket_of s log who) name → HasFlaw s log who name flaw → Caused (record { why = flaw_why code flaw; by = shows.Nothing })
-  flaw_shows name code flaws.Absent same base h = (subst (λ (n : BlobName). IsBase (ticket_of s log who) n × HadFetch log who n WasAbsent) (sym same) (base, h), tt)
-  flaw_shows name code (flaws.Unreadable reason) same base h = (subst (λ (n : BlobName). IsBase (ticket_of s log who) n × WasUnreadable s log who n (reason_of reason)) (sym same) (base, h), tt)
+  flaw_shows name code flaws.Absent same base h = (subst (λ (n : BlobName). IsToFetch (ticket_of s log who) n × HadFetch log who n WasAbsent) (sym same) (base_fetched (ticket_of s log who) name base, h), tt)
+  flaw_shows name code (flaws.Unreadable reason) same base h = (subst (λ (n : BlobName). IsToFetch (ticket_of s log who) n × WasUnreadable s log who n (reason_of reason)) (sym same) (base_fetched (ticket_of s log who) name base, h), tt)
   flaw_shows name code flaws.Ahead same base h = (subst (λ (n : BlobName). IsBase (ticket_of s log who) n × WasAhead s (ticket_of s log who) n) (sym same) (base, h), tt)
 
   -- that of the ticket's base, under its name
-  base_shows : (at : ShardId) (base : Option Id) (flaw : Flaw) (cause : Cause S F H T) → (ticket_of s log who).work ≡ Shard at.index.number at.number → (ticket_of s log who).base ≡ option_map number_of base → BadBase s log who flaw
+  pub base_shows : (at : ShardId) (base : Option Id) (flaw : Flaw) (cause : Cause S F H T) → (ticket_of s log who).work ≡ Shard at.index.number at.number → (ticket_of s log who).base ≡ option_map number_of base → BadBase s log who flaw
       → damaged_by {S = S} {F = F} {H = H} {T = T} at base flaw ≡ Ok cause → Caused cause
   base_shows at None flaw cause work base_is bad is = cc
   base_shows at (Some b) flaw cause work base_is bad is =

@@ -33,6 +33,7 @@ pub record IsUnit (s : Start) (told : Option (List (Bytes × Bytes))) (is_there 
   pub unwritten : t.wrote ≡ []
   pub uuid_is : t.uuid ≡ uuid
   pub base_is : t.base ≡ base
+  pub source_is : t.source ≡ None
   pub tells : s.known t.place t.name number ≡ true → (told ≡ Some (s.told t.place t.name number)) ⊎ (is_there ≡ Some false)
 
 -- the files were read and planned
@@ -82,6 +83,7 @@ pub record HasDrawn (s : Start) (told : Option (List (Bytes × Bytes))) (listed 
   pub drawn : t.drawn ≡ new_count ps + 1
   pub unnoted : t.noted ≡ []
   pub unwritten : t.wrote ≡ []
+  pub source_is : t.source ≡ None
   pub based : s.tells ≡ true → Based (formats_of s) t index number t.base (shard_index_of base)
   pub none : t.base ≡ None → base ≡ record { files = []; snapshots = [] }
   pub whole : IsShardIndex base

@@ -1,13 +1,13 @@
 //! The index on which the unit of a shard builds.
-ghost use Rattle.std.specs.Prelude.{◌≡◌, ◌<◌, None, Some, IfOk, IfErr, option_map, []};
+ghost use Rattle.std.specs.Prelude.{◌≡◌, ◌<◌, ℕ, None, Some, IfOk, IfErr, option_map, []};
 ghost use Rattle.esr_model.specs.Names.{ShardIndex as IndexName};
 ghost use Rattle.esr_core.specs.After.{fetching};
-ghost use Rattle.esr_core.specs.Entry.{WasFetched};
+ghost use Rattle.esr_core.specs.Entry.{FetchStep, WasFetched};
 ghost use Rattle.esr_formats.specs.Ids.{number_of};
 ghost use Rattle.esr_formats.specs.Shards.{shard_index_of};
 ghost use Rattle.esr_desk.specs.Damage.{HadFetch};
 ghost use Rattle.esr_desk.specs.Start.{ticket_of, told_bytes};
-ghost use Rattle.esr_desk.specs.Once.{HasMadeNone};
+ghost use Rattle.esr_desk.specs.Once.{IsNew};
 ghost use Rattle.esr_desk.specs.Told.{TellsAll};
 ghost use Rattle.esr_upload.specs.Base.{HasBase};
 ghost use Rattle.esr_upload.specs.Stored.{IsAt};
@@ -16,9 +16,8 @@ ghost use Rattle.esr_upload.specs.Worked.{Went};
 
 use crate::law::refusals;
 use crate::trouble::{Flaw, Trouble};
-use esr_depot::CallError;
+use esr_depot::{CallError, read_whole};
 use esr_desk::{Desk, StepRefusal};
-use esr_fetch::read_whole;
 use esr_formats::read_shard_index;
 use esr_json::ReadRefusal;
 use esr_names::{BlobName, Id, ShardId};
@@ -38,7 +37,8 @@ fn fetch_bytes<Q: Desk>(
     requires at { IsAt (ticket_of Q.start (Q.seen desk.old) ticket) shard.index.number shard.number }
     requires base { (ticket_of Q.start (Q.seen desk.old) ticket).base ≡ Some base.number }
     requires few { shard.number < 1024 }
-    requires new { HasMadeNone (Q.seen desk.old) ticket }
+    requires new { (generation : ℕ) → IsNew (Q.seen desk.old) ticket (FetchStep (IndexName shard.index.number shard.number generation)) }
+    requires tells { TellsAll Q.start (Q.seen desk.old) ticket }
     ensures fetched { IfOk result (λ b. ticket_of Q.start (Q.seen desk.new) ticket ≡ fetching (IndexName shard.index.number shard.number base.number) (told_bytes Q.start b) (ticket_of Q.start (Q.seen desk.old) ticket)) }
     ensures found { IfOk result (λ b. HadFetch (Q.seen desk.new) ticket (IndexName shard.index.number shard.number base.number) WasFetched) }
     ensures tells { IfOk result (λ b. TellsAll Q.start (Q.seen desk.new) ticket) }
@@ -73,7 +73,8 @@ fn fetch_index<Q: Desk>(
     requires at { IsAt (ticket_of Q.start (Q.seen desk.old) ticket) shard.index.number shard.number }
     requires base { (ticket_of Q.start (Q.seen desk.old) ticket).base ≡ Some base.number }
     requires few { shard.number < 1024 }
-    requires new { HasMadeNone (Q.seen desk.old) ticket }
+    requires new { (generation : ℕ) → IsNew (Q.seen desk.old) ticket (FetchStep (IndexName shard.index.number shard.number generation)) }
+    requires tells { TellsAll Q.start (Q.seen desk.old) ticket }
     ensures based { IfOk result (λ v. HasBase Q.start (ticket_of Q.start (Q.seen desk.old) ticket) (ticket_of Q.start (Q.seen desk.new) ticket) shard.index.number shard.number (shard_index_of v)) }
     ensures tells { IfOk result (λ v. TellsAll Q.start (Q.seen desk.new) ticket) }
     ensures trouble { IfErr result (Shown Q.Stage.faults Q.Fetch.faults 0 (Some []) Q.start (Q.seen desk.new) ticket) }
@@ -103,7 +104,8 @@ pub fn read_base<Q: Desk>(
     requires at { IsAt (ticket_of Q.start (Q.seen desk.old) ticket) shard.index.number shard.number }
     requires base { (ticket_of Q.start (Q.seen desk.old) ticket).base ≡ option_map number_of base }
     requires few { shard.number < 1024 }
-    requires new { HasMadeNone (Q.seen desk.old) ticket }
+    requires new { (generation : ℕ) → IsNew (Q.seen desk.old) ticket (FetchStep (IndexName shard.index.number shard.number generation)) }
+    requires tells { TellsAll Q.start (Q.seen desk.old) ticket }
     ensures based { IfOk result (λ v. HasBase Q.start (ticket_of Q.start (Q.seen desk.old) ticket) (ticket_of Q.start (Q.seen desk.new) ticket) shard.index.number shard.number (shard_index_of v)) }
     ensures tells { IfOk result (λ v. TellsAll Q.start (Q.seen desk.new) ticket) }
     ensures trouble { IfErr result (Shown Q.Stage.faults Q.Fetch.faults 0 (Some []) Q.start (Q.seen desk.new) ticket) }

@@ -55,7 +55,7 @@ pub fn cause_of<S: Drop, F: Drop, H: Drop, T: Drop>(
 }
 
 /// Why a base with this flaw ends the ticket.
-fn base_cause<S: Drop, F: Drop, H: Drop, T: Drop>(
+pub fn base_cause<S: Drop, F: Drop, H: Drop, T: Drop>(
     at: ShardId,
     base: Option<Id>,
     flaw: Flaw,

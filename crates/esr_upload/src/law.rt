@@ -7,7 +7,7 @@ ghost use Rattle.esr_upload.specs.Refusable.{IsWork, MayRefuseFailed, MayRefuseW
 
 /// The report that a shard's unit failed is refused only since a record swap had failed; each other step of it only since that,
 /// as the container failed in it, as the name is taken, or as too few ids are left.
-pub(crate) fn refusals()
+pub fn refusals()
     ensures work { (s : Start) (old new : List Moment) (who : ℕ) (step : Step) (refusal : Refusal) → IsWork step → Stepped s old new who step (Refused refusal) → MayRefuseWork refusal }
     ensures failed { (s : Start) (old new : List Moment) (who : ℕ) (why : Why) (refusal : Refusal) → Stepped s old new who (FailedStep why) (Refused refusal) → MayRefuseFailed refusal }
 {

@@ -12,4 +12,8 @@ mod survey;
 mod trouble;
 mod unit;
 
-pub use unit::run_unit;
+pub use cause::{Cause, base_cause};
+pub use law::refusals;
+pub use publish::end_shard;
+pub use trouble::{Flaw, Trouble};
+pub use unit::{base_of, run_unit};

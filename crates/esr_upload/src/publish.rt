@@ -85,7 +85,7 @@ fn put_index<Q: Desk>(
 }
 
 /// Writes the shard's snapshot and its index, and ends the ticket.
-fn publish<Q: Desk>(
+pub fn end_shard<Q: Desk>(
     alloc: Global,
     desk: &mut Q,
     ticket: u64,
@@ -153,5 +153,5 @@ pub fn finish<Q: Desk>(
         return Err(Trouble::Base { flaw });
     };
     let index = base.with_snap(alloc, &snap)?;
-    publish(alloc, desk, ticket, &snap, &index, outcome)
+    end_shard(alloc, desk, ticket, &snap, &index, outcome)
 }

@@ -4,7 +4,9 @@ ghost use Rattle.esr_formats.specs.Ids.{number_of};
 ghost use Rattle.esr_formats.specs.Shards.{shard_index_of};
 ghost use Rattle.esr_shardidx.specs.Indices.{has_uuid};
 ghost use Rattle.esr_desk.specs.Start.{ticket_of};
-ghost use Rattle.esr_desk.specs.Once.{HasMadeNone};
+ghost use Rattle.esr_model.specs.Names.{ShardIndex as IndexName};
+ghost use Rattle.esr_core.specs.Entry.{FetchStep};
+ghost use Rattle.esr_desk.specs.Once.{IsNew, HasMadeNone};
 ghost use Rattle.esr_desk.specs.Told.{TellsAll};
 ghost use Rattle.esr_desk.specs.Taken.{Took};
 ghost use Rattle.esr_desk.specs.Sources.{AreSources};
@@ -34,7 +36,7 @@ use esr_source::{Gate, Shard, Sources};
 use std::alloc::Global;
 
 /// The index of the base, which doesn't list the snapshot; an empty one where there is no base.
-fn base_of<Q: Desk>(
+pub fn base_of<Q: Desk>(
     alloc: Global,
     desk: &mut Q,
     ticket: u64,
@@ -48,7 +50,8 @@ fn base_of<Q: Desk>(
     requires uuid { (ticket_of Q.start (Q.seen desk.old) ticket).uuid ≡ uuid.number }
     requires base { (ticket_of Q.start (Q.seen desk.old) ticket).base ≡ option_map number_of base }
     requires few { at.number < 1024 }
-    requires new { HasMadeNone (Q.seen desk.old) ticket }
+    requires new { (generation : ℕ) → IsNew (Q.seen desk.old) ticket (FetchStep (IndexName at.index.number at.number generation)) }
+    requires tells { TellsAll Q.start (Q.seen desk.old) ticket }
     ensures based { IfOk result (HasIndex Q.start at.index.number at.number uuid (ticket_of Q.start (Q.seen desk.old) ticket) (ticket_of Q.start (Q.seen desk.new) ticket)) }
     ensures tells { IfOk result (λ v. TellsAll Q.start (Q.seen desk.new) ticket) }
     ensures trouble { IfErr result (λ e. (n : ℕ) (files : Option (List (List ℕ × List ℕ))) → Shown Q.Stage.faults Q.Fetch.faults n files Q.start (Q.seen desk.new) ticket e) }

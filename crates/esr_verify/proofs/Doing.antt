@@ -10,7 +10,7 @@ use Rattle.esr_core.specs.World.{Caller, no_caller}
 use Rattle.esr_core.specs.Restores.{IsTestOf, WasRead}
 use Rattle.esr_core.specs.After.{caller_told, caller_wrote}
 use Rattle.esr_core.specs.Entry.{Moment, ReadStep, BeginTest, CommitTest, WasBegun, WasDone}
-use Rattle.esr_fetch.specs.Told.{Tells}
+use Rattle.esr_depot.specs.Told.{Tells}
 use Rattle.esr_desk.specs.Conditions.{Holds}
 use Rattle.esr_desk.specs.Start.{Start, told_bytes}
 use Rattle.esr_desk.specs.Outcome.{Stepped}

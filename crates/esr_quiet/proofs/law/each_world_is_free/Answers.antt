@@ -1,3 +1,4 @@
+use Rattle.esr_core.specs.History.{all_handed_out}
 use Rattle.esr_desk.specs.Start.{formats_of}
 use Rattle.esr_quiet.proofs.Core.{CoreLaws}
 use Rattle.esr_quiet.proofs.Freeing.{histories_free}
@@ -10,8 +11,8 @@ returns c = λ s log smooth.
     record {
       lawful = λ front back is.
           let h = smooth_front s log smooth front back is in
-          (_, laws.lawful (formats_of s) s.part_size h.image h.shelf s.world front h.known h.kept h.opened h.legal h.told h.honest);
+          (_, laws.lawful (formats_of s) s.part_size h.image h.shelf s.world front (all_handed_out (formats_of s) s.world front h.known) h.kept h.opened h.legal h.told h.honest);
       free = λ front back is.
           let h = smooth_front s log smooth front back is in
-          histories_free laws (formats_of s) s.part_size h.image h.shelf s.world front h.known h.kept h.opened h.no_deletes h.legal h.told h.honest h.calm h.no_delete_asked;
+          histories_free laws (formats_of s) s.part_size h.image h.shelf s.world front h.known h.kept h.opened h.legal h.told h.honest h.calm h.no_clone_asked;
     }

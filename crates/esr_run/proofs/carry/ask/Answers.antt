@@ -1,9 +1,11 @@
-use Rattle.std.proofs.Common.{[], ◌∷◌, sym, subst, refl, Ok, Err, inl}
-use Rattle.esr_core.specs.Entry.{Asked, AskStep, Accepted}
+use Rattle.std.proofs.Common.{List, sym, ap, subst, refl, Ok, Err, inl}
+use Rattle.esr_core.specs.Entry.{Asked, Step, AskStep, Accepted}
 use Rattle.esr_progress.specs.Asked.{asked_of, IsAskable}
 use Rattle.esr_run.proofs.Asking.{askable}
-use Rattle.esr_run.proofs.Making.{rests_by, made_refused, spent_by, accepted_none}
-use Rattle.esr_run.specs.Made.{LineMade}
+use Rattle.esr_quiet.specs.Asked.{GrewAsking}
+use Rattle.esr_quiet.specs.Asking.{asks_of, asking_stepped}
+use Rattle.esr_complete.specs.Lines.{command_of_line}
+use Rattle.esr_run.proofs.Making.{rests_by, made_asked, spent_by, accepted_none}
 use Rattle.esr_run.proofs.Verifying.{none_asked, line_verifies}
 use Rattle.esr_run.proofs.Taking.{line_takes}
 use Rattle.esr_run.proofs.Unended.{ends_same, line_ends}
@@ -31,10 +33,17 @@ returns-clause-verified g c workers checks alone may =
 pub returns-in_default-clause-made : goal.returns-in_default-clause-made
 returns-in_default-clause-made g c = none_asked g.Q.Desk.start _ (g.Q.Desk.seen c.args.desk.now) (g.Q.Desk.seen c.args.desk.now) refl
 
+pub returns-in-Ok-ask-clause-made : goal.returns-in-Ok-ask-clause-made
+returns-in-Ok-ask-clause-made g c =
+    let s = g.Q.Desk.start in
+    let old = g.Q.Desk.seen c.args.desk.now in
+    let new = g.Q.Desk.seen c.ask.new.self in
+    subst (λ (steps : List Step). GrewAsking s steps old new) (ap (λ (command : Asked). asks_of (AskStep command)) c.in-Ok.ensures) (asking_stepped s old new (AskStep (asked_of c.in-Ok.command)) (Accepted c.in-Ok-ask.field-0) c.in-Ok-ask.ensures)
+
 pub returns-clause-made : goal.returns-clause-made
 returns-clause-made g c =
-    subst (λ (command : Asked). LineMade {X = Unit} g.Q.Desk.start (AskStep command ∷ []) (g.Q.Desk.seen c.args.desk.now) (g.Q.Desk.seen c.ask.new.self) (Err c.in-Err.refusal)) c.in-Ok.ensures
-    (made_refused g.Q.Desk.start (g.Q.Desk.seen c.args.desk.now) (g.Q.Desk.seen c.ask.new.self) (AskStep (asked_of c.in-Ok.command)) c.in-Err.refusal refl c.in-Err.ensures.0)
+    made_asked g.Q.Desk.start (g.Q.Desk.seen c.args.desk.now) (g.Q.Desk.seen c.ask.new.self) (AskStep (asked_of c.in-Ok.command)) (AskStep (command_of_line c.args.name.now c.args.indices.now c.args.moment)) c.in-Err.refusal
+    (ap (λ (command : Asked). asks_of (AskStep command)) c.in-Ok.ensures) c.in-Err.ensures.0
 
 pub returns-clause-spent : goal.returns-clause-spent
 returns-clause-spent g c alone = spent_by g.Q.Desk.start (g.Q.Desk.seen c.args.desk.now) (g.Q.Desk.seen c.ask.new.self) (AskStep (asked_of c.in-Ok.command)) (λ op. Accepted op) (Err c.in-Err.refusal) alone c.in-Err.ensures

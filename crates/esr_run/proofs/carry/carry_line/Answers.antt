@@ -1,13 +1,32 @@
 use Rattle.std.proofs.Common.{◌≡◌, ◌+◌, ◌≤◌, Bool, true, true≢false, sym, ap, ◌∙◌, subst, arith}
 use Rattle.esr_drive.specs.Takes.{idle_takes}
+use Rattle.esr_run.specs.Script.{is_carried}
 use Rattle.esr_run.specs.Checked.{is_check}
 use Rattle.esr_run.specs.Verified.{MayVerify, VerifiesOn}
 use Rattle.esr_run.specs.Waits.{waits_in}
+use Rattle.esr_run.proofs.Asking.{names_once}
 use Rattle.esr_run.proofs.Filling.{line_fills_none}
 use Rattle.esr_run.proofs.carry.carry_line.Goals as goal
 
 pub returns-in-Snapshot-clause-filled : goal.returns-in-Snapshot-clause-filled
 returns-in-Snapshot-clause-filled g c alone = line_fills_none _ g.Q.Desk.start (g.Q.Desk.seen c.args.desk.now) (g.Q.Desk.seen c.ask.new.desk) c.args.filled.now.items c.ask.result (c.ask.ensures.none alone)
+
+pub make_clone-requires-clause-once : goal.make_clone-requires-clause-once
+make_clone-requires-clause-once g c κs within = names_once c.in-Clone.indices (sym (ap is_carried c.in-Clone.is) ∙ c.requires.carried)
+
+pub returns-in-Clone-clause-filled : goal.returns-in-Clone-clause-filled
+returns-in-Clone-clause-filled g c alone = line_fills_none _ g.Q.Desk.start (g.Q.Desk.seen c.args.desk.now) (g.Q.Desk.seen c.make_clone.new.desk) c.args.filled.now.items c.make_clone.result (c.make_clone.ensures.none alone)
+
+pub returns-in-Clone-clause-verified : goal.returns-in-Clone-clause-verified
+returns-in-Clone-clause-verified g c checks asks may = c.make_clone.ensures.verified c.args.workers checks c.requires.alone may
+
+pub returns-in-Clone-clause-takes : goal.returns-in-Clone-clause-takes
+returns-in-Clone-clause-takes g c =
+    let same : idle_takes (g.Q.Desk.seen c.make_clone.new.desk) ≡ idle_takes (g.Q.Desk.seen c.args.desk.now) = c.make_clone.ensures.takes c.requires.alone in
+    omega (arith, same)
+
+pub returns-in-Clone-clause-unchecked : goal.returns-in-Clone-clause-unchecked
+returns-in-Clone-clause-unchecked g c other = c.make_clone.ensures.unchecked c.requires.alone
 
 pub returns-in-Delete-clause-filled : goal.returns-in-Delete-clause-filled
 returns-in-Delete-clause-filled g c alone = line_fills_none _ g.Q.Desk.start (g.Q.Desk.seen c.args.desk.now) (g.Q.Desk.seen c.delete.new.desk) c.args.filled.now.items c.delete.result (c.delete.ensures.none alone)

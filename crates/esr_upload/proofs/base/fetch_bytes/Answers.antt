@@ -1,4 +1,4 @@
-use Rattle.std.proofs.Common.{◌≡◌, true, [], Some}
+use Rattle.std.proofs.Common.{◌≡◌, true, [], Some, refl, inl}
 use Rattle.std.specs.Prelude.{IsTrue}
 use Rattle.esr_model.specs.Names.{ShardIndex}
 use Rattle.esr_core.specs.Entry.{FetchStep}
@@ -10,7 +10,7 @@ use Rattle.esr_upload.proofs.Going.{refusal_last}
 use Rattle.esr_upload.proofs.Ending.{went_same}
 use Rattle.esr_upload.proofs.Reading.{index_name, was_fetched, absent_base, failed_read, fetch_came, fetch_went}
 use Rattle.esr_upload.proofs.Refusing.{passed}
-use Rattle.esr_desk.specs.Told.{none_new, none_tells, fetch_tells}
+use Rattle.esr_desk.specs.Told.{fetch_tells}
 use Rattle.esr_upload.proofs.base.fetch_bytes.Goals as goal
 
 pub fetch-requires-clause-layout : goal.fetch-requires-clause-layout
@@ -67,7 +67,13 @@ returns-in-Err-Failed-clause-trouble g c =
     (fetch_came c.in_ok-fetch.field-0 c.in-Some.fetch (λ fetch. g.Q.Desk.start.quiet ≡ true → IsTrue (g.Q.Fetch.Fetch.is_sure fetch)) c.in-Some.is c.in_ok-fetch.ensures.sure) c.read_whole.ensures.sure
 
 pub fetch-requires-clause-new : goal.fetch-requires-clause-new
-fetch-requires-clause-new g c = none_new (g.Q.Desk.seen c.args.desk.now) c.args.ticket (FetchStep (ShardIndex c.args.shard.index.number c.args.shard.number c.args.base.number)) c.requires.new
+fetch-requires-clause-new g c = c.requires.new c.args.base.number
+
+pub fetch-requires-clause-may : goal.fetch-requires-clause-may
+fetch-requires-clause-may g c = record {
+  out = c.requires.at.out;
+  to_fetch = (c.args.shard.index.number, c.args.shard.number, c.requires.at.work, inl (c.args.base.number, c.requires.base, refl));
+}
 
 pub returns-in-Ok-clause-found : goal.returns-in-Ok-clause-found
 returns-in-Ok-clause-found g c =
@@ -79,4 +85,4 @@ returns-in-Ok-clause-tells g c =
     let s = g.Q.Desk.start in
     let old = g.Q.Desk.seen c.args.desk.now in
     let name = ShardIndex c.args.shard.index.number c.args.shard.number c.args.base.number in
-    fetch_tells s old (g.Q.Desk.seen c.fetch.new.self) c.args.ticket name g.Q.Fetch.Fetch.left c.in_ok-fetch.field-0 (none_tells s old c.args.ticket c.requires.new) c.in_ok-fetch.ensures.step c.in_ok-fetch.ensures.own
+    fetch_tells s old (g.Q.Desk.seen c.fetch.new.self) c.args.ticket name g.Q.Fetch.Fetch.left c.in_ok-fetch.field-0 c.requires.tells c.in_ok-fetch.ensures.step c.in_ok-fetch.ensures.own

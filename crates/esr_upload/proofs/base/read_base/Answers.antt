@@ -7,7 +7,6 @@ use Rattle.esr_desk.specs.Start.{ticket_of}
 use Rattle.esr_upload.specs.Base.{HasBase}
 use Rattle.esr_upload.proofs.Going.{went_none}
 use Rattle.esr_upload.proofs.Reading.{has_no_base}
-use Rattle.esr_desk.specs.Told.{none_tells}
 use Rattle.esr_upload.proofs.base.read_base.Goals as goal
 
 pub returns-in-None-clause-based : goal.returns-in-None-clause-based
@@ -21,4 +20,4 @@ pub returns-in-None-clause-went : goal.returns-in-None-clause-went
 returns-in-None-clause-went g c = went_none g.Q.Desk.start (g.Q.Desk.seen c.args.desk.now) c.args.ticket
 
 pub returns-in-None-clause-tells : goal.returns-in-None-clause-tells
-returns-in-None-clause-tells g c = none_tells g.Q.Desk.start (g.Q.Desk.seen c.args.desk.now) c.args.ticket c.requires.new
+returns-in-None-clause-tells g c = c.requires.tells

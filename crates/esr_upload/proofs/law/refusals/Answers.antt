@@ -1,4 +1,4 @@
-use Rattle.esr_upload.proofs.Refusals.{work_refused, failed_refused}
+use Rattle.esr_upload.proofs.StepRefusals.{work_refused, failed_refused}
 use Rattle.esr_upload.proofs.law.refusals.Goals as goal
 
 pub returns-clause-work : goal.returns-clause-work

@@ -9,7 +9,6 @@ use Rattle.esr_formats.specs.Shards.{shard_index_of}
 use Rattle.esr_desk.specs.Start.{ticket_of}
 use Rattle.esr_upload.proofs.Going.{went_none}
 use Rattle.esr_upload.proofs.Faults.{no_index, none_from, some_from, list_ahead, bad_base, read_at}
-use Rattle.esr_desk.specs.Told.{none_tells}
 use Rattle.esr_upload.proofs.unit.base_of.Goals as goal
 
 pub returns-then-is_none-clause-based : goal.returns-then-is_none-clause-based
@@ -37,4 +36,4 @@ returns-in-Some-clause-trouble g c =
     (list_ahead new c.args.uuid index c.in-Some.field-0.now (ap (λ (t : Ticket). t.uuid) has.is ∙ c.requires.uuid) (sym c.list.ensures ∙ ap option_copied c.in-Some.is))
 
 pub returns-then-is_none-clause-tells : goal.returns-then-is_none-clause-tells
-returns-then-is_none-clause-tells g c = none_tells g.Q.Desk.start (g.Q.Desk.seen c.args.desk.now) c.args.ticket c.requires.new
+returns-then-is_none-clause-tells g c = c.requires.tells

@@ -1,6 +1,7 @@
 use Rattle.std.proofs.Common.{◌≡◌, ◌+◌, ◌∙◌, [], true, false, Some, option_map, ap}
 use Rattle.esr_formats.specs.Ids.{number_of}
-use Rattle.esr_core.specs.Entry.{DrawStep, DrawnFrom}
+use Rattle.esr_model.specs.Names.{ShardIndex}
+use Rattle.esr_core.specs.Entry.{DrawStep, FetchStep, DrawnFrom}
 use Rattle.esr_names.specs.declared.ids.Id.{Id}
 use Rattle.esr_desk.specs.Start.{ticket_of}
 use Rattle.esr_desk.specs.Grew.{grew_by_on, outcome_grew_by}
@@ -14,8 +15,15 @@ use Rattle.esr_upload.proofs.Refusing.{passed}
 use Rattle.esr_upload.proofs.Untold.{no_change, read_once}
 use Rattle.std.proofs.Common.{arith}
 use Rattle.esr_core.specs.World.{Ticket}
-use Rattle.esr_desk.specs.Told.{draw_new, draw_tells}
+use Rattle.esr_desk.specs.Told.{none_new, none_tells, draw_new, draw_tells}
 use Rattle.esr_upload.proofs.unit.work.Goals as goal
+
+pub base_of-requires-clause-new : goal.base_of-requires-clause-new
+base_of-requires-clause-new g c κs within =
+    λ generation. none_new (g.Q.Desk.seen c.args.desk.now) c.args.ticket (FetchStep (ShardIndex c.args.at.index.number c.args.at.number generation)) c.requires.new
+
+pub base_of-requires-clause-tells : goal.base_of-requires-clause-tells
+base_of-requires-clause-tells g c κs within = none_tells g.Q.Desk.start (g.Q.Desk.seen c.args.desk.now) c.args.ticket c.requires.new
 
 pub returns-in_err-index-clause-trouble : goal.returns-in_err-index-clause-trouble
 returns-in_err-index-clause-trouble g c =

@@ -243,3 +243,27 @@ invariant_of-self-in-Err-Failed-6 g c =
       fallen_faults c.self.invariant.1 p (g.D.Counted.faults c.put_record.new.depot) _ c.len-place.result c.in-Err-Failed.ensures.cause (failed_so c.in-Err-Failed.field-0 c.in-Err-Failed.field-0-is) (c.len-place.ensures ∙ c.put_record.new.history.ok.0 ∙ ap (λ (l : List Entry). length l) c.in-Err-Failed.ensures.entries) c.requires.may.swaps refl,
       calm_failed (g.D.Depot.look c.self.inside.depot).sure c.self.invariant.2 p (g.D.Depot.look c.put_record.new.depot).sure _ c.in-Err-Failed.ensures.sure (failed_so c.in-Err-Failed.field-0 c.in-Err-Failed.field-0-is),
     )
+
+pub invariant_of-self-in-Err-Memory-6 : goal.invariant_of-self-in-Err-Memory-6
+invariant_of-self-in-Err-Memory-6 g c =
+    let k : Kept = record { cluster = c.self.inside.cluster; root = c.self.inside.root; infos = c.self.inside.infos.items; plan = c.self.inside.progress; next = c.self.inside.next.number } in
+    let b : Before (g.D.Depot.look c.self.inside.depot) g.K.Told.start g.K.Told.clock c.self.inside.history.items k c.self.inside.deposed c.args.self.now =
+    record { laws = c.laws.ensures; repo = c.self.invariant.0.repo; view = c.self.view_is; live = c.requires.live } in (
+      same_infos k c.put_record.new.infos.items c.in-Err-Memory.ensures.infos (wanting_whole b g.K.Told.past c.self.invariant.0.past (g.D.Depot.look c.put_record.new.depot) c.put_record.new.history.items c.in-Err-Memory.ensures.entries
+          (λ _. Swapped (cluster_kind.text (cluster_of c.args.renewed.cluster))) (SwapMay (cluster_kind.text (cluster_of c.args.renewed.cluster)))
+          c.in-Err-Memory.field-0 c.in-Err-Memory.field-0-is c.in-Err-Memory.ensures.call),
+      same_faults c.put_record.new.history.items (g.D.Counted.faults c.put_record.new.depot) c.self.invariant.1 c.in-Err-Memory.ensures.cause.later c.in-Err-Memory.ensures.entries,
+      calm_wanting c.self.invariant.2 (g.D.Depot.look c.put_record.new.depot) c.put_record.new.history.items c.in-Err-Memory.ensures.entries (λ _. Swapped (cluster_kind.text (cluster_of c.args.renewed.cluster))) (SwapMay (cluster_kind.text (cluster_of c.args.renewed.cluster))) c.in-Err-Memory.field-0 c.in-Err-Memory.field-0-is c.in-Err-Memory.ensures.call,
+    )
+
+pub invariant_of-self-in-Err-Memory-12 : goal.invariant_of-self-in-Err-Memory-12
+invariant_of-self-in-Err-Memory-12 g c =
+    let k : Kept = record { cluster = c.self.inside.cluster; root = c.self.inside.root; infos = c.self.inside.infos.items; plan = c.self.inside.progress; next = c.self.inside.next.number } in
+    let b : Before (g.D.Depot.look c.self.inside.depot) g.K.Told.start g.K.Told.clock c.self.inside.history.items k c.self.inside.deposed c.args.self.now =
+    record { laws = c.laws.ensures; repo = c.self.invariant.0.repo; view = c.self.view_is; live = c.requires.live } in (
+      same_infos k c.put_record.new.infos.items c.in-Err-Memory.ensures.infos (wanting_whole b g.K.Told.past c.self.invariant.0.past (g.D.Depot.look c.put_record.new.depot) c.put_record.new.history.items c.in-Err-Memory.ensures.entries
+          (λ _. Swapped (cluster_kind.text (cluster_of c.args.renewed.cluster))) (SwapMay (cluster_kind.text (cluster_of c.args.renewed.cluster)))
+          c.in-Err-Memory.field-0 c.in-Err-Memory.field-0-is c.in-Err-Memory.ensures.call),
+      same_faults c.put_record.new.history.items (g.D.Counted.faults c.put_record.new.depot) c.self.invariant.1 c.in-Err-Memory.ensures.cause.later c.in-Err-Memory.ensures.entries,
+      calm_wanting c.self.invariant.2 (g.D.Depot.look c.put_record.new.depot) c.put_record.new.history.items c.in-Err-Memory.ensures.entries (λ _. Swapped (cluster_kind.text (cluster_of c.args.renewed.cluster))) (SwapMay (cluster_kind.text (cluster_of c.args.renewed.cluster))) c.in-Err-Memory.field-0 c.in-Err-Memory.field-0-is c.in-Err-Memory.ensures.call,
+    )

@@ -1,0 +1,61 @@
+//! The files of the source, under the clone's uuid.
+ghost use Rattle.std.specs.Prelude.{◌≡◌, ◌<◌, [], Some, IfErr, OnOk};
+ghost use Rattle.esr_desk.specs.Start.{ticket_of};
+ghost use Rattle.esr_desk.specs.Told.{TellsAll};
+ghost use Rattle.esr_desk.specs.Grew.{GrewBy};
+ghost use Rattle.esr_upload.specs.Refused.{HasDone};
+ghost use Rattle.esr_upload.specs.Trouble.{Shown};
+ghost use Rattle.esr_upload.specs.Worked.{Went};
+ghost use Rattle.esr_clone.specs.Copied.{sum_entries, HasRead};
+
+use esr_desk::Desk;
+use esr_names::{Id, ShardId};
+use esr_results::ShardResult;
+use esr_shardidx::{FileEntry, ShardIndex, ShardSnap};
+use esr_upload::{Trouble, end_shard};
+use std::alloc::Global;
+
+/// The sum of the files' lengths in bytes, at most 2^64 - 1.
+fn sum_of(entries: &[FileEntry]) -> u64
+    ensures { result ≡ sum_entries entries.now }
+{
+    let mut sum: u64 = 0;
+    for entry in entries {
+        sum = sum.saturating_add(entry.print.len);
+    }
+    sum
+}
+
+/// Writes the files of the source under the clone's uuid, adds them to the index under the id that was drawn, and ends the
+/// ticket.
+pub fn copy<Q: Desk>(
+    alloc: Global,
+    desk: &mut Q,
+    ticket: u64,
+    at: ShardId,
+    uuid: Id,
+    base: &ShardIndex,
+    snap: ShardSnap,
+    first: Id,
+) -> Result<(), Trouble<Q::Stage, Q::Fetch>>
+    requires mine { Q.holds desk.old ticket }
+    requires read { HasRead Q.start at.index.number at.number uuid base.now snap first.number (ticket_of Q.start (Q.seen desk.old) ticket) }
+    requires few { at.number < 1024 }
+    requires tells { TellsAll Q.start (Q.seen desk.old) ticket }
+    ensures ok { OnOk result (HasDone Q.start (Q.seen desk.old) (Q.seen desk.new) ticket) }
+    ensures trouble { IfErr result (Shown Q.Stage.faults Q.Fetch.faults 0 (Some []) Q.start (Q.seen desk.new) ticket) }
+    ensures went { IfErr result (λ e. Went Q.start (Q.seen desk.old) (Q.seen desk.new) ticket) }
+    ensures grew { GrewBy Q.start ticket (Q.seen desk.old) (Q.seen desk.new) }
+    ensures holds { Q.holds desk.new ticket }
+{
+    let files = snap.files();
+    let outcome = ShardResult {
+        shard: at,
+        generation: first,
+        files: files.len() as u64,
+        bytes: sum_of(files),
+    };
+    let own = snap.under(uuid);
+    let index = base.with_snap(alloc, &own)?;
+    end_shard(alloc, desk, ticket, &own, &index, &outcome)
+}

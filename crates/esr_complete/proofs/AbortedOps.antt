@@ -1,0 +1,135 @@
+-- What a delete that is asked for makes of the open ops, and that the history tells which of them it aborts.
+use Rattle.std.proofs.Common.{◌≡◌, ◌⊎◌, ℕ, Bool, true, false, true≢false, cond, not, ◌&&◌, ◌||◌, ◌==◌, List, [], ◌∷◌, map, Option, Some, None, refl, sym, ap, ◌∙◌, subst, inl, inr, nat_cmp}
+use Rattle.std.specs.Prelude.{option_map}
+use Rattle.std.specs.List.{list_any}
+use Rattle.std.specs.Ordering.{eq_by_cmp}
+use Rattle.std.specs.Cmp.{nat_cmp_total, eq_by_cmp_equiv}
+use Rattle.std.specs.FinMap.Entries.{find}
+use Rattle.std.specs.FinMap.{nat_cmp-IsAntisymmetric}
+use Rattle.std.specs.FinMap as fin
+use Rattle.std.proofs.lemmas.Bool.{eq-eqb}
+use Rattle.esr_model.specs.Values.{Bytes, Has, Formats}
+use Rattle.esr_model.specs.Shelf.{Shelved, names_uuid}
+use Rattle.esr_core.specs.World.{World, Op, Work, Shard, Finalize, Deleting, Drop, Ticket}
+use Rattle.esr_core.specs.Deletes.{named_uuids, has_op, is_swap, swaps_op, is_swapped, is_unaborted, aborts_op, aborting, aborted_ops}
+use Rattle.esr_core.specs.Ids.{Law}
+use Rattle.esr_core.specs.Allowed.{IsNameOf}
+use Rattle.esr_core.proofs.Accepting.{same_true}
+use Rattle.esr_core.proofs.AskedDeletes.{named_is, more_named}
+use Rattle.esr_core.proofs.Deleting.{bool_told}
+use Rattle.esr_core.proofs.DeletesHold.{names_has}
+use Rattle.esr_core.proofs.Maps.{split}
+use Rattle.esr_core.proofs.Queues.{split_at}
+use Rattle.esr_core.proofs.Reading.{some_same, none_some}
+use Rattle.esr_core.proofs.Recorded.{got_entry}
+use Rattle.esr_core.proofs.Results.{choose_true, choose_false}
+use Rattle.esr_report.specs.Replies.{has_name}
+use Rattle.esr_complete.proofs.Following.{IsFinal, IsOutFinal}
+
+-- ---- tests
+
+both : (a b : Bool) → (a && b) ≡ true → (a ≡ true) × (b ≡ true)
+both true b e = (refl, e)
+both false b e = absurd (true≢false (sym e))
+
+and_true : (a b : Bool) → a ≡ true → b ≡ true → (a && b) ≡ true
+and_true a b p q = ap (λ (x : Bool). x && b) p ∙ q
+
+not_true : (b : Bool) → not b ≡ true → b ≡ false
+not_true true e = absurd (true≢false (sym e))
+not_true false e = refl
+
+either_true : (a b : Bool) → b ≡ true → (a || b) ≡ true
+either_true true b e = refl
+either_true false b e = e
+
+any_of : {X : Type 0} (test : X → Bool) (xs : List X) (x : X) → Has xs x → test x ≡ true → list_any test xs ≡ true
+any_of test [] x m e = absurd m
+any_of test (y ∷ xs) x (inl same) e = ap (λ (b : Bool). b || list_any test xs) (ap test same ∙ e)
+any_of test (y ∷ xs) x (inr m) e = either_true (test y) (list_any test xs) (any_of test xs x m e)
+
+-- ---- each op after it
+
+module _ (w : World) (uuids : List ℕ) (by : ℕ) where
+  abbrev now_at : ℕ → Op → Op
+  now_at o op = (aborting w uuids by (o, op)).1
+
+  entry_at : (e : ℕ × Op) → aborting w uuids by e ≡ (e.0, now_at e.0 e.1)
+  entry_at e = elim (bool_told (aborts_op w uuids e)) [
+    | inl b ↦ let is : aborting w uuids by e ≡ (e.0, record e.1 { aborted = Some by }) = choose_true _ _ _ b in is ∙ λ i. (e.0, (sym is i).1)
+    | inr b ↦ let is : aborting w uuids by e ≡ e = choose_false _ _ _ b in is ∙ λ i. (e.0, (sym is i).1)
+  ]
+
+  find_at : (q : ℕ) (es : List (ℕ × Op)) → find nat_cmp q (map (aborting w uuids by) es) ≡ option_map (now_at q) (find nat_cmp q es)
+  find_at q [] = refl
+  find_at q (e ∷ es) =
+      ap (λ (x : ℕ × Op). cond (eq_by_cmp nat_cmp q x.0) (Some x.1) (find nat_cmp q (map (aborting w uuids by) es))) (entry_at e)
+      ∙ elim (split nat_cmp_total nat_cmp-IsAntisymmetric q e.0) [
+        | inl same ↦
+            let tied : eq_by_cmp nat_cmp q e.0 ≡ true = subst (λ k. eq_by_cmp nat_cmp q k ≡ true) same ((eq_by_cmp_equiv nat_cmp_total).refl q) in
+            ap (λ b. cond b (Some (now_at e.0 e.1)) (find nat_cmp q (map (aborting w uuids by) es))) tied
+            ∙ ap (λ k. Some (now_at k e.1)) (sym same)
+            ∙ sym (ap (λ b. option_map (now_at q) (cond b (Some e.1) (find nat_cmp q es))) tied)
+        | inr away ↦
+            ap (λ b. cond b (Some (now_at e.0 e.1)) (find nat_cmp q (map (aborting w uuids by) es))) away.1
+            ∙ find_at q es
+            ∙ sym (ap (λ b. option_map (now_at q) (cond b (Some e.1) (find nat_cmp q es))) away.1)
+      ]
+
+  get_at : (o : ℕ) → fin.get (aborted_ops w uuids by) o ≡ option_map (now_at o) (fin.get w.ops o)
+  get_at o = fin.get-from_entries nat_cmp_total (map (aborting w uuids by) (fin.entries w.ops)) o ∙ find_at o (fin.entries w.ops) ∙ ap (option_map (now_at o)) (sym (fin.get-entries w.ops o))
+
+  -- it was open, and is as it was, or the delete aborts it
+  pub was_op : (o : ℕ) (op : Op) → fin.get (aborted_ops w uuids by) o ≡ Some op → (old : Op) × (fin.get w.ops o ≡ Some old) × ((op ≡ old) ⊎ ((op ≡ record old { aborted = Some by }) × (aborts_op w uuids (o, old) ≡ true)))
+  was_op o op e = found (fin.get w.ops o) refl (sym (get_at o) ∙ e)
+    where
+      found : (was : Option Op) → fin.get w.ops o ≡ was → option_map (now_at o) was ≡ Some op → (old : Op) × (fin.get w.ops o ≡ Some old) × ((op ≡ old) ⊎ ((op ≡ record old { aborted = Some by }) × (aborts_op w uuids (o, old) ≡ true)))
+      found None is h = absurd (none_some op h)
+      found (Some old) is h =
+          let now : op ≡ now_at o old = sym (some_same _ _ h) in (
+            old,
+            is,
+            elim (bool_told (aborts_op w uuids (o, old))) [
+              | inl b ↦ let as_now : aborting w uuids by (o, old) ≡ (o, record old { aborted = Some by }) = choose_true _ _ _ b in inr (now ∙ ap (λ (e : ℕ × Op). e.1) as_now, b)
+              | inr b ↦ let as_now : aborting w uuids by (o, old) ≡ (o, old) = choose_false _ _ _ b in inl (now ∙ ap (λ (e : ℕ × Op). e.1) as_now)
+            ],
+          )
+
+  -- and each that was open is
+  pub is_op : (o : ℕ) (old : Op) → fin.get w.ops o ≡ Some old → (op : Op) × (fin.get (aborted_ops w uuids by) o ≡ Some op)
+  is_op o old e = (now_at o old, get_at o ∙ ap (option_map (now_at o)) e)
+
+-- ---- which ones it aborts
+
+final_swap : (work : Work) → IsFinal work → is_swap work ≡ true
+final_swap (Shard index number) m = absurd m
+final_swap (Finalize info results made) m = refl
+final_swap (Deleting uuids plan) m = refl
+final_swap Drop m = absurd m
+
+-- none of which a finalization is out
+pub not_out : (w : World) (uuids : List ℕ) (o : ℕ) (op : Op) (k : ℕ) (t : Ticket) → aborts_op w uuids (o, op) ≡ true → fin.get w.tickets k ≡ Some t → t.term ≡ w.term → t.op ≡ o → IsOutFinal t → ⊥
+not_out w uuids o op k t aborts there present of is =
+    let parts = both (is_unaborted op.aborted) (not (is_swapped w o)) (both (names_uuid uuids op.uuid) _ aborts).1 in
+    let swaps : swaps_op w.term o (k, t) ≡ true =
+    and_true (has_op w.term o (k, t)) _ (and_true t.out _ is.out (and_true (t.term == w.term) (t.op == o) (eq-eqb _ _ present) (eq-eqb _ _ of))) (and_true (not t.settled) _ (ap not is.unsettled) (final_swap t.work is.final)) in
+    true≢false (sym (any_of (swaps_op w.term o) (fin.entries w.tickets) (k, t) (got_entry w.tickets k t there) swaps) ∙ not_true (is_swapped w o) parts.1)
+
+named_has : (names : List Bytes) (name : Bytes) → Has names name → has_name names name ≡ true
+named_has [] name m = absurd m
+named_has (x ∷ names) name (inl same) = ap (λ (b : Bool). b || has_name names name) (same_true x name same)
+named_has (x ∷ names) name (inr m) = either_true _ (has_name names name) (named_has names name m)
+
+-- and only such as it names by their name
+pub names_it : (f : Formats) (w : World) (shelf : List Shelved) → Law f w shelf → (names : List Bytes) (o : ℕ) (op : Op) → fin.get w.ops o ≡ Some op → aborts_op w (named_uuids w names) (o, op) ≡ true → has_name names op.name ≡ true
+names_it f w shelf law names o op there aborts =
+    let m = more_named w names [] in
+    let (name, has, e) = m.from op.uuid (subst (λ (us : List ℕ). Has us op.uuid) m.is (names_has (named_uuids w names) op.uuid (both (names_uuid (named_uuids w names) op.uuid) _ aborts).0)) in
+    named_has names op.name (subst (Has names) (same name (named_is w name op.uuid e)) has)
+  where
+    same : (name : Bytes) → IsNameOf w name op.uuid → name ≡ op.name
+    same name (inl s) = absurd ((law.lawful.sound.carried.ops o op there).unlisted s.0 s.1 s.3)
+    same name (inr q) = elim (split_at q.0 o) [
+      | inl one ↦ sym q.3 ∙ ap (λ (x : Op). x.name) (some_same q.1 op (sym q.2 ∙ ap (fin.get w.ops) one ∙ there))
+      | inr apart ↦ absurd ((law.lawful.sound.carried.together q.0 o q.1 op apart q.2 there).uuids q.4)
+    ]

@@ -1,0 +1,33 @@
+-- Each delete that a history tells as asked for is one for which a line of the script asks.
+use Rattle.std.proofs.Common.{◌≡◌, ℕ, true, true≢false, ◌==◌, ◌&&◌, List, ◌∷◌, sym, ap, ◌∙◌, subst, inl, inr}
+use Rattle.esr_model.specs.Values.{Bytes, Has}
+use Rattle.esr_core.specs.Entry.{DeleteSnapshots, Step, AskStep, Entry, Moment}
+use Rattle.esr_core.specs.Allowed.{Allows}
+use Rattle.esr_core.proofs.Reading.{Has-mapped}
+use Rattle.esr_script.specs.declared.item.ScriptLine.{ScriptLine}
+use Rattle.esr_desk.specs.Start.{Start, formats_of, world_of}
+use Rattle.esr_quiet.specs.Asked.{is_line_ask, is_asked, as_asked, asked_steps}
+use Rattle.esr_quiet.specs.Smooth.{IsSmooth}
+use Rattle.esr_quiet.proofs.Callers.{ask_zero}
+use Rattle.esr_quiet.proofs.Passing.{quiet_at, legal_at}
+use Rattle.esr_quiet.proofs.Prefixes.{place_of}
+use Rattle.esr_complete.specs.Lines.{steps_of, entries_of}
+use Rattle.esr_complete.proofs.Facts.{AsksAll}
+use Rattle.esr_complete.proofs.InTurn.{in_asked, lines_delete}
+
+module _ (s : Start) (log : List Moment) (lines : List ScriptLine) (moment : ℕ) (smooth : IsSmooth s log) (asked : asked_steps log ≡ steps_of moment lines) where
+  -- who 0 asks
+  nobody : (m : Moment) (names : List Bytes) → Has log m → m.entry.step ≡ AskStep (DeleteSnapshots names) → m.entry.who ≡ 0
+  nobody m names has step =
+      let p = place_of log m has in
+      elim (legal_at s log smooth p.front p.back m p.is).answered [
+        | inl alive ↦ ask_zero (formats_of s) s.part_size (world_of s p.front) m.entry.who (DeleteSnapshots names) m.entry.reply m.image (subst (λ (x : Step). Allows (formats_of s) s.part_size (world_of s p.front) m.entry.who x m.entry.reply m.image) step alive.1)
+        | inr dead ↦ absurd (true≢false (sym dead.deposed ∙ (quiet_at s log smooth p.front (m ∷ p.back) p.is).present))
+      ]
+
+  pub asks_all : AsksAll lines (entries_of log)
+  asks_all e names has step =
+      let (m, there, is) = Has-mapped (λ (y : Moment). y.entry) log e has in
+      let own : m.entry.step ≡ AskStep (DeleteSnapshots names) = ap (λ (y : Entry). y.step) is ∙ step in
+      let by_who : is_asked m.entry ≡ true = (λ i. (nobody m names there own i == 0) && is_line_ask (own i)) in
+      lines_delete moment lines names (subst (λ (l : List Step). Has l (AskStep (DeleteSnapshots names))) asked (subst (λ (step : Step). Has (asked_steps log) (as_asked step)) own (in_asked log m there by_who)))

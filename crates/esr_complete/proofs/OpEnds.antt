@@ -1,0 +1,254 @@
+-- How the op of a snapshot and that of a delete end where nothing fails.
+use Rattle.std.proofs.Common.{◌≡◌, ◌⊎◌, ℕ, Bool, true, false, List, [], ◌∷◌, ◌++◌, append-nil, append_assoc, Option, Some, None, option_map, if◌then◌else◌, refl, sym, ap, ◌∙◌, subst, inl, inr}
+use Rattle.std.proofs.lemmas.Bool.{eqb-true}
+use Rattle.esr_model.specs.Values.{Bytes, Has}
+use Rattle.esr_core.specs.Entry.{DeleteSnapshots, DeleteFails, SettlePruned, Step, AskStep, SettleStep, FailedStep, PruneStep, Reply, Accepted, WasSettled, HasEnded, Refused, Entry}
+use Rattle.esr_core.specs.After.{or_else}
+use Rattle.esr_core.proofs.Results.{choose_true, choose_false}
+use Rattle.esr_core.proofs.Deleting.{bool_told}
+use Rattle.esr_quiet.specs.Refusals.{IsByRule}
+use Rattle.esr_report.specs.Replies as report
+use Rattle.esr_report.specs.Replies.{Made, Deleted, Aborted, op_of_ticket, uuid_of_ticket, is_op, ends_by, ends_at, name_of_op, final_out, has_name, abort_of, aborts_at, end_of_op}
+use Rattle.esr_complete.proofs.Tickets.{none_some, name_stays, name_before, same_op}
+
+-- no unit failed by this entry, nor a delete, and no refusal but that of a command by a rule
+abbrev pub IsCalm : Reply → Step → Type 0
+IsCalm (Refused refusal) (AskStep command) = IsByRule command refusal
+IsCalm (Refused refusal) step = ⊥
+IsCalm HasEnded (FailedStep why) = ⊥
+IsCalm HasEnded (PruneStep (DeleteFails why)) = ⊥
+IsCalm reply step = Unit {0}
+
+-- ---- what an entry answers an op
+
+-- the entry settles the root of a delete
+abbrev pub IsPruned : Step → Reply → Type 0
+IsPruned (PruneStep SettlePruned) WasSettled = Unit {0}
+IsPruned step reply = ⊥
+
+-- or of a snapshot
+abbrev pub IsSettled : Step → Reply → Type 0
+IsSettled SettleStep WasSettled = Unit {0}
+IsSettled step reply = ⊥
+
+-- the snapshot was made
+pub record IsMade (answer : Option report.Reply) : Type 0 where
+  pub uuid : ℕ
+  pub is : answer ≡ Some (Made uuid)
+
+-- the delete was carried out
+pub record IsDeleted (answer : Option report.Reply) : Type 0 where
+  pub op : ℕ
+  pub is : answer ≡ Some (Deleted op)
+
+abbrev MadeOrNone : Option report.Reply → Type 0
+MadeOrNone None = Unit {0}
+MadeOrNone (Some (Made uuid)) = Unit {0}
+MadeOrNone (Some reply) = ⊥
+
+abbrev DeletedOrNone : Option report.Reply → Type 0
+DeletedOrNone None = Unit {0}
+DeletedOrNone (Some (Deleted op)) = Unit {0}
+DeletedOrNone (Some reply) = ⊥
+
+of_uuid : (uuid : Option ℕ) → MadeOrNone (option_map Made uuid)
+of_uuid None = tt
+of_uuid (Some u) = tt
+
+of_op : (op : Option ℕ) → DeletedOrNone (option_map Deleted op)
+of_op None = tt
+of_op (Some o) = tt
+
+made_by : (all : List Entry) (who : ℕ) (step : Step) (reply : Reply) → IsCalm reply step → (IsPruned step reply → ⊥) → MadeOrNone (ends_by all who step reply)
+made_by all who SettleStep WasSettled calm other = of_uuid (uuid_of_ticket all who)
+made_by all who (FailedStep why) HasEnded calm other = absurd calm
+made_by all who (PruneStep SettlePruned) WasSettled calm other = absurd (other tt)
+made_by all who (PruneStep (DeleteFails why)) HasEnded calm other = absurd calm
+made_by all who step reply calm other = tt
+
+deleted_by : (all : List Entry) (who : ℕ) (step : Step) (reply : Reply) → IsCalm reply step → (IsSettled step reply → ⊥) → DeletedOrNone (ends_by all who step reply)
+deleted_by all who SettleStep WasSettled calm other = absurd (other tt)
+deleted_by all who (FailedStep why) HasEnded calm other = absurd calm
+deleted_by all who (PruneStep SettlePruned) WasSettled calm other = of_op (op_of_ticket all who)
+deleted_by all who (PruneStep (DeleteFails why)) HasEnded calm other = absurd calm
+deleted_by all who step reply calm other = tt
+
+-- a ticket of the op
+is_own : (o : ℕ) (found : Option ℕ) → is_op o found ≡ true → found ≡ Some o
+is_own o None e = absurd (no_op e)
+  where
+    no_op : false ≡ true → ⊥
+    no_op h = cc
+is_own o (Some p) e = ap (λ (n : ℕ). Some n) (eqb-true p o e)
+
+made_at : (all : List Entry) (o : ℕ) (e : Entry) → IsCalm e.reply e.step → (op_of_ticket all e.who ≡ Some o → IsPruned e.step e.reply → ⊥) → MadeOrNone (ends_at all o e)
+made_at all o e calm other = elim (bool_told (is_op o (op_of_ticket all e.who))) [
+  | inl own ↦ subst MadeOrNone (sym (choose_true _ _ _ own)) (made_by all e.who e.step e.reply calm (other (is_own o (op_of_ticket all e.who) own)))
+  | inr none ↦ subst MadeOrNone (sym (choose_false _ _ _ none)) tt
+]
+
+deleted_at : (all : List Entry) (o : ℕ) (e : Entry) → IsCalm e.reply e.step → (op_of_ticket all e.who ≡ Some o → IsSettled e.step e.reply → ⊥) → DeletedOrNone (ends_at all o e)
+deleted_at all o e calm other = elim (bool_told (is_op o (op_of_ticket all e.who))) [
+  | inl own ↦ subst DeletedOrNone (sym (choose_true _ _ _ own)) (deleted_by all e.who e.step e.reply calm (other (is_own o (op_of_ticket all e.who) own)))
+  | inr none ↦ subst DeletedOrNone (sym (choose_false _ _ _ none)) tt
+]
+
+-- ---- aborts
+
+-- the answer of an abort: a delete that names this was accepted
+pub record IsAbort (name : Option Bytes) (step : Step) (reply : Reply) (answer : report.Reply) : Type 0 where
+  pub by : ℕ
+  pub of : Bytes
+  pub names : List Bytes
+  pub name_is : name ≡ Some of
+  pub step_is : step ≡ AskStep (DeleteSnapshots names)
+  pub reply_is : reply ≡ Accepted by
+  pub named : has_name names of ≡ true
+  pub answer_is : answer ≡ Aborted by
+
+one_reply : (a b : report.Reply) → Some a ≡ Some b → a ≡ b
+one_reply a b e = cc
+
+abort_told : (name : Option Bytes) (k : Option ℕ) (step : Step) (reply : Reply) (answer : report.Reply) → abort_of name k step reply ≡ Some answer → IsAbort name step reply answer
+abort_told None k step reply answer e = absurd (none_some answer e)
+abort_told (Some name) (Some k) step reply answer e = absurd (none_some answer e)
+abort_told (Some name) None (AskStep (DeleteSnapshots names)) (Accepted d) answer e = elim (bool_told (has_name names name)) [
+  | inl t ↦ record { by = d; of = name; names = names; name_is = refl; step_is = refl; reply_is = refl; named = t; answer_is = sym (one_reply (Aborted d) answer (sym (choose_true _ _ _ t) ∙ e)) }
+  | inr t ↦ absurd (none_some answer (sym (choose_false _ _ _ t) ∙ e))
+]
+abort_told (Some name) None step reply answer e = absurd (none_some answer e)
+
+-- it is of an op with a name
+pub abort_names : (front : List Entry) (o : ℕ) (e : Entry) (answer : report.Reply) → aborts_at front o e ≡ Some answer → (name : Bytes) × (name_of_op front o ≡ Some name)
+abort_names front o e answer is = let h = abort_told (name_of_op front o) (final_out front o) e.step e.reply answer is in (h.of, h.name_is)
+
+unnamed_abort : (name : Option Bytes) (k : Option ℕ) (step : Step) (reply : Reply) → name ≡ None → abort_of name k step reply ≡ None
+unnamed_abort None k step reply e = refl
+unnamed_abort (Some name) k step reply e = absurd (none_some name (sym e))
+
+-- ---- the end of a snapshot
+
+has_here : (before es : List Entry) (x : Entry) → Has (before ++ x ∷ es) x
+has_here [] es x = inl refl
+has_here (y ∷ before) es x = inr (has_here before es x)
+
+-- it was made, or a delete aborted it: one that was accepted in the history, and that names it
+pub record WasAborted (all : List Entry) (o : ℕ) (answer : Option report.Reply) : Type 0 where
+  pub by : ℕ
+  pub is : answer ≡ Some (Aborted by)
+  pub e : Entry
+  pub has : Has all e
+  pub names : List Bytes
+  pub step : e.step ≡ AskStep (DeleteSnapshots names)
+  pub of : Bytes
+  pub of_is : name_of_op all o ≡ Some of
+  pub named : has_name names of ≡ true
+
+abbrev pub IsEnded : List Entry → ℕ → Option report.Reply → Type 0
+IsEnded all o answer = IsMade answer ⊎ WasAborted all o answer
+
+-- an entry of these ends the op, or aborts it
+abbrev pub EndsIn : List Entry → ℕ → List Entry → List Entry → Type 0
+EndsIn all o before [] = ⊥
+EndsIn all o before (x ∷ es) = IsMade (ends_at all o x) ⊎ (((answer : report.Reply) × (aborts_at before o x ≡ Some answer)) ⊎ EndsIn all o (before ++ x ∷ []) es)
+
+made_in : (all : List Entry) (o : ℕ) (before es : List Entry) (e : Entry) → Has es e → IsMade (ends_at all o e) → EndsIn all o before es
+made_in all o before [] e has made = absurd has
+made_in all o before (x ∷ es) e (inl same) made = inl (subst (λ (y : Entry). IsMade (ends_at all o y)) (sym same) made)
+made_in all o before (x ∷ es) e (inr has) made = inr (inr (made_in all o (before ++ x ∷ []) es e has made))
+
+pub aborted_in : (all : List Entry) (o : ℕ) (before front : List Entry) (e : Entry) (back : List Entry) (answer : report.Reply) → aborts_at (before ++ front) o e ≡ Some answer → EndsIn all o before (front ++ e ∷ back)
+aborted_in all o before [] e back answer is = inr (inl (answer, ap (λ (l : List Entry). aborts_at l o e) (sym (append-nil before)) ∙ is))
+aborted_in all o before (x ∷ front) e back answer is = inr (inr (aborted_in all o (before ++ x ∷ []) front e back answer (ap (λ (l : List Entry). aborts_at l o e) (append_assoc before (x ∷ []) front) ∙ is)))
+
+-- the first of these answers it
+pub end_found : (all : List Entry) (o : ℕ) (before es : List Entry) → all ≡ before ++ es → ((e : Entry) → Has es e → IsCalm e.reply e.step) → ((e : Entry) → Has es e → op_of_ticket all e.who ≡ Some o → IsPruned e.step e.reply → ⊥)
+    → EndsIn all o before es → IsEnded all o (end_of_op all o before es)
+end_found all o before [] is calm other found = absurd found
+end_found all o before (x ∷ es) is calm other found =
+    by_end (λ behind. end_found all o (before ++ x ∷ []) es (is ∙ sym (append_assoc before (x ∷ []) es)) (λ e m. calm e (inr m)) (λ e m. other e (inr m)) behind)
+    (ends_at all o x) refl (made_at all o x (calm x (inl refl)) (other x (inl refl)))
+  where
+    later : (EndsIn all o (before ++ x ∷ []) es → IsEnded all o (end_of_op all o (before ++ x ∷ []) es)) → (ends_at all o x ≡ None) → (aborts_at before o x ≡ None) → IsEnded all o (end_of_op all o (before ++ x ∷ []) es)
+    later on none unaborted = elim found [
+      | inl made ↦ absurd (none_some (Made made.uuid) (sym none ∙ made.is))
+      | inr more ↦ elim more [
+        | inl abort ↦ absurd (none_some abort.0 (sym unaborted ∙ abort.1))
+        | inr behind ↦ on behind
+      ]
+    ]
+
+    by_abort : (EndsIn all o (before ++ x ∷ []) es → IsEnded all o (end_of_op all o (before ++ x ∷ []) es)) → (a : Option report.Reply) → aborts_at before o x ≡ a → ends_at all o x ≡ None
+        → IsEnded all o (or_else a (end_of_op all o (before ++ x ∷ []) es))
+    by_abort on None unaborted none = later on none unaborted
+    by_abort on (Some answer) aborted none =
+        let h : IsAbort (name_of_op before o) x.step x.reply answer = abort_told (name_of_op before o) (final_out before o) x.step x.reply answer aborted in
+        inr (record {
+          by = h.by;
+          is = ap (λ (r : report.Reply). Some r) h.answer_is;
+          e = x;
+          has = subst (λ (l : List Entry). Has l x) (sym is) (has_here before es x);
+          names = h.names;
+          step = h.step_is;
+          of = h.of;
+          of_is = ap (λ (l : List Entry). name_of_op l o) is ∙ name_stays before (x ∷ es) o h.of h.name_is;
+          named = h.named;
+        })
+
+    by_end : (EndsIn all o (before ++ x ∷ []) es → IsEnded all o (end_of_op all o (before ++ x ∷ []) es)) → (a : Option report.Reply) → ends_at all o x ≡ a → MadeOrNone a
+        → IsEnded all o (or_else a (or_else (aborts_at before o x) (end_of_op all o (before ++ x ∷ []) es)))
+    by_end on None none made = by_abort on (aborts_at before o x) refl none
+    by_end on (Some (Made u)) ends made = inl (record { uuid = u; is = refl })
+    by_end on (Some answer) ends made = absurd made
+
+-- a settle of the op makes its snapshot
+settle_made : (all : List Entry) (o uuid : ℕ) (e : Entry) → op_of_ticket all e.who ≡ Some o → uuid_of_ticket all e.who ≡ Some uuid → e.step ≡ SettleStep → e.reply ≡ WasSettled → IsMade (ends_at all o e)
+settle_made all o uuid e op_is uuid_is step reply =
+    record {
+      uuid = uuid;
+      is =
+          ap (λ (a : Option ℕ). if is_op o a then ends_by all e.who e.step e.reply else None) op_is
+          ∙ ap (λ (b : Bool). if b then ends_by all e.who e.step e.reply else None) (same_op o)
+          ∙ ap (λ (x : Step). ends_by all e.who x e.reply) step
+          ∙ ap (λ (x : Reply). ends_by all e.who SettleStep x) reply
+          ∙ ap (option_map Made) uuid_is;
+    }
+
+pub settled_in : (all : List Entry) (o uuid : ℕ) (e : Entry) → Has all e → op_of_ticket all e.who ≡ Some o → uuid_of_ticket all e.who ≡ Some uuid → e.step ≡ SettleStep → e.reply ≡ WasSettled → EndsIn all o [] all
+settled_in all o uuid e has op_is uuid_is step reply = made_in all o [] all e has (settle_made all o uuid e op_is uuid_is step reply)
+
+-- ---- the end of a delete
+
+pub delete_found : (all : List Entry) (o : ℕ) (before es : List Entry) → all ≡ before ++ es → name_of_op all o ≡ None → ((e : Entry) → Has es e → IsCalm e.reply e.step) → ((e : Entry) → Has es e → op_of_ticket all e.who ≡ Some o → IsSettled e.step e.reply → ⊥)
+    → (e : Entry) → Has es e → IsDeleted (ends_at all o e) → IsDeleted (end_of_op all o before es)
+delete_found all o before [] is unnamed calm other e has deleted = absurd has
+delete_found all o before (x ∷ es) is unnamed calm other e has deleted =
+    by_end (λ behind. delete_found all o (before ++ x ∷ []) es (is ∙ sym (append_assoc before (x ∷ []) es)) unnamed (λ y m. calm y (inr m)) (λ y m. other y (inr m)) e behind deleted)
+    (ends_at all o x) refl (deleted_at all o x (calm x (inl refl)) (other x (inl refl)))
+  where
+    unaborted : aborts_at before o x ≡ None
+    unaborted = unnamed_abort (name_of_op before o) (final_out before o) x.step x.reply (name_before before (x ∷ es) o (ap (λ (l : List Entry). name_of_op l o) (sym is) ∙ unnamed))
+
+    later : (Has es e → IsDeleted (end_of_op all o (before ++ x ∷ []) es)) → ends_at all o x ≡ None → IsDeleted (end_of_op all o (before ++ x ∷ []) es)
+    later on none = elim has [
+      | inl same ↦ absurd (none_some (Deleted deleted.op) (sym none ∙ ap (λ (y : Entry). ends_at all o y) same ∙ deleted.is))
+      | inr behind ↦ on behind
+    ]
+
+    by_end : (Has es e → IsDeleted (end_of_op all o (before ++ x ∷ []) es)) → (a : Option report.Reply) → ends_at all o x ≡ a → DeletedOrNone a → IsDeleted (or_else a (or_else (aborts_at before o x) (end_of_op all o (before ++ x ∷ []) es)))
+    by_end on None none ok = subst (λ (a : Option report.Reply). IsDeleted (or_else a (end_of_op all o (before ++ x ∷ []) es))) (sym unaborted) (later on none)
+    by_end on (Some (Deleted d)) ends ok = record { op = d; is = refl }
+    by_end on (Some answer) ends ok = absurd ok
+
+-- the settle of its ticket carries it out
+pub prune_deleted : (all : List Entry) (o : ℕ) (e : Entry) → op_of_ticket all e.who ≡ Some o → e.step ≡ PruneStep SettlePruned → e.reply ≡ WasSettled → IsDeleted (ends_at all o e)
+prune_deleted all o e op_is step reply =
+    record {
+      op = o;
+      is =
+          ap (λ (a : Option ℕ). if is_op o a then ends_by all e.who e.step e.reply else None) op_is
+          ∙ ap (λ (b : Bool). if b then ends_by all e.who e.step e.reply else None) (same_op o)
+          ∙ ap (λ (x : Step). ends_by all e.who x e.reply) step
+          ∙ ap (λ (x : Reply). ends_by all e.who (PruneStep SettlePruned) x) reply
+          ∙ ap (option_map Deleted) op_is;
+    }

@@ -1,7 +1,0 @@
-//! Tests of whole runs, over a container in a folder. There is nothing else here.
-#![tactic(auto)]
-
-#[cfg(test)]
-mod killed;
-#[cfg(test)]
-mod runs;

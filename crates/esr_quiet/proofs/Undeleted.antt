@@ -1,0 +1,109 @@
+-- No delete fails where each world of the history is lawful and free.
+use Rattle.std.proofs.Common.{◌≡◌, ℕ, false, true≢false, List, ◌∷◌, ◌++◌, append_assoc, Option, Some, None, refl, sym, ap, ◌∙◌, subst, inl, inr}
+use Rattle.std.specs.Prelude.{length}
+use Rattle.std.specs.FinMap as fin
+use Rattle.esr_model.specs.Names.{BlobName, ShardIndex}
+use Rattle.esr_model.specs.Values.{Has, Formats}
+use Rattle.esr_model.specs.Image.{Image}
+use Rattle.esr_core.specs.World.{World, Ticket}
+use Rattle.esr_core.specs.Entry.{Reason, Why, OfDepot, OfSource, OfChange, OfAbsence, OfUnreadable, OfAhead, OfTaken, OfIdsSpent, OfGenerationsSpent, OfTarget, OfPrint, OfDisagreement, Prune, FetchShard, DeleteFails, Step, PruneStep, IdsSpent, GenerationsSpent, Reply, WasAbsent, HasEnded, Moment}
+use Rattle.esr_core.specs.Allowed as allowed
+use Rattle.esr_core.specs.Allowed.{Told, FetchesShard, FailsDeletion, PruneAllows, ShardMissing, FailingDelete, Allows, Allowed}
+use Rattle.esr_formats.specs.Reasons.{unreadable, unreadable_reads_not}
+use Rattle.esr_desk.specs.declared.fault.Fault.{Fault}
+use Rattle.esr_desk.specs.declared.fault.By.{By}
+use Rattle.esr_desk.specs.Start.{Start, formats_of, world_of, or_no_ticket, ticket_of}
+use Rattle.esr_desk.specs.Shown.{Counts}
+use Rattle.esr_deleting.specs.Shown.{IsOfDelete, HadShard, WasUnreadable, IsDeleteShown}
+use Rattle.esr_quiet.specs.Caused.{AreDeleteCaused}
+use Rattle.esr_quiet.specs.Smooth.{IsSmooth, NoneUndeleted}
+use Rattle.esr_quiet.specs.Prefixes.{Prefixes}
+use Rattle.esr_quiet.proofs.Prefixes.{told_at, place_of, has_front, has_at}
+use Rattle.esr_quiet.proofs.Passing.{quiet_at, legal_at}
+use Rattle.esr_quiet.proofs.Pruned.{is_there, does_read}
+use Rattle.esr_quiet.proofs.Failures.{read_shown, step_shown, depot, untaken, unspent}
+
+-- ---- what a step tells
+
+-- of a fetch that found nothing, and of a report
+abbrev Tells : Formats → World → ℕ → Step → Reply → Option Image → Type 0
+Tells f w who (PruneStep (FetchShard name)) WasAbsent image = FetchesShard f w who name × Told image (λ blobs. (fin.get w.blobs (f.names.text name) ≡ None) × (blobs ≡ w.blobs))
+Tells f w who (PruneStep (DeleteFails why)) HasEnded image = FailsDeletion w who
+Tells f w who step reply image = Unit {0}
+
+prune_tells : (f : Formats) (w : World) (who : ℕ) (prune : Prune) (reply : Reply) (image : Option Image) → PruneAllows f w who prune reply image → Tells f w who (PruneStep prune) reply image
+prune_tells f w who prune reply image (ShardMissing k name im g found) = (g, found)
+prune_tells f w who prune reply image (FailingDelete k why im c same) = c
+prune_tells f w who prune reply image a = tt
+
+tells : (f : Formats) (size : ℕ) (w : World) (who : ℕ) (step : Step) (reply : Reply) (image : Option Image) → Allows f size w who step reply image → Tells f w who step reply image
+tells f size w who step reply image (allowed.Pruning k prune rep im a) = prune_tells f w k prune rep im a
+tells f size w who step reply image a = tt
+
+-- the answer is that of a world in which no record swap has failed
+told_by : (f : Formats) (size : ℕ) (w : World) (m : Moment) → w.deposed ≡ false → Allowed f size w m → Tells f w m.entry.who m.entry.step m.entry.reply m.image
+told_by f size w m present a = elim a.answered [ inl alive ↦ tells f size w m.entry.who m.entry.step m.entry.reply m.image alive.1 | inr dead ↦ absurd (true≢false (sym dead.deposed ∙ present)) ]
+
+fails_at : (f : Formats) (size : ℕ) (w : World) (m : Moment) (why : Why) → w.deposed ≡ false → Allowed f size w m → m.entry.step ≡ PruneStep (DeleteFails why) → m.entry.reply ≡ HasEnded → FailsDeletion w m.entry.who
+fails_at f size w m why present a step reply =
+    subst (λ st. Tells f w m.entry.who st HasEnded m.image) step (subst (λ r. Tells f w m.entry.who m.entry.step r m.image) reply (told_by f size w m present a))
+
+misses_at : (f : Formats) (size : ℕ) (w : World) (m : Moment) (name : BlobName) → w.deposed ≡ false → Allowed f size w m → m.entry.step ≡ PruneStep (FetchShard name) → m.entry.reply ≡ WasAbsent → (image : Image) → m.image ≡ Some image
+    → FetchesShard f w m.entry.who name × (fin.get w.blobs (f.names.text name) ≡ None)
+misses_at f size w m name present a step reply image is =
+    let h = subst (λ st. Tells f w m.entry.who st WasAbsent m.image) step (subst (λ r. Tells f w m.entry.who m.entry.step r m.image) reply (told_by f size w m present a)) in
+    (h.0, (subst (λ (im : Option Image). Told im (λ blobs. (fin.get w.blobs (f.names.text name) ≡ None) × (blobs ≡ w.blobs))) is h.1).0)
+
+-- ---- each cause
+
+module _ (s : Start) (log : List Moment) (smooth : IsSmooth s log) (prefixes : Prefixes s log) where
+  -- each index that it fetches is there
+  found : (front rest : List Moment) (m : Moment) → log ≡ front ++ m ∷ rest → (name : BlobName) → m.entry.step ≡ PruneStep (FetchShard name) → m.entry.reply ≡ WasAbsent → ⊥
+  found front rest m is name step reply =
+      let told = told_at log m smooth.told (subst (λ (l : List Moment). Has l m) (sym is) (has_at front rest m)) in
+      let quiet = quiet_at s log smooth front (m ∷ rest) is in
+      let at = misses_at (formats_of s) s.part_size (world_of s front) m name quiet.present (legal_at s log smooth front rest m is) step reply told.0 told.1 in
+      let g = at.0 in
+      let law = prefixes.lawful front (m ∷ rest) is in
+      is_there (formats_of s) (world_of s front) law.0 law.1 m.entry.who g.t g.uuids None g.deleting.out.there g.deleting.out.out g.unsettled (quiet.tickets m.entry.who g.t g.deleting.out.there).present g.deleting.work g.index g.number g.generation g.to_read
+      (ap (λ (n : BlobName). fin.get (world_of s front).blobs ((formats_of s).names.text n)) (sym g.name_is) ∙ at.1)
+
+  missing : (front back : List Moment) → log ≡ front ++ back → (who : ℕ) (name : BlobName) → HadShard front who name WasAbsent → ⊥
+  missing front back is who name h = found h.front (h.back ++ back) h.moment (is ∙ ap (λ (l : List Moment). l ++ back) h.is ∙ append_assoc h.front (h.moment ∷ h.back) back) name h.step h.reply
+
+  module _ (front back : List Moment) (is : log ≡ front ++ back) (who : ℕ) (c : FailsDeletion (world_of s front) who) where
+    same : c.t ≡ ticket_of s front who
+    same = sym (ap or_no_ticket c.deleting.out.there)
+
+    -- and reads
+    unread : (name : BlobName) → IsOfDelete (ticket_of s front who) name → (reason : Reason) → WasUnreadable s front who name reason → ⊥
+    unread name of reason (had, bytes, read, refuses) =
+        let law = prefixes.lawful front back is in
+        let t : Ticket = ticket_of s front who in
+        let there : Has t.read (ShardIndex of.index of.number of.base, bytes) = subst (λ (n : BlobName). Has t.read (n, bytes)) of.name_is (read smooth.tells) in
+        let at : fin.get (world_of s front).tickets who ≡ Some t = c.deleting.out.there ∙ ap (λ (x : Ticket). Some x) same in
+        does_read (formats_of s) (world_of s front) law.0 law.1 who t of.uuids of.plan at (ap (λ (x : Ticket). x.out) (sym same) ∙ c.deleting.out.out) (ap (λ (x : Ticket). x.settled) (sym same) ∙ c.unsettled)
+        ((quiet_at s log smooth front back is).tickets who t at).present of.work of.index of.number of.base of.to_read bytes there
+        (unreadable_reads_not s.known s.told (ShardIndex of.index of.number of.base) bytes reason (subst (λ (n : BlobName). unreadable n bytes ≡ Some reason) of.name_is refuses))
+
+    -- no cause is shown
+    shows : {S F H T : Type 0} (counts : Counts S F H T) (why : Why) (b : By S F H T) → IsDeleteShown counts s front who why b → ⊥
+    shows counts OfDepot b h = depot s log smooth prefixes counts front who (λ m has. subst (λ (l : List Moment). Has l m) (sym is) (has_front front back m has)) b h
+    shows counts (OfAbsence name) b h = let x = read_shown b _ h in missing front back is who name x.1
+    shows counts (OfUnreadable name reason) b h = let x = read_shown b _ h in unread name x.0 reason x.1
+    shows counts (OfTaken name) b h = untaken s log smooth prefixes front back is who name (step_shown b _ h)
+    shows counts (OfIdsSpent next) b h = unspent s log smooth prefixes front back is who (IdsSpent next) tt (step_shown b _ h)
+    shows counts (OfGenerationsSpent pending) b h = unspent s log smooth prefixes front back is who (GenerationsSpent pending) tt (step_shown b _ h)
+    shows counts OfSource b h = h
+    shows counts (OfChange first_len first_digest second_len second_digest) b h = h
+    shows counts (OfAhead name) b h = h
+    shows counts OfTarget b h = h
+    shows counts (OfPrint name stated_len stated_digest found_len found_digest) b h = h
+    shows counts (OfDisagreement name other) b h = h
+
+  pub none_undeleted : {S F H T : Type 0} (c : Counts S F H T) (faults : List (Fault S F H T)) → AreDeleteCaused c s log faults → NoneUndeleted log
+  none_undeleted c faults shown m why has step reply =
+      let p = place_of log m has in
+      let fails = fails_at (formats_of s) s.part_size (world_of s p.front) m why (quiet_at s log smooth p.front (m ∷ p.back) p.is).present (legal_at s log smooth p.front p.back m p.is) step reply in
+      let x = shown (length p.front) m.entry.who why (record { front = p.front; moment = m; back = p.back; is = p.is; place_is = refl; of = refl; step = step; reply = reply }) in
+      shows p.front (m ∷ p.back) p.is m.entry.who fails c why x.0 x.1

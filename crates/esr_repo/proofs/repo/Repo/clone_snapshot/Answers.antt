@@ -1,0 +1,33 @@
+use Rattle.std.proofs.Common.{List, None, subst}
+use Rattle.esr_core.specs.Entry.{Clone, AskStep, Accepted, Moment}
+use Rattle.esr_desk.specs.Entries.{step_of}
+use Rattle.esr_repo.specs.Next.{AddedOr}
+use Rattle.esr_repo.proofs.Clones.{wanting, passed_on, took_from}
+use Rattle.esr_repo.proofs.repo.Repo.clone_snapshot.Goals as goal
+
+pub returns-in_err-asked : goal.returns-in_err-asked
+returns-in_err-asked g c =
+    (None, wanting g.K.Told.start c.args.self.now 0 (AskStep (Clone c.args.source.now c.args.name.now c.args.indices.now c.args.moment None)) (λ op. Accepted op) c.from_residual.result c.from_residual.ensures.1)
+
+pub returns-in_err-check : goal.returns-in_err-check
+returns-in_err-check g c = (
+  None,
+  passed_on g.K.Told.start c.args.self.now c.check.new.self 0 (step_of c.in_ok-asked.asked) (AskStep (Clone c.args.source.now c.args.name.now c.args.indices.now c.args.moment None)) (λ op. Accepted op) c.from_residual-in_err-check.result c.in_err-check.field-0.0
+      c.in_ok-asked.ensures c.from_residual-in_err-check.ensures.1 c.in_err-check.ensures.step,
+)
+
+pub returns-in-Ok : goal.returns-in-Ok
+returns-in-Ok g c =
+    took_from g.K.Told.start c.args.self.now c.check.new.self c.open_clone.new.self c.args.source.now c.args.name.now c.args.indices.now c.args.moment (λ op. Accepted op) c.open_clone.result c.in_ok-check.ensures.step.0 c.open_clone.ensures
+
+pub returns-in-Err : goal.returns-in-Err
+returns-in-Err g c = (
+  None,
+  subst (λ (log : List Moment). AddedOr g.K.Told.start log c.refuse_clone.new.self 0 (AskStep (Clone c.args.source.now c.args.name.now c.args.indices.now c.args.moment None)) c.refuse_clone.result) c.in_ok-check.ensures.step.0 c.refuse_clone.ensures,
+)
+
+pub open_clone-requires-clause-may : goal.open_clone-requires-clause-may
+open_clone-requires-clause-may g c = c.in-Ok.ensures
+
+pub refuse_clone-requires-clause-why : goal.refuse_clone-requires-clause-why
+refuse_clone-requires-clause-why g c = c.in-Err.ensures

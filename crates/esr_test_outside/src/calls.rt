@@ -1,0 +1,246 @@
+//! Calls of any container, as words, and what they answer.
+ghost use Rattle.std.specs.Prelude.{◌≤◌, ◌+◌, length};
+
+use crate::client::{PutError, put_and_record};
+use esr_depot::{CallError, Commit, Counted, Depot, Fetch, Stage};
+use esr_scenes::{cut, say, say_bytes, say_faults, say_number, say_success, unquoted};
+use esr_seq::{Seq, Text};
+use std::alloc::Global;
+
+/// What a call says in a word, after what it has added to a line.
+type Said = Result<&'static str, CallError>;
+
+/// Writes a blob in one piece.
+fn staged<D: Depot>(
+    alloc: Global,
+    depot: &mut D,
+    name: &str,
+    text: &str,
+) -> Result<D::Stage, CallError> {
+    let mut stage = depot.begin(alloc, name, text.len())?;
+    stage.write(text.as_bytes())?;
+    Ok(stage)
+}
+
+fn word_of(commit: Commit) -> &'static str {
+    match commit {
+        Commit::Done => "Done",
+        Commit::Exists => "Exists",
+    }
+}
+
+fn commit<D: Depot>(alloc: Global, depot: &mut D, name: &str, text: &str) -> Said {
+    let stage = staged(alloc, depot, name, text)?;
+    Ok(word_of(depot.commit(alloc, stage)?))
+}
+
+fn replace<D: Depot>(alloc: Global, depot: &mut D, name: &str, text: &str) -> Said {
+    let stage = staged(alloc, depot, name, text)?;
+    depot.replace(alloc, stage)?;
+    Ok("ok")
+}
+
+/// Writes a piece if there is one, and says whether that failed.
+fn write<S: Stage>(stage: &mut S, piece: &str, line: &mut String)
+    requires { length piece.now ≤ S.room stage.old }
+    ensures { S.room stage.old ≤ S.room stage.new + length piece.now }
+{
+    if !piece.is_empty() {
+        say_success(line, stage.write(piece.as_bytes()).is_ok());
+    }
+}
+
+/// Writes a blob in up to three pieces, with bars between them, for which its room is just enough.
+fn in_pieces<D: Depot>(
+    alloc: Global,
+    depot: &mut D,
+    name: &str,
+    text: &str,
+    line: &mut String,
+) -> Result<D::Stage, CallError> {
+    let (first, rest) = text.split_once('|').unwrap_or((text, ""));
+    let (second, third) = rest.split_once('|').unwrap_or((rest, ""));
+    let Some(room) = first.len().checked_add(second.len()) else {
+        return Err(CallError::Failed);
+    };
+    let Some(room) = room.checked_add(third.len()) else {
+        return Err(CallError::Failed);
+    };
+    let mut stage = depot.begin(alloc, name, room)?;
+    write(&mut stage, first, line);
+    write(&mut stage, second, line);
+    write(&mut stage, third, line);
+    say_faults(line, stage.fault_count());
+    say(line, " ");
+    Ok(stage)
+}
+
+fn commit_pieces<D: Depot>(
+    alloc: Global,
+    depot: &mut D,
+    name: &str,
+    text: &str,
+    line: &mut String,
+) -> Said {
+    let stage = in_pieces(alloc, depot, name, text, line)?;
+    Ok(word_of(depot.commit(alloc, stage)?))
+}
+
+/// Commits a blob of two pieces and then puts the record, by the client of any container.
+fn put<D: Depot>(alloc: Global, depot: &mut D, name: &str, texts: &str) -> Said {
+    let (first, rest) = cut(texts);
+    let (second, text) = cut(rest);
+    let text = unquoted(text);
+    if first.len().checked_add(second.len()).is_none() {
+        return Err(CallError::Failed);
+    }
+    let (first, second, text) = (first.as_bytes(), second.as_bytes(), text.as_bytes());
+    match put_and_record(alloc, depot, name, first, second, text) {
+        Ok(commit) => Ok(word_of(commit)),
+        Err(PutError::Memory) => Err(CallError::Memory),
+        Err(PutError::Depot) => Err(CallError::Failed),
+        Err(PutError::Stage(_)) => Ok("stage failed"),
+    }
+}
+
+/// Takes away one blob, or two.
+fn remove<D: Depot>(alloc: Global, depot: &mut D, first: &str, second: &str) -> Said {
+    let mut names = Seq::new(alloc);
+    names.push(Text::from_str(alloc, first)?)?;
+    if !second.is_empty() {
+        names.push(Text::from_str(alloc, second)?)?;
+    }
+    depot.remove(&names)?;
+    Ok("ok")
+}
+
+fn swap<D: Depot>(alloc: Global, depot: &mut D, text: &str) -> Said {
+    depot.swap_record(alloc, text.as_bytes())?;
+    Ok("ok")
+}
+
+/// Says what reads of two bytes give, of which a failed one is `!`.
+fn say_reads<F: Fetch>(mut fetch: F, line: &mut String) {
+    let mut buf = [0u8; 2];
+    for _ in 0..20 {
+        match fetch.read(&mut buf) {
+            Ok(count) => say_bytes(line, &buf[..count]),
+            Err(_) => say(line, "!"),
+        }
+    }
+    if fetch.fault_count() > 0 {
+        say(line, " ");
+        say_faults(line, fetch.fault_count());
+    }
+}
+
+fn fetch<D: Depot>(alloc: Global, depot: &mut D, name: &str, line: &mut String) -> Said {
+    match depot.fetch(alloc, name)? {
+        Some(fetch) => {
+            say_reads(fetch, line);
+            Ok("")
+        }
+        None => Ok("none"),
+    }
+}
+
+fn list<D: Depot>(alloc: Global, depot: &mut D, line: &mut String) -> Said {
+    for listed in depot.list(alloc)?.as_slice() {
+        say(line, listed.name.as_str());
+        say(line, ":");
+        say_number(line, listed.length);
+        say(line, " ");
+    }
+    Ok("")
+}
+
+/// Says the text of the record after a word, or the other word where there is none.
+fn record<D: Depot>(
+    alloc: Global,
+    depot: &mut D,
+    words: (&str, &'static str),
+    line: &mut String,
+) -> Said {
+    let Some(text) = depot.read_record(alloc)? else {
+        return Ok(words.1);
+    };
+    say(line, words.0);
+    say_bytes(line, text.as_slice());
+    Ok("")
+}
+
+/// Says all names with their blobs, and the record where there is one.
+fn held<D: Depot>(alloc: Global, depot: &mut D, line: &mut String) -> Said {
+    for listed in depot.list(alloc)?.as_slice() {
+        say(line, listed.name.as_str());
+        say(line, "=");
+        fetch(alloc, depot, listed.name.as_str(), line)?;
+        say(line, " ");
+    }
+    record(alloc, depot, ("record=", ""), line)
+}
+
+/// A call that looks at what is there.
+fn look<D: Depot>(alloc: Global, depot: &mut D, call: &str, line: &mut String) -> Said {
+    let (verb, rest) = cut(call);
+    match verb {
+        "fetch" => fetch(alloc, depot, unquoted(rest), line),
+        "list" => list(alloc, depot, line),
+        "read-record" => record(alloc, depot, ("", "none"), line),
+        "held" => held(alloc, depot, line),
+        "faults" => {
+            say_number(line, depot.fault_count());
+            Ok("")
+        }
+        _ => Ok("no such call"),
+    }
+}
+
+/// A call.
+fn answer<D: Depot>(alloc: Global, depot: &mut D, call: &str, line: &mut String) -> Said {
+    let (verb, rest) = cut(call);
+    let (name, text) = cut(rest);
+    match verb {
+        "commit" => commit(alloc, depot, name, unquoted(text)),
+        "replace" => replace(alloc, depot, name, unquoted(text)),
+        "commit-pieces" => commit_pieces(alloc, depot, name, text, line),
+        "put" => put(alloc, depot, name, text),
+        "remove" => remove(alloc, depot, name, unquoted(text)),
+        "swap-record" => swap(alloc, depot, unquoted(rest)),
+        _ => look(alloc, depot, call, line),
+    }
+}
+
+fn say_answer(answer: Said, line: &mut String) {
+    match answer {
+        Ok(word) => say(line, word),
+        Err(CallError::Failed) => say(line, "failed"),
+        Err(CallError::Memory) => say(line, "no memory"),
+    }
+}
+
+/// Makes a call of a container, and says what it answers:
+///
+/// | Call | What it does | Answers |
+/// |---|---|---|
+/// | `commit NAME TEXT`, `replace NAME TEXT` | of a blob of the text, in one piece | `Done`, `Exists` or `ok` |
+/// | `commit-pieces NAME TEXT` | of a blob in the pieces of the text, with bars between them | each write, the faults of the stage, and the commit |
+/// | `put NAME FIRST SECOND TEXT` | commits a blob of two pieces, and swaps the record | `Done`, `Exists` or `stage failed` |
+/// | `remove NAME OTHER` | of one name, or of two | `ok` |
+/// | `swap-record TEXT` | | `ok` |
+/// | `fetch NAME` | by reads of two bytes, of which a failed one is `!` | the blob, or `none` |
+/// | `list` | | names with lengths |
+/// | `read-record` | | its text, or `none` |
+/// | `held` | lists, fetches each and reads the record | names with blobs, and the record where there is one |
+/// | `faults` | | how often the container has failed |
+///
+/// Each answers `failed` where a call of the container does.
+pub(crate) fn say_call<D: Depot>(alloc: Global, depot: &mut D, call: &str, line: &mut String) {
+    let answer = answer(alloc, depot, call, line);
+    say_answer(answer, line);
+}
+
+/// Says what is held.
+pub(crate) fn say_held<D: Depot>(alloc: Global, depot: &mut D, line: &mut String) {
+    say_call(alloc, depot, "held", line);
+}

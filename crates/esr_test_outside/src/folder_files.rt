@@ -1,0 +1,129 @@
+//! Sources and targets in folders, as a subject.
+use crate::address::{file_of, words_of};
+use crate::outside::{say_change, write_file};
+use crate::shards::say_open_shard;
+use crate::targets::say_target;
+use esr_dirsource::{DirSources, DirTargets};
+use esr_scenes::{Scene, Subject, Tally, cut, say};
+use esr_source::{Sources, Targets};
+use std::alloc::{AllocError, Global};
+use std::{fs, io};
+
+/// The folder in which scenes are played. It is empty when one begins.
+pub(crate) const FOLDER: &str = "files";
+
+/// Sources and targets in that folder, and the shard that was opened last. The calls are those of sources and targets in
+/// memory, but for failures, and `outside: ..`, which changes the folder.
+#[derive(Drop)]
+struct FolderFiles<'a, S: Sources, T> {
+    rt: &'a HostRuntime,
+    sources: S,
+    targets: T,
+    shard: Option<S::Shard>,
+}
+
+/// The place in the folder. An empty one stays so.
+pub(crate) fn place_in(alloc: Global, place: &str) -> Result<String, AllocError> {
+    if place.is_empty() {
+        return Ok(String::new(alloc));
+    }
+    format!(in alloc; "{FOLDER}/{place}")
+}
+
+/// Writes the files of a shard.
+pub(crate) fn write_files(rt: &HostRuntime, call: &str) -> io::Result<()> {
+    let words = words_of(call);
+    let (alloc, place, number) = (rt.alloc(), words.place, words.number);
+    for file in words.rest.split('|') {
+        let (name, text) = file_of(file);
+        let path = format!(in alloc; "{FOLDER}/{place}/{number}/{name}")?;
+        write_file(rt, path.as_str(), text)?;
+    }
+    Ok(())
+}
+
+/// Makes a file in a new target.
+pub(crate) fn say_new_target<T: Targets>(
+    alloc: Global,
+    targets: &T,
+    verb: &str,
+    call: &str,
+    line: &mut String,
+) -> io::Result<()> {
+    let words = words_of(call);
+    let place = place_in(alloc, words.place)?;
+    let mut target = targets.target(alloc, place.as_str(), words.index, words.number)?;
+    say_target(alloc, &mut target, verb, words.rest, line);
+    Ok(())
+}
+
+impl<'a, S: Sources, T: Targets> FolderFiles<'a, S, T> {
+    fn new(rt: &'a HostRuntime, sources: S, targets: T) -> FolderFiles<'a, S, T> {
+        FolderFiles {
+            rt,
+            sources,
+            targets,
+            shard: None,
+        }
+    }
+
+    fn open(&mut self, alloc: Global, call: &str) -> Result<(), AllocError> {
+        let words = words_of(call);
+        let place = place_in(alloc, words.place)?;
+        let shard = self
+            .sources
+            .shard(alloc, place.as_str(), words.index, words.number)?;
+        self.shard = Some(shard);
+        Ok(())
+    }
+
+    /// Makes a call that may want memory.
+    fn make(&mut self, alloc: Global, call: &str, line: &mut String) -> io::Result<()> {
+        let (verb, rest) = cut(call);
+        match verb {
+            "source" => write_files(self.rt, rest)?,
+            "shard" => self.open(alloc, rest)?,
+            _ => say_new_target(alloc, &self.targets, verb, rest, line)?,
+        }
+        Ok(())
+    }
+
+    /// Makes a call, and says what it answers.
+    fn answer(&mut self, alloc: Global, call: &str, line: &mut String) {
+        let (verb, rest) = cut(call);
+        match verb {
+            "outside:" => say_change(self.rt, alloc, FOLDER, rest, line),
+            "list" | "read" => say_open_shard(alloc, &mut self.shard, call, line),
+            _ => {
+                if self.make(alloc, call, line).is_err() {
+                    say(line, "the file system failed");
+                }
+            }
+        }
+    }
+}
+
+impl<'a> Subject for FolderFiles<'a, DirSources<'a, HostRuntime>, DirTargets<'a, HostRuntime>> {
+    fn call(&mut self, alloc: Global, call: &str, line: &mut String) {
+        self.answer(alloc, call, line);
+    }
+}
+
+/// Makes the folder anew.
+pub(crate) fn clear(rt: &HostRuntime) -> io::Result<()> {
+    let _ = fs::remove_dir_all(rt, FOLDER);
+    fs::create_dir_all(rt, FOLDER)
+}
+
+/// Plays a scene over sources and targets in a new folder.
+pub(crate) fn play_files_in_folder<'a>(
+    rt: &'a HostRuntime,
+    scene: Scene<'_>,
+    tally: &mut Tally,
+) -> io::Result<()> {
+    clear(rt)?;
+    let sources: DirSources<'a, HostRuntime> = DirSources::new(rt);
+    let targets: DirTargets<'a, HostRuntime> = DirTargets::new(rt);
+    let mut files = FolderFiles::new(rt, sources, targets);
+    tally.play(rt, rt.alloc(), scene, &mut files)
+}

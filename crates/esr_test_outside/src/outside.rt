@@ -1,0 +1,71 @@
+//! What is done in a folder from outside.
+use esr_scenes::{cut, say, unquoted};
+use std::alloc::Global;
+use std::os::unix::fs::symlink;
+use std::{fs, io};
+
+/// Writes a file, and makes the folders on the way to it.
+pub(crate) fn write_file(rt: &HostRuntime, path: &str, text: &str) -> io::Result<()> {
+    if let Some((folder, _)) = path.rsplit_once('/') {
+        fs::create_dir_all(rt, folder)?;
+    }
+    fs::write(rt, path, text)
+}
+
+/// Adds the text of a file.
+fn say_text(rt: &HostRuntime, path: &str, line: &mut String) -> io::Result<()> {
+    let text = fs::read_to_string(rt, path)?;
+    say(line, text.as_str());
+    Ok(())
+}
+
+fn change(
+    rt: &HostRuntime,
+    verb: &str,
+    path: &str,
+    text: &str,
+    line: &mut String,
+) -> io::Result<&'static str> {
+    match verb {
+        "exists" => return Ok(if fs::exists(rt, path)? { "yes" } else { "no" }),
+        "text" => {
+            say_text(rt, path, line)?;
+            return Ok("");
+        }
+        "write" => write_file(rt, path, text)?,
+        "link" => symlink(rt, text, path)?,
+        "remove" => fs::remove_file(rt, path)?,
+        "remove-folder" => fs::remove_dir(rt, path)?,
+        _ => return Ok("no such change"),
+    }
+    Ok("done")
+}
+
+/// Does in a folder what a call says, and adds what comes of it:
+///
+/// | Call | What it does | Answers |
+/// |---|---|---|
+/// | `exists PATH` | | `yes` or `no` |
+/// | `text PATH` | | the text of the file |
+/// | `write PATH TEXT` | writes a file, and makes the folders on the way | `done` |
+/// | `link PATH TEXT` | makes a symbolic link with this text | `done` |
+/// | `remove PATH`, `remove-folder PATH` | of a file; of an empty folder | `done` |
+///
+/// Each answers `failed` where the file system does. A path begins in the folder.
+pub(crate) fn say_change(
+    rt: &HostRuntime,
+    alloc: Global,
+    folder: &str,
+    call: &str,
+    line: &mut String,
+) {
+    let (verb, rest) = cut(call);
+    let (name, text) = cut(rest);
+    let Ok(path) = format!(in alloc; "{folder}/{name}") else {
+        return say(line, "no memory");
+    };
+    match change(rt, verb, path.as_str(), unquoted(text), line) {
+        Ok(word) => say(line, word),
+        Err(_) => say(line, "failed"),
+    }
+}

@@ -1,0 +1,12 @@
+//! Why a scene can't be played on.
+use std::fmt::Debug;
+
+/// Why a scene can't be played on, in words.
+#[derive(Clone, Copy)]
+pub struct Trouble(pub &'static str);
+
+impl<E: Debug + Drop> From<E> for Trouble {
+    fn from(_: E) -> Trouble {
+        Trouble("a step that is not refused")
+    }
+}

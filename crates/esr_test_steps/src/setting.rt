@@ -1,0 +1,139 @@
+//! Sources, commands, and what is looked for in a container in memory.
+ghost use Rattle.std.specs.Prelude.{◌≡◌, IfOk};
+ghost use Rattle.esr_progress.specs.Asked.{asked_of, IsAskable};
+
+use crate::errors::Trouble;
+use esr_depot::{Depot, Fetch};
+use esr_desk::{CloneDesk, Desk};
+use esr_names::{IndexName, IndexNames, SnapName};
+use esr_progress::{AskedIndex, Command};
+use esr_seq::{Seq, Text};
+use esr_source::{Address, MemFile, MemSource, MemSources};
+use std::alloc::{AllocError, Global};
+
+/// The files of a shard, from names and texts.
+fn files_of(alloc: Global, texts: &str) -> Result<Seq<MemFile>, AllocError> {
+    let mut files = Seq::new(alloc);
+    for text in texts.split_whitespace() {
+        let (name, bytes) = text.split_once('=').unwrap_or((text, ""));
+        files.push(MemFile::new(alloc, name, bytes.as_bytes())?)?;
+    }
+    Ok(files)
+}
+
+/// The shard of a line `PLACE INDEX NAME=TEXT ..`, which has the number 0.
+fn shard_of(alloc: Global, line: &str) -> Result<MemSource, AllocError> {
+    let (place, rest) = line.split_once(' ').unwrap_or((line, ""));
+    let (index, texts) = rest.split_once(' ').unwrap_or((rest, ""));
+    let files = files_of(alloc, texts)?;
+    let address = Address::new(alloc, place, index, 0)?;
+    Ok(MemSource { address, files })
+}
+
+/// The shards of the lines that begin with `=`.
+pub(crate) fn sources_of(alloc: Global, lines: &str) -> Result<MemSources, AllocError> {
+    let mut shards = Seq::new(alloc);
+    for line in lines.lines() {
+        if let Some(told) = line.strip_prefix("= ") {
+            shards.push(shard_of(alloc, told)?)?;
+        }
+    }
+    Ok(MemSources::new(shards, Seq::new(alloc)))
+}
+
+/// An index of one shard, from words such as `INDEX/PLACE`.
+fn index_of(alloc: Global, words: &str) -> Result<AskedIndex, Trouble>
+    ensures { IfOk result (λ a. a.shards ≡ 1) }
+{
+    let (name, place) = words.split_once('/').unwrap_or((words, ""));
+    Ok(AskedIndex {
+        name: IndexName::new(alloc, name)?,
+        shards: 1,
+        place: Text::from_str(alloc, place)?,
+    })
+}
+
+/// A snapshot of one index.
+fn snapshot_of(alloc: Global, name: &str, index: AskedIndex) -> Result<Command, Trouble>
+    requires { index.shards ≡ 1 }
+    ensures { IfOk result (λ c. IsAskable (asked_of c)) }
+{
+    let mut indices = Seq::new(alloc);
+    indices.push(index)?;
+    Ok(Command::Create {
+        name: SnapName::new(alloc, name)?,
+        indices,
+        moment: 0,
+    })
+}
+
+/// A snapshot of two indices.
+fn snapshot_of_two(
+    alloc: Global,
+    name: &str,
+    first: AskedIndex,
+    second: AskedIndex,
+) -> Result<Command, Trouble>
+    requires first { first.shards ≡ 1 }
+    requires second { second.shards ≡ 1 }
+    ensures { IfOk result (λ c. IsAskable (asked_of c)) }
+{
+    if first.name == second.name {
+        return Err(Trouble("two indices have one name"));
+    }
+    let mut indices = Seq::new(alloc);
+    indices.push(first)?;
+    indices.push(second)?;
+    Ok(Command::Create {
+        name: SnapName::new(alloc, name)?,
+        indices,
+        moment: 0,
+    })
+}
+
+/// Asks for a snapshot of one index or of two, by words such as `NAME INDEX/PLACE INDEX/PLACE`.
+pub(crate) fn ask_snapshot<Q: Desk>(
+    alloc: Global,
+    desk: &mut Q,
+    words: &str,
+) -> Result<(), Trouble> {
+    let (name, indices) = words.split_once(' ').unwrap_or((words, ""));
+    let Some((first, second)) = indices.split_once(' ') else {
+        let index = index_of(alloc, indices)?;
+        desk.ask(alloc, &snapshot_of(alloc, name, index)?)?;
+        return Ok(());
+    };
+    let first = index_of(alloc, first)?;
+    let second = index_of(alloc, second)?;
+    desk.ask(alloc, &snapshot_of_two(alloc, name, first, second)?)?;
+    Ok(())
+}
+
+/// Asks for a clone of all indices of a snapshot, by words such as `SOURCE NAME`.
+pub(crate) fn ask_clone<Q: CloneDesk>(
+    alloc: Global,
+    desk: &mut Q,
+    words: &str,
+) -> Result<(), Trouble> {
+    let (source, name) = words.split_once(' ').unwrap_or((words, ""));
+    let source = SnapName::new(alloc, source)?;
+    let name = SnapName::new(alloc, name)?;
+    let all = IndexNames::new(alloc);
+    desk.clone_snapshot(alloc, &source, &name, &all, 0)?;
+    Ok(())
+}
+
+/// The text of the blob of that name, or the front of a longer one.
+pub(crate) fn blob_text<D: Depot>(
+    alloc: Global,
+    depot: &mut D,
+    name: &str,
+) -> Result<Option<String>, Trouble> {
+    let Some(mut fetch) = depot.fetch(alloc, name)? else {
+        return Ok(None);
+    };
+    let mut buf = [0; 1024];
+    let count = fetch.read(&mut buf)?;
+    let text = str::from_utf8(&buf[..count]).unwrap_or("?");
+    Ok(Some(String::from_str(alloc, text)?))
+}

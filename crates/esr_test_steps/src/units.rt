@@ -1,0 +1,127 @@
+//! Units that are taken and worked by hand, on the desk of one thread.
+ghost use Rattle.std.specs.Prelude.{◌≡◌, true, Some, IfOk, OnOk};
+ghost use Rattle.esr_core.specs.Entry.{TakeStep};
+ghost use Rattle.esr_desk.specs.Grew.{GrewBy};
+ghost use Rattle.esr_desk.specs.Once.{HasMadeNone};
+ghost use Rattle.esr_desk.specs.Outcome.{Stepped, take_reply};
+ghost use Rattle.esr_desk.specs.Sources.{AreSources};
+ghost use Rattle.esr_desk.specs.Taken.{Took};
+
+use crate::errors::Trouble;
+use esr_depot::Depot;
+use esr_desk::{Desk, Unit};
+use esr_progress::Work;
+use esr_repo::Told;
+use esr_solo::Solo;
+use esr_source::{MemTarget, NoGate, Sources};
+use std::alloc::Global;
+
+/// The greatest size of a part in bytes.
+pub(crate) const PART_SIZE: u64 = 1 << 24;
+
+/// A word for what a unit does.
+fn word_of(work: &Work) -> &'static str {
+    match work {
+        Work::Shard { .. } => "shard",
+        Work::CloneShard { .. } => "clone",
+        Work::Finalize { .. } => "finalize",
+        _ => "other",
+    }
+}
+
+/// The next unit, which is to do what the word says.
+pub(crate) fn take<D: Depot, K: Told, S: Sources>(
+    alloc: Global,
+    desk: &mut Solo<D, K, S::Shard, MemTarget>,
+    word: &str,
+) -> Result<Unit, Trouble>
+    ensures took { IfOk result (λ u. Took K.start desk.new u) }
+    ensures new { IfOk result (λ u. HasMadeNone desk.new u.ready.ticket) }
+    ensures gave { IfOk result (λ u. Stepped K.start desk.old desk.new 0 TakeStep (take_reply (Some u))) }
+{
+    let Some(unit) = desk.take(alloc)? else {
+        return Err(Trouble("a unit that is ready"));
+    };
+    if let Work::RestoreShard { .. } = &unit.ready.work {
+        return Err(Trouble("a unit of no restore"));
+    }
+    if word_of(&unit.ready.work) != word {
+        return Err(Trouble("a unit that does what the word says"));
+    }
+    Ok(unit)
+}
+
+/// Works a unit that was taken.
+pub(crate) fn work_unit<D: Depot, K: Told, S: Sources>(
+    alloc: Global,
+    desk: &mut Solo<D, K, S::Shard, MemTarget>,
+    unit: &Unit,
+    sources: &S,
+) -> Result<(), Trouble>
+    requires fresh { Took K.start desk.old unit.now }
+    requires new { HasMadeNone desk.old unit.now.ready.ticket }
+    requires sources { AreSources K.start (S.files sources.now) (S.is_there sources.now) (S.is_quiet sources.now) }
+    requires size { PART_SIZE ≡ K.start.part_size }
+    ensures { OnOk result (GrewBy K.start unit.now.ready.ticket desk.old desk.new) }
+{
+    match &unit.ready.work {
+        Work::Shard { .. } => {
+            esr_upload::run_unit(alloc, desk, unit, sources, &NoGate, PART_SIZE)?;
+            Ok(())
+        }
+        Work::CloneShard { .. } => {
+            esr_clone::run_unit(alloc, desk, unit)?;
+            Ok(())
+        }
+        Work::Finalize { .. } => {
+            esr_finish::run_unit(alloc, desk, unit)?;
+            Ok(())
+        }
+        Work::Drop => Err(Trouble("an op that has not failed")),
+        _ => Err(Trouble("a unit of a snapshot or a clone")),
+    }
+}
+
+/// Takes the next unit and works it.
+pub(crate) fn work_next<D: Depot, K: Told, S: Sources>(
+    alloc: Global,
+    desk: &mut Solo<D, K, S::Shard, MemTarget>,
+    sources: &S,
+    word: &str,
+) -> Result<(), Trouble>
+    requires sources { AreSources K.start (S.files sources.now) (S.is_there sources.now) (S.is_quiet sources.now) }
+    requires size { PART_SIZE ≡ K.start.part_size }
+{
+    let unit = take::<D, K, S>(alloc, desk, word)?;
+    work_unit(alloc, desk, &unit, sources)
+}
+
+/// Takes the next unit and works it. The ticket of a unit that was taken before stays as it is.
+pub(crate) fn work_beside<D: Depot, K: Told, S: Sources>(
+    alloc: Global,
+    desk: &mut Solo<D, K, S::Shard, MemTarget>,
+    held: &Unit,
+    sources: &S,
+    word: &str,
+) -> Result<(), Trouble>
+    requires held { Took K.start desk.old held.now }
+    requires new { HasMadeNone desk.old held.now.ready.ticket }
+    requires sources { AreSources K.start (S.files sources.now) (S.is_there sources.now) (S.is_quiet sources.now) }
+    requires size { PART_SIZE ≡ K.start.part_size }
+    requires alone { K.start.alone ≡ true }
+    ensures held { OnOk result (Took K.start desk.new held.now) }
+    ensures new { OnOk result (HasMadeNone desk.new held.now.ready.ticket) }
+{
+    esr_quiet::other_tickets_stay();
+    let unit = take::<D, K, S>(alloc, desk, word)?;
+    if unit.ready.ticket == 0 {
+        return Err(Trouble("a ticket that has a number"));
+    }
+    if held.ready.ticket == 0 {
+        return Err(Trouble("a ticket that has a number"));
+    }
+    if unit.ready.ticket == held.ready.ticket {
+        return Err(Trouble("a ticket of its own"));
+    }
+    work_unit(alloc, desk, &unit, sources)
+}
