@@ -24,7 +24,7 @@ use esr_desk::{Desk, Look, UnitRefusal};
 use std::alloc::Global;
 
 /// What a check has read: so many listed snapshots, and so many blobs.
-#[derive(Clone, Copy, Debug, PartialEq, Eq)]
+#[derive(Clone, Copy, PartialEq, Eq)]
 pub struct Checked {
     pub snapshots: u64,
     pub blobs: u64,

@@ -3,13 +3,14 @@
 
 use esr_dirdepot::DirDepot;
 use esr_dirsource::{DirSources, DirTargets};
+use esr_meter::{Meter, MeterOut, MeterSources, MeterTargets};
 use esr_run::run;
 use esr_script::{Words, repo_place};
 use esr_seq::{Seq, Text};
 use esr_source::{NoGate, StdLines, StdOut};
 use std::alloc::AllocError;
 use std::env;
-use std::io::ErrorKind;
+use std::io::{ErrorKind, IsTerminal};
 use std::process::ExitCode;
 use std::rt::Clock;
 use std::sync::Wait;
@@ -43,24 +44,34 @@ fn words_of(rt: &HostRuntime) -> Result<Words, AllocError> {
     Ok(words)
 }
 
+/// Whether standard error is a terminal on which a line can be written over.
+fn has_terminal(rt: &HostRuntime) -> bool {
+    match env::var(rt, "TERM") {
+        Ok(kind) => rt.stderr().is_terminal() && kind.as_str() != "dumb",
+        Err(_) => false,
+    }
+}
+
 /// Carries out what the words ask for, and answers the exit status. `waits` is the same runtime, by which workers wait.
 fn status_of(rt: &HostRuntime, waits: &impl Wait) -> Result<u8, AllocError> {
     let alloc = rt.alloc();
     let words = words_of(rt)?;
     let dir = repo_place(alloc, &words)?;
     let depot = DirDepot::new(rt, alloc, dir.as_str())?;
+    let meter = Meter::new(rt, has_terminal(rt));
     let ended = run(
         waits,
         alloc,
         &words,
         &mut StdLines::new(rt.stdin()),
         depot,
-        &DirSources::new(rt),
-        &DirTargets::new(rt),
+        &MeterSources::new(&meter, DirSources::new(rt)),
+        &MeterTargets::new(&meter, DirTargets::new(rt)),
         &NoGate,
         moment_of(rt),
-        &mut StdOut::new(rt.stdout()),
+        &mut MeterOut::new(&meter, StdOut::new(rt.stdout())),
     );
+    meter.clear();
     Ok(ended.status)
 }
 

@@ -5,13 +5,13 @@ use Rattle.std.proofs.lemmas.Bool.{le-ltb}
 use Rattle.esr_model.specs.Names.{BlobName}
 use Rattle.esr_model.specs.Values.{Has}
 use Rattle.esr_core.specs.After.{or_else}
-use Rattle.esr_core.specs.Entry.{Refusal, NameInUse, TooMany, NoSnapshot, BeingDeleted, CloneRunning, RestoreRunning, Entry}
+use Rattle.esr_core.specs.Entry.{Refusal, NameInUse, TooMany, NoSnapshot, NoIndex, BeingDeleted, CloneRunning, RestoreRunning, Entry}
 use Rattle.esr_script.specs.declared.item.Item.{Item}
 use Rattle.esr_script.specs.declared.item.Item.TheVariants as items
 use Rattle.esr_script.specs.declared.item.ScriptLine.{ScriptLine}
 use Rattle.esr_report.specs.Replies.{Reply, Made, Deleted, Restored, Waited, Listed, Checked, Verified, Refused, Aborted, fails_swap, has_fallen, wait_reply, end_reply, replies}
 use Rattle.esr_report.specs.Status.{is_deposed, damaged_name, first_damaged, is_spent, are_ok, AllOk, SomeRefused, SwapFailed, ending_by, ending}
-use Rattle.esr_quiet.specs.Refusals.{RefusesSnapshot, RefusesRestore, RefusesDelete}
+use Rattle.esr_quiet.specs.Refusals.{RefusesSnapshot, RefusesRestore, RefusesClone, RefusesDelete}
 use Rattle.esr_complete.specs.Answers.{IsAnswer, AreAnsweredIn, AreAnswered, EndsWell}
 use Rattle.esr_complete.proofs.Facts.{Fact}
 
@@ -20,6 +20,7 @@ abbrev IsRuled : Refusal → Type 0
 IsRuled (NameInUse uuid) = Unit {0}
 IsRuled (TooMany limit) = Unit {0}
 IsRuled (NoSnapshot place) = Unit {0}
+IsRuled (NoIndex place) = Unit {0}
 IsRuled (BeingDeleted op) = Unit {0}
 IsRuled (CloneRunning op) = Unit {0}
 IsRuled (RestoreRunning op) = Unit {0}
@@ -35,6 +36,14 @@ ruled_restore (NoSnapshot place) h = tt
 ruled_restore (BeingDeleted op) h = tt
 ruled_restore (TooMany limit) h = tt
 ruled_restore refusal h = absurd h
+
+ruled_clone : (refusal : Refusal) → RefusesClone refusal → IsRuled refusal
+ruled_clone (NameInUse uuid) h = tt
+ruled_clone (NoSnapshot place) h = tt
+ruled_clone (BeingDeleted op) h = tt
+ruled_clone (NoIndex place) h = tt
+ruled_clone (TooMany limit) h = tt
+ruled_clone refusal h = absurd h
 
 ruled_delete : (refusal : Refusal) → RefusesDelete refusal → IsRuled refusal
 ruled_delete (NoSnapshot place) h = tt
@@ -60,6 +69,9 @@ fine_answer : (script : List ScriptLine) (item : Item) (reply : Reply) → IsAns
 fine_answer script (items.Snapshot name indices) (Made uuid) h = tt
 fine_answer script (items.Snapshot name indices) (Aborted by) h = tt
 fine_answer script (items.Snapshot name indices) (Refused refusal) h = ruled_snapshot refusal h
+fine_answer script (items.Clone source name indices) (Made uuid) h = tt
+fine_answer script (items.Clone source name indices) (Aborted by) h = tt
+fine_answer script (items.Clone source name indices) (Refused refusal) h = ruled_clone refusal h
 fine_answer script (items.Delete names) (Deleted op) h = tt
 fine_answer script (items.Delete names) (Refused refusal) h = ruled_delete refusal h
 fine_answer script (items.Restore name place) (Restored files bytes) h = tt
@@ -87,6 +99,7 @@ calm_reply Verified fine = record { undeposed = refl; undamaged = refl; unspent 
 calm_reply (Refused (NameInUse uuid)) fine = record { undeposed = refl; undamaged = refl; unspent = refl }
 calm_reply (Refused (TooMany limit)) fine = record { undeposed = refl; undamaged = refl; unspent = refl }
 calm_reply (Refused (NoSnapshot place)) fine = record { undeposed = refl; undamaged = refl; unspent = refl }
+calm_reply (Refused (NoIndex place)) fine = record { undeposed = refl; undamaged = refl; unspent = refl }
 calm_reply (Refused (BeingDeleted op)) fine = record { undeposed = refl; undamaged = refl; unspent = refl }
 calm_reply (Refused (CloneRunning op)) fine = record { undeposed = refl; undamaged = refl; unspent = refl }
 calm_reply (Refused (RestoreRunning op)) fine = record { undeposed = refl; undamaged = refl; unspent = refl }

@@ -2,7 +2,7 @@
 use Rattle.std.proofs.Common.{◌≡◌, ◌||◌, ℕ, Bool, true, false, true≢false, List, [], ◌∷◌, Option, Some, None, refl, sym, ap, ◌∙◌, subst, inl, inr}
 use Rattle.esr_model.specs.Values.{Bytes, Has}
 use Rattle.esr_core.specs.Entry as entry
-use Rattle.esr_core.specs.Entry.{AskedIndex, Asked, Snapshot, Clone, DeleteSnapshots, SettlePruned, Restore, Step, AskStep, SettleStep, LookStep, PruneStep, Refusal, NameInUse, TooMany, NoSnapshot, NoIndex, BeingDeleted, CloneRunning, RestoreRunning, Accepted, WasSettled, AcceptedRestore, Looked, Entry, Moment}
+use Rattle.esr_core.specs.Entry.{AskedIndex, CloneOf, Asked, Snapshot, Clone, DeleteSnapshots, SettlePruned, Restore, Step, AskStep, SettleStep, LookStep, PruneStep, Refusal, NameInUse, TooMany, NoSnapshot, NoIndex, BeingDeleted, CloneRunning, RestoreRunning, Accepted, WasSettled, AcceptedRestore, Looked, Entry, Moment}
 use Rattle.esr_core.specs.After.{or_else}
 use Rattle.esr_core.specs.Ready.{IsOpen}
 use Rattle.esr_core.specs.World.{World}
@@ -36,6 +36,7 @@ IsAnswerOf script item (Some reply) = IsAnswer script item reply
 pub record Fact (script : List ScriptLine) (all : List Entry) (e : Entry) : Type 0 where
   pub unfallen : fails_swap e.step e.reply ≡ false
   pub asked : (of : Bytes) (refs : List AskedIndex) (moment : ℕ) → e.step ≡ AskStep (Snapshot of refs moment) → (indices : List LineIndex) → IsAnswerOf script (items.Snapshot of indices) (ask_reply all e.reply)
+  pub cloned : (source of : Bytes) (names : List Bytes) (moment : ℕ) (taken : Option CloneOf) → e.step ≡ AskStep (Clone source of names moment taken) → (from : Bytes) (indices : List Bytes) → IsAnswerOf script (items.Clone from of indices) (ask_reply all e.reply)
   pub deleted : (names : List Bytes) → e.step ≡ AskStep (DeleteSnapshots names) → IsAnswerOf script (items.Delete names) (ask_reply all e.reply)
   pub restored : (of place : Bytes) → e.step ≡ AskStep (Restore of place) → (name at : Bytes) → IsAnswerOf script (items.Restore name at) (ask_reply all e.reply)
   pub looked : e.step ≡ LookStep → IsAnswerOf script items.List (look_reply e.reply)
@@ -72,7 +73,7 @@ unfallen_by step reply calm = refl
 abbrev pub AsksAll : List ScriptLine → List Entry → Type 0
 AsksAll script all = (e : Entry) (names : List Bytes) → Has all e → e.step ≡ AskStep (DeleteSnapshots names) → (line : ScriptLine) × Has script line × (line.item ≡ items.Delete names)
 
--- the snapshot of each that was accepted was made or aborted
+-- the snapshot or the clone of each that was accepted was made or aborted
 abbrev AreEnded : List Entry → Step → entry.Reply → Type 0
 AreEnded all step reply = (o : ℕ) → snapshot_of step reply ≡ Some o → (name : Bytes) × (name_by o step reply ≡ Some name) × (name_of_op all o ≡ Some name) × IsEnded all o (end_of_op all o [] all)
 
@@ -100,6 +101,23 @@ asked_by script all of refs moment (entry.Refused (NameInUse uuid)) indices calm
 asked_by script all of refs moment (entry.Refused (TooMany limit)) indices calm said asks ended = tt
 asked_by script all of refs moment (entry.Refused refusal) indices calm said asks ended = absurd calm
 asked_by script all of refs moment reply indices calm said asks ended = absurd said
+
+cloned_by : (script : List ScriptLine) (all : List Entry) (source of : Bytes) (names : List Bytes) (moment : ℕ) (taken : Option CloneOf) (reply : entry.Reply) (from : Bytes) (indices : List Bytes) → IsCalm reply (AskStep (Clone source of names moment taken))
+    → IsSaid (AskStep (Clone source of names moment taken)) reply → AsksAll script all → AreEnded all (AskStep (Clone source of names moment taken)) reply → IsAnswerOf script (items.Clone from of indices) (ask_reply all reply)
+cloned_by script all source of names moment (Some taken) (Accepted op) from indices calm said asks ended =
+    let (name, by, is, how) = ended op refl in
+    let same : of ≡ name = some_same of name (sym (choose_true _ _ _ (same_op op)) ∙ by) in
+    elim how [
+      | inl made ↦ subst (λ (a : Option Reply). IsAnswerOf script (items.Clone from of indices) (or_else a (deposed_by (has_fallen all)))) (sym made.is) tt
+      | inr aborted ↦ subst (λ (a : Option Reply). IsAnswerOf script (items.Clone from of indices) (or_else a (deposed_by (has_fallen all)))) (sym aborted.is) (subst (IsDeletedBy script) (sym same) (deleted_line script all op name (end_of_op all op [] all) asks is aborted))
+    ]
+cloned_by script all source of names moment taken (entry.Refused (NameInUse uuid)) from indices calm said asks ended = tt
+cloned_by script all source of names moment taken (entry.Refused (NoSnapshot at)) from indices calm said asks ended = tt
+cloned_by script all source of names moment taken (entry.Refused (BeingDeleted op)) from indices calm said asks ended = tt
+cloned_by script all source of names moment taken (entry.Refused (NoIndex at)) from indices calm said asks ended = tt
+cloned_by script all source of names moment taken (entry.Refused (TooMany limit)) from indices calm said asks ended = tt
+cloned_by script all source of names moment taken (entry.Refused refusal) from indices calm said asks ended = absurd calm
+cloned_by script all source of names moment taken reply from indices calm said asks ended = absurd said
 
 -- the delete of each that was accepted was carried out
 abbrev AreDeleted : List Entry → Step → entry.Reply → Type 0
@@ -136,6 +154,8 @@ fact_by script all e calm said asks ended deleted answered =
     record {
       unfallen = unfallen_by e.step e.reply calm;
       asked = λ of refs moment is indices. asked_by script all of refs moment e.reply indices (subst (IsCalm e.reply) is calm) (subst (λ (step : Step). IsSaid step e.reply) is said) asks (subst (λ (step : Step). AreEnded all step e.reply) is ended);
+      cloned = λ source of names moment taken is from indices.
+          cloned_by script all source of names moment taken e.reply from indices (subst (IsCalm e.reply) is calm) (subst (λ (step : Step). IsSaid step e.reply) is said) asks (subst (λ (step : Step). AreEnded all step e.reply) is ended);
       deleted = λ names is. deleted_by script all names e.reply (subst (IsCalm e.reply) is calm) (subst (λ (step : Step). IsSaid step e.reply) is said) (subst (λ (step : Step). AreDeleted all step e.reply) is deleted);
       restored = λ of place is name at. restored_by script all of place e.reply name at (subst (IsCalm e.reply) is calm) (subst (λ (step : Step). IsSaid step e.reply) is said) answered;
       looked = λ is. looked_by script e.reply (subst (λ (step : Step). IsSaid step e.reply) is said);

@@ -5,7 +5,7 @@ use Rattle.std.specs.FinMap as fin
 use Rattle.esr_model.specs.Values.{Bytes, Has, SnapInfo, ShardResult}
 use Rattle.esr_model.specs.Shelf.{Command}
 use Rattle.esr_core.specs.World.{World, Op, Deletion, Work, Finalize, Deleting, Drop, Swap, Ticket}
-use Rattle.esr_core.specs.Entry.{Snapshot, DeleteSnapshots, Restore, SettlePruned, Given, Step, AskStep, TakeStep, SettleStep, LookStep, PruneStep, Reply, Accepted, Gave, WasSettled, Looked, Refused, AcceptedRestore, Entry}
+use Rattle.esr_core.specs.Entry.{Snapshot, Clone, DeleteSnapshots, Restore, SettlePruned, Given, Step, AskStep, TakeStep, SettleStep, LookStep, PruneStep, Reply, Accepted, Gave, WasSettled, Looked, Refused, AcceptedRestore, Entry}
 use Rattle.esr_report.specs.Replies as report
 use Rattle.esr_report.specs.Replies.{op_by, op_of_ticket, uuid_of_unit, uuid_by, uuid_of_ticket, name_by, name_of_op, is_over, final_out, aborts_at}
 use Rattle.esr_core.proofs.Besides.{Aside}
@@ -18,6 +18,9 @@ abbrev pub IsSaid : Step → Reply → Type 0
 IsSaid (AskStep (Snapshot name indices moment)) (Accepted op) = Unit {0}
 IsSaid (AskStep (Snapshot name indices moment)) (Refused refusal) = Unit {0}
 IsSaid (AskStep (Snapshot name indices moment)) reply = ⊥
+IsSaid (AskStep (Clone source name indices moment (Some taken))) (Accepted op) = Unit {0}
+IsSaid (AskStep (Clone source name indices moment taken)) (Refused refusal) = Unit {0}
+IsSaid (AskStep (Clone source name indices moment taken)) reply = ⊥
 IsSaid (AskStep (DeleteSnapshots names)) (Accepted op) = Unit {0}
 IsSaid (AskStep (DeleteSnapshots names)) (Refused refusal) = Unit {0}
 IsSaid (AskStep (DeleteSnapshots names)) reply = ⊥
@@ -29,9 +32,10 @@ IsSaid LookStep (Looked snapshots safe) = Unit {0}
 IsSaid LookStep reply = ⊥
 IsSaid step reply = Unit {0}
 
--- the op as which a snapshot was accepted, and the one by which a delete is answered
+-- the op as which a snapshot or a clone was accepted, and the one by which a delete is answered
 abbrev pub snapshot_of : Step → Reply → Option ℕ
 snapshot_of (AskStep (Snapshot name indices moment)) (Accepted op) = Some op
+snapshot_of (AskStep (Clone source name indices moment (Some taken))) (Accepted op) = Some op
 snapshot_of step reply = None
 
 abbrev pub delete_of : Step → Reply → Option ℕ
@@ -71,7 +75,7 @@ pub record IsAbortedIn (es : List Entry) (o : ℕ) : Type 0 where
   pub answer : report.Reply
   pub aborts : aborts_at front o e ≡ Some answer
 
--- a snapshot was accepted as this op; or none was, nor will be
+-- a snapshot or a clone was accepted as this op; or none was, nor will be
 abbrev pub HasName : List Entry → ℕ → Type 0
 HasName es o = (name : Bytes) × (name_of_op es o ≡ Some name)
 
@@ -119,11 +123,11 @@ SettlesNamed es e = e.step ≡ SettleStep → e.reply ≡ WasSettled → (o : �
 abbrev pub PrunesNameless : List Entry → ℕ → Entry → Type 0
 PrunesNameless es next e = e.step ≡ PruneStep SettlePruned → e.reply ≡ WasSettled → (d : ℕ) × (op_of_ticket es e.who ≡ Some d) × IsNameless es next d
 
--- under this name the entry accepted a snapshot as the op
+-- under this name the entry accepted a snapshot or a clone as the op
 abbrev pub IsNamedBy : List Entry → ℕ → Entry → Type 0
 IsNamedBy es o e = (name : Bytes) × (name_by o e.step e.reply ≡ Some name) × (name_of_op es o ≡ Some name)
 
--- how it stands with an op as which a snapshot was accepted, and with one by which a delete is answered
+-- how it stands with an op as which a snapshot or a clone was accepted, and with one by which a delete is answered
 abbrev pub IsEndedOr : Ops → List Entry → ℕ → Type 0
 IsEndedOr ops es o = IsOpenIn ops o ⊎ (IsSettledIn es o ⊎ IsAbortedIn es o)
 
@@ -131,7 +135,7 @@ abbrev pub IsDeletedOr : Deletes → List Entry → ℕ → Type 0
 IsDeletedOr deletes es d = IsDeleteIn deletes d ⊎ IsPrunedIn es d
 
 -- The history tells the op of each ticket, the uuid of each that finalizes, the name of each open op, and the finalizations that are
--- out. Each op as which a snapshot was accepted is open, a ticket of it settled, or a delete aborted it; each by which a delete is
+-- out. Each op as which a snapshot or a clone was accepted is open, a ticket of it settled, or a delete aborted it; each by which a delete is
 -- answered is open, or its ticket settled. No op has failed.
 pub record Follows (deposed : Bool) (open_ops : Ops) (open_deletes : Deletes) (tickets : Tickets) (next next_op : ℕ) (es : List Entry) : Type 0 where
   pub live : deposed ≡ false

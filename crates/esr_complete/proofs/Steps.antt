@@ -65,6 +65,7 @@ plain_name o step reply plain = refl
 
 plain_snapshot : (step : Step) (reply : Reply) → IsPlain reply step → snapshot_of step reply ≡ None
 plain_snapshot (AskStep (Snapshot name indices time)) (Accepted op) plain = absurd plain
+plain_snapshot (AskStep (Clone source name names time (Some taken))) (Accepted op) plain = absurd plain
 plain_snapshot step reply plain = refl
 
 plain_delete : (step : Step) (reply : Reply) → IsPlain reply step → delete_of step reply ≡ None
@@ -288,7 +289,7 @@ module _ (f : Formats) (size : ℕ) (w : World) (es : List Entry) (h : FollowsIn
   clones_next : (source name : Bytes) (names : List Bytes) (time : ℕ) (taken : CloneOf) → FollowsIn (asked w (Clone source name names time (Some taken))) (es ++ told 0 (AskStep (Clone source name names time (Some taken))) (Accepted w.next_op) ∷ [])
   clones_next source name names time taken =
       goes_on w.deposed w.ops (fin.insert w.ops w.next_op op) w.deletes w.deletes w.tickets w.tickets w.next_ticket w.next_op (suc w.next_op) es x h one told_ops (deletes_stay (suc w.next_op) x one) (kin_same w.tickets) (out_same w.tickets x) (λ o named was. inl (stands_on w.ops w.next_op op o was))
-      (λ d nameless was. inl was) (λ o e. absurd (none_some o e)) (λ d e. absurd (none_some d e))
+      (λ d nameless was. inl was) (λ o e. subst (λ (n : ℕ). IsNamedBy (es ++ x ∷ []) n x × IsOpenIn (fin.insert w.ops w.next_op op) n) (some_one w.next_op o e) ((name, choose_true _ _ _ (same_op w.next_op), named), stands_at w.ops w.next_op op)) (λ d e. absurd (none_some d e))
     where
       op : Op
       op = cloned_op w name time taken

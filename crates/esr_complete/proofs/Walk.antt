@@ -1,8 +1,8 @@
 -- The replies along the lines.
 use Rattle.std.proofs.Common.{◌≡◌, ℕ, Bool, true, false, ◌||◌, if◌then◌else◌, List, [], ◌∷◌, ◌++◌, Option, Some, None, map, option_map, refl, sym, ap, ◌∙◌, subst, inl, inr}
-use Rattle.esr_model.specs.Values.{Has}
+use Rattle.esr_model.specs.Values.{Bytes, Has}
 use Rattle.esr_core.specs.Entry as entry
-use Rattle.esr_core.specs.Entry.{Asked, Clone, DeleteSnapshots, AsksNoClone, Restore, CheckedAll, DrawTest, VerifiedAll, Step, AskStep, LookStep, ReadStep, Entry, Moment}
+use Rattle.esr_core.specs.Entry.{Asked, CloneOf, Clone, DeleteSnapshots, AsksNoClone, Restore, CheckedAll, DrawTest, VerifiedAll, Step, AskStep, LookStep, ReadStep, Entry, Moment}
 use Rattle.esr_script.specs.declared.item.Item.{Item}
 use Rattle.esr_script.specs.declared.item.Item.TheVariants as items
 use Rattle.esr_script.specs.declared.item.ScriptLine.{ScriptLine}
@@ -17,48 +17,24 @@ use Rattle.esr_complete.proofs.Facts.{IsAnswerOf, Fact}
 
 abbrev steps_asked : List Entry → List Step
 steps_asked [] = []
-steps_asked (e ∷ es) = if is_asked e then e.step ∷ steps_asked es else steps_asked es
+steps_asked (e ∷ es) = if is_asked e then as_asked e.step ∷ steps_asked es else steps_asked es
 
--- no step is a clone's
-abbrev NoClones : List Step → Type 0
-NoClones [] = Unit {0}
-NoClones (step ∷ steps) = AsksNoClone step × NoClones steps
-
-clones_both : (a b : List Step) → NoClones a → NoClones b → NoClones (a ++ b)
-clones_both [] b of_a of_b = of_b
-clones_both (step ∷ a) b of_a of_b = (of_a.0, clones_both a b of_a.1 of_b)
-
--- no known line asks for one
-known_item : (moment : ℕ) (item : Item) → IsKnown item → NoClones (steps_of_item moment item)
-known_item moment (items.Snapshot name indices) known = ((λ source called names when taken e. cc), tt)
-known_item moment (items.Delete called) known = ((λ source name names when taken e. cc), tt)
-known_item moment (items.Restore name place) known = ((λ source called names when taken e. cc), tt)
-known_item moment items.Wait known = tt
-known_item moment items.List known = ((λ source called names when taken e. cc), tt)
-known_item moment items.Check known = ((λ source called names when taken e. cc), tt)
-known_item moment items.Verify known = ((λ source called names when taken e. cc), tt)
-known_item moment item known = absurd known
-
-known_steps : (moment : ℕ) (lines : List ScriptLine) → AreKnown lines → NoClones (steps_of moment lines)
-known_steps moment [] known = tt
-known_steps moment (line ∷ lines) known = clones_both (steps_of_item moment line.item) (steps_of moment lines) (known_item moment line.item known.0) (known_steps moment lines known.1)
+asked_same : (log : List Moment) → steps_asked (entries_of log) ≡ asked_steps log
+asked_same [] = refl
+asked_same (m ∷ log) = ap (λ (l : List Step). if is_asked m.entry then as_asked m.entry.step ∷ l else l) (asked_same log)
 
 -- a step that is no clone's is asked for as it is
 asked_as : (x step : Step) → AsksNoClone step → as_asked x ≡ step → x ≡ step
 asked_as (AskStep (Clone source name indices moment taken)) step plain e = absurd (plain source name indices moment None (sym e))
 asked_as x step plain e = e
 
-one_same : (b : Bool) (x : Step) (exact told steps : List Step) → NoClones steps → (if b then as_asked x ∷ told else told) ≡ steps → ((rest : List Step) → NoClones rest → told ≡ rest → exact ≡ rest) → (if b then x ∷ exact else exact) ≡ steps
-one_same true x exact told [] plain e on = cc
-one_same true x exact told (step ∷ steps) plain e on =
-    let here : as_asked x ≡ step = cc in
-    let later : told ≡ steps = cc in
-    ap (λ (y : Step). y ∷ exact) (asked_as x step plain.0 here) ∙ ap (λ (l : List Step). step ∷ l) (on steps plain.1 later)
-one_same false x exact told steps plain e on = on steps plain e
+-- the entry asks for this clone, and tells what it takes
+abbrev AsksClone : Bytes → Bytes → List Bytes → ℕ → Entry → Type 0
+AsksClone source name indices moment e = (taken : Option CloneOf) × (e.step ≡ AskStep (Clone source name indices moment taken))
 
-asked_same : (log : List Moment) (steps : List Step) → NoClones steps → asked_steps log ≡ steps → steps_asked (entries_of log) ≡ steps
-asked_same [] steps plain e = e
-asked_same (m ∷ log) steps plain e = one_same (is_asked m.entry) m.entry.step (steps_asked (entries_of log)) (asked_steps log) steps plain e (λ rest of_rest same. asked_same log rest of_rest same)
+asked_clone : (source name : Bytes) (indices : List Bytes) (moment : ℕ) (x : Step) → as_asked x ≡ AskStep (Clone source name indices moment None) → (taken : Option CloneOf) × (x ≡ AskStep (Clone source name indices moment taken))
+asked_clone source name indices moment (AskStep (Clone of called names time taken)) e = let same : AskStep (Clone of called names time None) ≡ AskStep (Clone source name indices moment None) = e in (taken, cc)
+asked_clone source name indices moment x e = (None, e)
 
 module _ (script : List ScriptLine) where
   -- ---- the next entry of a line
@@ -109,11 +85,11 @@ module _ (script : List ScriptLine) where
       }
 
   -- what is asked for by an entry, and what isn't
-  asked_first : (x : Entry) (es : List Entry) (step : Step) (more : List Step) → is_asked x ≡ true → steps_asked (x ∷ es) ≡ step ∷ more → (x.step ≡ step) × (steps_asked es ≡ more)
-  asked_first x es step more asked e = heads x.step step (steps_asked es) more (sym (ap (λ (b : Bool). if b then x.step ∷ steps_asked es else steps_asked es) asked) ∙ e)
+  asked_first : (x : Entry) (es : List Entry) (step : Step) (more : List Step) → is_asked x ≡ true → steps_asked (x ∷ es) ≡ step ∷ more → (as_asked x.step ≡ step) × (steps_asked es ≡ more)
+  asked_first x es step more asked e = heads (as_asked x.step) step (steps_asked es) more (sym (ap (λ (b : Bool). if b then as_asked x.step ∷ steps_asked es else steps_asked es) asked) ∙ e)
 
   asked_later : (x : Entry) (es : List Entry) (steps : List Step) → is_asked x ≡ false → steps_asked (x ∷ es) ≡ steps → steps_asked es ≡ steps
-  asked_later x es steps asked e = sym (ap (λ (b : Bool). if b then x.step ∷ steps_asked es else steps_asked es) asked) ∙ e
+  asked_later x es steps asked e = sym (ap (λ (b : Bool). if b then as_asked x.step ∷ steps_asked es else steps_asked es) asked) ∙ e
 
   ask_no_read : (command : Asked) → IsNoRead (AskStep command)
   ask_no_read command read e = cc
@@ -122,13 +98,18 @@ module _ (script : List ScriptLine) where
   look_no_read read e = cc
 
   -- a line that asks for a step which reads nothing is answered by it
-  next_line : (all : List Entry) (step : Step) (more : List Step) (kinds : List Bool) (rest : List Entry) → ((x : Entry) → Has rest x → Fact script all x) → IsNoRead step → InTurn Idle (false ∷ kinds) rest → steps_asked rest ≡ step ∷ more → Next all rest (λ e. e.step ≡ step) more kinds
-  next_line all step more kinds rest facts aside (IsLine own x es asked line read turn) e =
+  next_line : (all : List Entry) (P : Entry → Type 0) (step : Step) (more : List Step) (kinds : List Bool) (rest : List Entry) → ((x : Entry) → Has rest x → Fact script all x) → IsNoRead step → ((x : Entry) → as_asked x.step ≡ step → P x) → InTurn Idle (false ∷ kinds) rest → steps_asked rest ≡ step ∷ more
+      → Next all rest P more kinds
+  next_line all P step more kinds rest facts aside own_is (IsLine own x es asked line read turn) e =
       let both = asked_first x es step more asked e in
-      next_is all (λ y. y.step ≡ step) more kinds x es facts line both.0 both.1 turn
-  next_line all step more kinds rest facts aside (IsDraw own x es asked line draw turn) e = absurd (aside DrawTest (sym (asked_first x es step more asked e).0 ∙ draw))
-  next_line all step more kinds rest facts aside (IsAside now own x es asked line turn) e =
-      next_later all (λ y. y.step ≡ step) more kinds x es line (next_line all step more kinds es (λ y has. facts y (inr has)) aside turn (asked_later x es (step ∷ more) asked e))
+      next_is all P more kinds x es facts line (own_is x both.0) both.1 turn
+  next_line all P step more kinds rest facts aside own_is (IsDraw own x es asked line draw turn) e = absurd (aside DrawTest (sym (asked_first x es step more asked e).0 ∙ ap as_asked draw))
+  next_line all P step more kinds rest facts aside own_is (IsAside now own x es asked line turn) e =
+      next_later all P more kinds x es line (next_line all P step more kinds es (λ y has. facts y (inr has)) aside own_is turn (asked_later x es (step ∷ more) asked e))
+
+  -- by this step, where it is no clone's
+  next_same : (all : List Entry) (step : Step) (more : List Step) (kinds : List Bool) (rest : List Entry) → ((x : Entry) → Has rest x → Fact script all x) → IsNoRead step → AsksNoClone step → InTurn Idle (false ∷ kinds) rest → steps_asked rest ≡ step ∷ more → Next all rest (λ e. e.step ≡ step) more kinds
+  next_same all step more kinds rest facts aside plain turn e = next_line all (λ y. y.step ≡ step) step more kinds rest facts aside (λ x same. asked_as x.step step plain same) turn e
 
   -- a verification has ended well
   abbrev IsVerified : Entry → Type 0
@@ -141,7 +122,7 @@ module _ (script : List ScriptLine) where
 
   -- so is the line that asks for its draw
   next_verified : (all : List Entry) (more : List Step) (kinds : List Bool) (rest : List Entry) → ((x : Entry) → Has rest x → Fact script all x) → InTurn Idle (false ∷ kinds) rest → steps_asked rest ≡ ReadStep DrawTest ∷ more → Next all rest IsVerified more kinds
-  next_verified all more kinds rest facts (IsLine own x es asked line read turn) e = absurd (read DrawTest (asked_first x es (ReadStep DrawTest) more asked e).0)
+  next_verified all more kinds rest facts (IsLine own x es asked line read turn) e = absurd (read DrawTest (asked_as x.step (ReadStep DrawTest) (λ source name names when taken same. cc) (asked_first x es (ReadStep DrawTest) more asked e).0))
   next_verified all more kinds rest facts (IsDraw own x es asked line draw turn) e =
       next_later all IsVerified more kinds x es line (next_end all more kinds es (λ y has. facts y (inr has)) turn (asked_first x es (ReadStep DrawTest) more asked e).1)
   next_verified all more kinds rest facts (IsAside now own x es asked line turn) e =
@@ -264,26 +245,32 @@ module _ (script : List ScriptLine) where
       (if is_wait item then wait_reply (false || falls_before rest) ∷ replies_from all lines false rest else and_more (line_reply item all (from_item item rest)) (replies_from all lines (false || (falls_before rest || falls_first (from_item item rest)))))
   walk_item all rest moment (items.Snapshot name indices) lines facts known turn e on =
       let step : Step = AskStep (command_of_line name indices moment) in
-      let n = next_line all step (steps_of moment lines) (kinds_of lines) rest facts (ask_no_read (command_of_line name indices moment)) turn e in
+      let n = next_same all step (steps_of moment lines) (kinds_of lines) rest facts (ask_no_read (command_of_line name indices moment)) (λ source called names when taken same. cc) turn e in
       by_entry all rest (items.Snapshot name indices) lines (λ x. x.step ≡ step) (steps_of moment lines) (kinds_of lines) refl facts n
       (subst (λ (x : Step). IsAnswerOf script (items.Snapshot name indices) (answer_at all x n.e.reply)) (sym n.own) (n.fact.asked name (map index_of_line indices) moment n.own indices))
       (on n.es n.facts n.turn n.more_is)
+  walk_item all rest moment (items.Clone source name indices) lines facts known turn e on =
+      let step : Step = AskStep (Clone source name indices moment None) in
+      let n = next_line all (AsksClone source name indices moment) step (steps_of moment lines) (kinds_of lines) rest facts (ask_no_read (Clone source name indices moment None)) (λ x same. asked_clone source name indices moment x.step same) turn e in
+      by_entry all rest (items.Clone source name indices) lines (AsksClone source name indices moment) (steps_of moment lines) (kinds_of lines) refl facts n
+      (subst (λ (x : Step). IsAnswerOf script (items.Clone source name indices) (answer_at all x n.e.reply)) (sym n.own.1) (n.fact.cloned source name indices moment n.own.0 n.own.1 source indices))
+      (on n.es n.facts n.turn n.more_is)
   walk_item all rest moment (items.Delete names) lines facts known turn e on =
       let step : Step = AskStep (DeleteSnapshots names) in
-      let n = next_line all step (steps_of moment lines) (kinds_of lines) rest facts (ask_no_read (DeleteSnapshots names)) turn e in
+      let n = next_same all step (steps_of moment lines) (kinds_of lines) rest facts (ask_no_read (DeleteSnapshots names)) (λ source called indices when taken same. cc) turn e in
       by_entry all rest (items.Delete names) lines (λ x. x.step ≡ step) (steps_of moment lines) (kinds_of lines) refl facts n
       (subst (λ (x : Step). IsAnswerOf script (items.Delete names) (answer_at all x n.e.reply)) (sym n.own) (n.fact.deleted names n.own))
       (on n.es n.facts n.turn n.more_is)
   walk_item all rest moment (items.Restore name place) lines facts known turn e on =
       let step : Step = AskStep (Restore name place) in
-      let n = next_line all step (steps_of moment lines) (kinds_of lines) rest facts (ask_no_read (Restore name place)) turn e in
+      let n = next_same all step (steps_of moment lines) (kinds_of lines) rest facts (ask_no_read (Restore name place)) (λ source called names when taken same. cc) turn e in
       by_entry all rest (items.Restore name place) lines (λ x. x.step ≡ step) (steps_of moment lines) (kinds_of lines) refl facts n
       (subst (λ (x : Step). IsAnswerOf script (items.Restore name place) (answer_at all x n.e.reply)) (sym n.own) (n.fact.restored name place n.own name place))
       (on n.es n.facts n.turn n.more_is)
   walk_item all rest moment items.Wait lines facts known turn e on =
       subst (λ (b : Bool). IsFirst items.Wait lines (wait_reply (false || b) ∷ replies_from all lines false rest)) (sym (unfallen_before all rest facts)) (tt, on rest facts turn e)
   walk_item all rest moment items.List lines facts known turn e on =
-      let n = next_line all LookStep (steps_of moment lines) (kinds_of lines) rest facts look_no_read turn e in
+      let n = next_same all LookStep (steps_of moment lines) (kinds_of lines) rest facts look_no_read (λ source called names when taken same. cc) turn e in
       by_entry all rest items.List lines (λ x. x.step ≡ LookStep) (steps_of moment lines) (kinds_of lines) refl facts n
       (subst (λ (x : Step). IsAnswerOf script items.List (answer_at all x n.e.reply)) (sym n.own) (n.fact.looked n.own))
       (on n.es n.facts n.turn n.more_is)
@@ -305,4 +292,4 @@ module _ (script : List ScriptLine) where
 pub answered_lines : (log : List Moment) (lines : List ScriptLine) (moment : ℕ) → AreKnown lines → ((x : Entry) → Has (entries_of log) x → Fact lines (entries_of log) x) → InTurn Idle (kinds_of lines) (entries_of log) → asked_steps log ≡ steps_of moment lines
     → AreAnswered lines (replies lines (entries_of log))
 unfolding replies
-answered_lines log lines moment known facts turn e = walk lines (entries_of log) moment lines (entries_of log) known facts turn (asked_same log (steps_of moment lines) (known_steps moment lines known) e)
+answered_lines log lines moment known facts turn e = walk lines (entries_of log) moment lines (entries_of log) known facts turn (asked_same log ∙ e)

@@ -11,7 +11,7 @@ use Rattle.esr_desk.specs.Start.{Start}
 use Rattle.esr_desk.specs.Grew.{NoneOut}
 use Rattle.esr_desk.specs.Last.{IsLast}
 use Rattle.esr_desk.specs.Readers.{reader_of}
-use Rattle.esr_quiet.specs.Refusals.{RefusesSnapshot, RefusesRestore, RefusesDelete}
+use Rattle.esr_quiet.specs.Refusals.{RefusesSnapshot, RefusesRestore, RefusesClone, RefusesDelete}
 
 -- no ticket of a restore is out
 abbrev pub NoReaderOut : Start → List Moment → Type 0
@@ -27,12 +27,15 @@ pub record IsIdle (s : Start) (log : List Moment) : Type 0 where
 abbrev pub IsDeletedBy : List ScriptLine → Bytes → Type 0
 IsDeletedBy script name = (line : ScriptLine) × (names : List Bytes) × Has script line × (line.item ≡ items.Delete names) × Has names name
 
--- The answer of a line of the script: a snapshot was made, or aborted by a delete for which the script asks, or snapshots were deleted, or
--- a restore has restored each shard, or a rule refused it; the safe root was checked; the container was verified.
+-- The answer of a line of the script: a snapshot or a clone was made, or aborted by a delete for which the script asks, or snapshots were
+-- deleted, or a restore has restored each shard, or a rule refused it; the safe root was checked; the container was verified.
 abbrev pub IsAnswer : List ScriptLine → Item → Reply → Type 0
 IsAnswer script (items.Snapshot name indices) (Made uuid) = Unit {0}
 IsAnswer script (items.Snapshot name indices) (Aborted by) = IsDeletedBy script name
 IsAnswer script (items.Snapshot name indices) (Refused refusal) = RefusesSnapshot refusal
+IsAnswer script (items.Clone source name indices) (Made uuid) = Unit {0}
+IsAnswer script (items.Clone source name indices) (Aborted by) = IsDeletedBy script name
+IsAnswer script (items.Clone source name indices) (Refused refusal) = RefusesClone refusal
 IsAnswer script (items.Delete names) (Deleted op) = Unit {0}
 IsAnswer script (items.Delete names) (Refused refusal) = RefusesDelete refusal
 IsAnswer script (items.Restore name place) (Restored files bytes) = Unit {0}

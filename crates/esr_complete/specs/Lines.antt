@@ -33,10 +33,10 @@ abbrev pub steps_of : ℕ → List ScriptLine → List Step
 steps_of moment [] = []
 steps_of moment (line ∷ lines) = steps_of_item moment line.item ++ steps_of moment lines
 
--- a snapshot, a delete, a restore, a wait, a list, a check or a verification; a clone is none of these, nor is a command that is not
--- there yet
+-- a snapshot, a clone, a delete, a restore, a wait, a list, a check or a verification, and no command that is not there yet
 abbrev pub IsKnown : Item → Type 0
 IsKnown (items.Snapshot name indices) = Unit {0}
+IsKnown (items.Clone source name indices) = Unit {0}
 IsKnown (items.Delete names) = Unit {0}
 IsKnown (items.Restore name place) = Unit {0}
 IsKnown items.Wait = Unit {0}

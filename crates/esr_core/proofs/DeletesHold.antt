@@ -113,7 +113,7 @@ list_read f listed (blob ∷ read) p was l e m none =
 
 -- ---- members
 
-has_filtered : {A : Type 0} (test : A → Bool) (xs : List A) (x : A) → Has xs x → test x ≡ true → Has (filter test xs) x
+pub has_filtered : {A : Type 0} (test : A → Bool) (xs : List A) (x : A) → Has xs x → test x ≡ true → Has (filter test xs) x
 has_filtered test [] x m e = absurd m
 has_filtered test (y ∷ ys) x (inl same) e = let own : test y ≡ true = ap test same ∙ e in rw own (inl same)
 has_filtered test (y ∷ ys) x (inr m) e = elim (bool_told (test y)) [
@@ -130,7 +130,7 @@ pub of_filtered : {A : Type 0} (test : A → Bool) (xs : List A) (x : A) → Has
 of_filtered test [] x m = absurd m
 of_filtered test (y ∷ ys) x m = was_filtered (test y) y x ys (filter test ys) (of_filtered test ys x) m
 
-any_of : {A : Type 0} (test : A → Bool) (xs : List A) (x : A) → Has xs x → test x ≡ true → list_any test xs ≡ true
+pub any_of : {A : Type 0} (test : A → Bool) (xs : List A) (x : A) → Has xs x → test x ≡ true → list_any test xs ≡ true
 any_of test [] x m e = absurd m
 any_of test (y ∷ ys) x m e = elim (bool_told (test y)) [
   | inl b ↦ rw b refl
@@ -258,7 +258,7 @@ fresh_is f read left (p ∷ shards) next i k now e = elim (pair_tells p.index i 
 
 -- ---- all of it
 
-not_none : (us : List ℕ) (u : ℕ) → Has us u → has_none us ≡ false
+pub not_none : (us : List ℕ) (u : ℕ) → Has us u → has_none us ≡ false
 not_none [] u m = absurd m
 not_none (x ∷ us) u m = refl
 

@@ -58,14 +58,14 @@ module _ (f : Formats) (w : World) (k : ℕ) (r : ShardResult) (new : World) (d 
   uuid_is : d.op.uuid ≡ d.t.uuid
   uuid_is = ap (λ (x : Op). x.uuid) (some_same _ _ (sym d.op_there ∙ law.op_there)) ∙ law.uuid_is
 
-  record IsNew (uuid index shard g : ℕ) : Type 0 where
-    uuid_new : uuid ≡ d.t.uuid
-    index_new : index ≡ r.index
-    shard_new : shard ≡ r.shard
-    g_new : g ≡ r.generation
+  pub record IsNew (uuid index shard g : ℕ) : Type 0 where
+    pub uuid_new : uuid ≡ d.t.uuid
+    pub index_new : index ≡ r.index
+    pub shard_new : shard ≡ r.shard
+    pub g_new : g ≡ r.generation
 
   -- what is done was done, or is the new one
-  done_was : (uuid index shard g : ℕ) → DoneAt ops_now uuid index shard g → DoneAt w.ops uuid index shard g ⊎ IsNew uuid index shard g
+  pub done_was : (uuid index shard g : ℕ) → DoneAt ops_now uuid index shard g → DoneAt w.ops uuid index shard g ⊎ IsNew uuid index shard g
   done_was uuid index shard g a = elim (get_was nat_cmp_total nat_cmp-IsAntisymmetric w.ops d.t.op op_now a.number a.op a.there) [
     | inr h ↦ inl (record { number = a.number; op = a.op; there = h.1; uuid_is = a.uuid_is; s = a.s; s_there = a.s_there; r = a.r; state = a.state; index_is = a.index_is; shard_is = a.shard_is; generation_is = a.generation_is })
     | inl h ↦

@@ -21,14 +21,14 @@ use Rattle.esr_core.proofs.Plans.{shard_reads, in_root, of_root_apart}
 
 -- ---- what isn't named is left, alone
 
-left_unnamed : (uuids : List ℕ) (ss : List RootSnap) (s : RootSnap) → Has (left_snaps uuids ss) s → names_uuid uuids s.uuid ≡ false
+pub left_unnamed : (uuids : List ℕ) (ss : List RootSnap) (s : RootSnap) → Has (left_snaps uuids ss) s → names_uuid uuids s.uuid ≡ false
 left_unnamed uuids [] s m = absurd m
 left_unnamed uuids (x ∷ ss) s m = elim (bool_told (names_uuid uuids x.uuid)) [
   | inl b ↦ left_unnamed uuids ss s (subst (λ (l : List RootSnap). Has l s) (choose_true _ _ _ b) m)
   | inr b ↦ elim (subst (λ (l : List RootSnap). Has l s) (choose_false _ _ _ b) m) [ inl e ↦ ap (λ (y : RootSnap). names_uuid uuids y.uuid) (sym e) ∙ b | inr later ↦ left_unnamed uuids ss s later ]
 ]
 
-uuid_unnamed : (uuids us : List ℕ) (u : ℕ) → Has (left_uuids uuids us) u → names_uuid uuids u ≡ false
+pub uuid_unnamed : (uuids us : List ℕ) (u : ℕ) → Has (left_uuids uuids us) u → names_uuid uuids u ≡ false
 uuid_unnamed uuids [] u m = absurd m
 uuid_unnamed uuids (v ∷ us) u m = elim (bool_told (names_uuid uuids v)) [
   | inl b ↦ uuid_unnamed uuids us u (subst (λ (l : List ℕ). Has l u) (choose_true _ _ _ b) m)
@@ -36,7 +36,7 @@ uuid_unnamed uuids (v ∷ us) u m = elim (bool_told (names_uuid uuids v)) [
 ]
 
 -- the uuids of the snapshots that are left are the uuids that are left
-left_listed : (uuids : List ℕ) (ss : List RootSnap) → map (λ (s : RootSnap). s.uuid) (left_snaps uuids ss) ≡ left_uuids uuids (map (λ (s : RootSnap). s.uuid) ss)
+pub left_listed : (uuids : List ℕ) (ss : List RootSnap) → map (λ (s : RootSnap). s.uuid) (left_snaps uuids ss) ≡ left_uuids uuids (map (λ (s : RootSnap). s.uuid) ss)
 left_listed uuids [] = refl
 left_listed uuids (x ∷ ss) = elim (bool_told (names_uuid uuids x.uuid)) [
   | inl b ↦ ap (map (λ (s : RootSnap). s.uuid)) (choose_true _ _ _ b) ∙ left_listed uuids ss ∙ sym (choose_true _ _ _ b)
@@ -118,7 +118,7 @@ pub data IsDoomed (f : Formats) (safe : ℕ) (old new : RootData) (uuids : List 
   APart : (p : PrunedShard) (was : ShardFiles) (e : FileEntry) (name : BlobName) → Has (gone_shards new old.indices) p → files_read f read p ≡ Some was → Has was.files e → (p.kept ≡ true → lists_file (listed_lists (uuids_of new) was.snapshots) e ≡ false)
       → Has (part_names p.index p.number e) name → IsDoomed f safe old new uuids read name
 
-both_true : (a b : Bool) → (a && b) ≡ true → (a ≡ true) × (b ≡ true)
+pub both_true : (a b : Bool) → (a && b) ≡ true → (a ≡ true) × (b ≡ true)
 both_true true b e = (refl, e)
 both_true false b e = absurd (clash false e refl)
 
@@ -389,7 +389,7 @@ module _ (f : Formats) (has : BlobName → Bytes → Type 0) (root : RootData) w
 -- ---- what is doomed
 
 -- a filter keeps what passes alone
-passed : {A : Type 0} (test : A → Bool) (xs : List A) (x : A) → Has (filter test xs) x → test x ≡ true
+pub passed : {A : Type 0} (test : A → Bool) (xs : List A) (x : A) → Has (filter test xs) x → test x ≡ true
 passed {A} test [] x m = absurd m
 passed {A} test (y ∷ ys) x m = elim (bool_told (test y)) [
   | inl b ↦ elim (subst (λ (l : List A). Has l x) (choose_true _ _ _ b) m) [ inl same ↦ ap test (sym same) ∙ b | inr later ↦ passed test ys x later ]

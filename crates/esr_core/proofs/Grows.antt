@@ -3,7 +3,7 @@ use Rattle.std.proofs.Common.{◌≡◌, ℕ, zero, suc, List, [], ◌∷◌, Op
 use Rattle.std.specs.FinMap.{FinMap}
 use Rattle.esr_model.specs.Places.{shelf_places}
 use Rattle.esr_model.specs.Names.{BlobName, Root, Snap, ShardIndex}
-use Rattle.esr_model.specs.Values.{Bytes, IndexRef, RootSnap, RootData, SnapInfo, FileEntry, ShardFiles, ShardResult, Formats}
+use Rattle.esr_model.specs.Values.{Bytes, IndexRef, RootSnap, RootData, SnapInfo, FileEntry, ShardFiles, ShardResult, Formats, files_told}
 use Rattle.esr_model.specs.Image.{Has, AllPairs, IsOne, Picked, ListsAs, SnapStands, RootStands}
 use Rattle.esr_model.specs.Shelf.{Shelved}
 use Rattle.esr_core.specs.World.{Op, ShardWork, Ticket}
@@ -48,7 +48,7 @@ module _ (f : Formats) (has now : BlobName → Bytes → Type 0) (func : IsOne n
       }
 
   files_kept : (source : Option ℕ) (index shard : ℕ) (s : ShardWork) (files : List FileEntry) → AreFilesOf f has source index shard s files → AreFilesOf f now source index shard s files
-  files_kept None index shard s files h = AllPairs-map (λ e file p. (p.0, file_kept f has now keeps index shard e file.1 p.1)) files (f.told s.place s.ref.name s.number) h
+  files_kept None index shard s files h = AllPairs-map (λ e file p. (p.0, file_kept f has now keeps index shard e file.1 p.1)) files (files_told f s.place s.ref.name s.number) h
   files_kept (Some u) index shard s files (was, reads, same) = (was, reads_kept f has now keeps _ _ _ reads, same)
 
   done_kept : (source : Option ℕ) (uuid : ℕ) (s : ShardWork) (r : ShardResult) → DoneStands f has source uuid s r → DoneStands f now source uuid s r

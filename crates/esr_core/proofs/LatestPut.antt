@@ -35,7 +35,7 @@ module _ (f : Formats) (w : World) (shelf : List Shelved) (l : Law f w shelf) (b
   abbrev now : BlobName → Bytes → Type 0
   now = Safely f blobs_now w.doomed
 
-  keeps : (m : BlobName) (b : Bytes) → HeldIn f w m b → now m b
+  pub keeps : (m : BlobName) (b : Bytes) → HeldIn f w m b → now m b
   keeps m b h = (at_kept f w.blobs blobs_now p m b h.0, h.1)
 
   or_own : (own : List (BlobName × Bytes)) (m : BlobName) (b : Bytes) → OrOwn (HeldIn f w) own m b → OrOwn now own m b

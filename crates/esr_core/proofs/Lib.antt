@@ -68,11 +68,14 @@ pub mod DeletionLaws
 pub mod Plans
 pub mod DoomedNames
 pub mod PruneTurns
+pub mod DoomsAll
 pub mod PruneFrames
 pub mod NoDeletes
 pub mod NoClones
 pub mod Moments
 pub mod Histories
+pub mod TidyTurns
+pub mod TidyHistories
 pub mod Left
 pub mod Example
 pub mod Naming

@@ -69,13 +69,13 @@ module _ (f : Formats) (w : World) (shelf : List Shelved) (l : Law f w shelf) wh
   -- ---- it settles
 
   module _ (k : ℕ) (s : SettlesDeletion f w k) (present : s.t.term ≡ w.term) where
-    law : DeleteLaw w.root w.ops w.deletes s.t (Some s.s)
+    pub law : DeleteLaw w.root w.ops w.deletes s.t (Some s.s)
     law = law_of k s.t s.uuids (Some s.s) s.may.out.there s.may.out.out s.may.unsettled present s.deleting.work
 
-    pruned : PruneLaw f (HeldIn f w) w.safe s.t s.uuids (Some s.s)
+    pub pruned : PruneLaw f (HeldIn f w) w.safe s.t s.uuids (Some s.s)
     pruned = l.pruned.unsettled k s.t s.uuids (Some s.s) s.may.out.there s.may.out.out s.may.unsettled present s.deleting.work
 
-    plan : IsPlanned f s.t.root s.t.read s.t.first s.uuids s.s
+    pub plan : IsPlanned f s.t.root s.t.read s.t.first s.uuids s.s
     plan = pruned.follows s.s refl s.commands
 
     unsettled : IsUnsettled f s.t s.s
@@ -84,14 +84,14 @@ module _ (f : Formats) (w : World) (shelf : List Shelved) (l : Law f w shelf) wh
     abbrev shards : List PrunedShard
     shards = pruned_shards f s.t.root s.uuids s.t.read
 
-    root_is : s.s.root ≡ deleted_root s.t.root s.uuids (pruned_shards f s.t.root s.uuids s.t.read) s.t.first
+    pub root_is : s.s.root ≡ deleted_root s.t.root s.uuids (pruned_shards f s.t.root s.uuids s.t.read) s.t.first
     root_is = ap (λ (x : Swap). x.root) plan.swap_is
 
-    once : IsOneEach s.t.root.indices
+    pub once : IsOneEach s.t.root.indices
     once = subst (λ (r : RootData). IsOneEach r.indices) (sym law.root_is) root_once
 
     -- its new shard indices are there
-    written : (name : BlobName) (bytes : Bytes) → Has (pruned_blobs f s.t.read (left_uuids s.uuids (uuids_of s.t.root)) s.t.first (pruned_shards f s.t.root s.uuids s.t.read)) (name, bytes) → HeldIn f w name bytes
+    pub written : (name : BlobName) (bytes : Bytes) → Has (pruned_blobs f s.t.read (left_uuids s.uuids (uuids_of s.t.root)) s.t.first (pruned_shards f s.t.root s.uuids s.t.read)) (name, bytes) → HeldIn f w name bytes
     written name bytes m =
         let own : Has s.s.own (name, bytes) = subst (λ (x : Swap). Has x.own (name, bytes)) (sym plan.swap_is) m in
         ((l.lawful.sound.rooted.tickets k s.t s.may.out.there).swaps s.s unsettled (inl present)).noted name bytes own (s.may.ready name bytes own)

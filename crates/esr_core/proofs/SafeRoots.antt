@@ -44,7 +44,7 @@ answered_safe f w k step (Refused DepotFault) image s e = fault_safe f w k step 
 answered_safe f w k step (Refused refusal) image s e = refl
 answered_safe f w k step reply image s e = done_safe f w k step reply image s e
 
-by_record : (f : Formats) (w : World) (m : Moment) (swaps : Bool) → swaps_record m.entry.step ≡ swaps → is_settle m.entry.step ≡ false → (after f w m).safe ≡ w.safe
+pub by_record : (f : Formats) (w : World) (m : Moment) (swaps : Bool) → swaps_record m.entry.step ≡ swaps → is_settle m.entry.step ≡ false → (after f w m).safe ≡ w.safe
 by_record f w m true s e = answered_safe f w m.entry.who m.entry.step m.entry.reply m.image s e
 by_record f w m false s e = ap (λ (c : ClusterRecord). c.ledger.safe) (record_stays f w m s)
 

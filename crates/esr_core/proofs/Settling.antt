@@ -141,7 +141,7 @@ module _ (f : Formats) (w : World) (shelf : List Shelved) (l : Lawful f w shelf)
   stands : RootStands f (HeldIn f w) s.root after
   stands = safe_root_stands f (HeldIn f w) (held_one f w) (suc n) s.root after rooted.kept.picked root_is
 
-  done_left : (uuid index shard g : ℕ) → DoneAt (fin.remove w.ops t.op) uuid index shard g → ⊥
+  pub done_left : (uuid index shard g : ℕ) → DoneAt (fin.remove w.ops t.op) uuid index shard g → ⊥
   done_left uuid index shard g a = no_done uuid index shard g
       (record { number = a.number; op = a.op; there = (left_in w.ops t.op a.number a.op a.there).1; uuid_is = a.uuid_is; s = a.s; s_there = a.s_there; r = a.r; state = a.state; index_is = a.index_is; shard_is = a.shard_is; generation_is = a.generation_is })
 

@@ -8,7 +8,7 @@ use Rattle.std.proofs.Math.Nat.{div-mul-le_self, le-div_iff_mul-le}
 use Rattle.std.specs.Cmp.Lexicographic.{nat_list_cmp_total}
 use Rattle.std.specs.FinMap as fin
 use Rattle.esr_model.specs.Names.{BlobName, ShardIndex}
-use Rattle.esr_model.specs.Values.{Bytes, Has, FileEntry, SnapList, ShardFiles, ShardResult, Formats}
+use Rattle.esr_model.specs.Values.{Bytes, Has, FileEntry, SnapList, ShardFiles, ShardResult, Formats, or_no_files, files_told}
 use Rattle.esr_model.specs.Shelf.{Shelved}
 use Rattle.esr_model.specs.Parts.{part_count, parts_from, part_names, AreFull}
 use Rattle.esr_model.specs.Places.{put_by}
@@ -294,7 +294,7 @@ files_stand f has i k size some base (file ∷ files) old next there =
         subst (λ o. ((entry_by f size next file o).physical ≡ file.0) × FileStands f has i k (entry_by f size next file o) file.1) (sym is) (physical, old e file (inl refl) m len digest)
 
 module _ (f : Formats) (size : ℕ) (w : World) (shelf : List Shelved) (l : Law f w shelf) (honest : IsHonest f w.blobs) (k : ℕ) (t : Ticket) (out : IsOut w k t) (r : ShardResult) (is : t.work ≡ Shard r.index r.shard)
-    (op : Op) (op_there : fin.get w.ops t.op ≡ Some op) (s : ShardWork) (s_there : Has op.shards s) (state : s.state ≡ Out k) (place_is : s.place ≡ t.place) (name_is : s.ref.name ≡ t.name) (no_source : op.source ≡ None) (b : DoneBy f size t r) (told_is : b.files ≡ f.told t.place t.name r.shard) where
+    (op : Op) (op_there : fin.get w.ops t.op ≡ Some op) (s : ShardWork) (s_there : Has op.shards s) (state : s.state ≡ Out k) (place_is : s.place ≡ t.place) (name_is : s.ref.name ≡ t.name) (no_source : op.source ≡ None) (b : DoneBy f size t r) (told_is : f.told t.place t.name r.shard ≡ Some b.files) where
   abbrev files : List (Bytes × Bytes)
   files = b.files
 
@@ -308,8 +308,11 @@ module _ (f : Formats) (size : ℕ) (w : World) (shelf : List Shelved) (l : Law 
       number_same a b c d e = cc
 
   -- they are those that the source tells
-  files_told : files ≡ f.told s.place s.ref.name s.number
-  files_told = told_is ∙ (λ j. f.told (sym place_is j) (sym name_is j) (sym number_is j))
+  of_place : files ≡ files_told f t.place t.name r.shard
+  of_place = λ j. or_no_files (sym told_is j)
+
+  are_told : files ≡ files_told f s.place s.ref.name s.number
+  are_told = of_place ∙ (λ j. files_told f (sym place_is j) (sym name_is j) (sym number_is j))
 
   abbrev entries : List FileEntry
   entries = entries_from f size b.base t.first files
@@ -357,7 +360,7 @@ module _ (f : Formats) (size : ℕ) (w : World) (shelf : List Shelved) (l : Law 
     | inl none ↦ absurd (subst (λ (h : ShardFiles). Has h.files e) (none_base none) m)
     | inr g ↦
         let (bytes, stands) = base_file g.0 g.1 e m in
-        let same : bytes ≡ file.1 = honest t.place t.name r.shard file r.index r.shard e bytes (subst (λ fs. Has fs file) told_is fm) stands (stands.len ∙ len) (stands.digest ∙ digest) in
+        let same : bytes ≡ file.1 = honest t.place t.name r.shard file r.index r.shard e bytes (subst (λ fs. Has fs file) of_place fm) stands (stands.len ∙ len) (stands.digest ∙ digest) in
         subst (FileStands f (At f w.blobs) r.index r.shard e) same stands
   ]
 
@@ -397,7 +400,7 @@ module _ (f : Formats) (size : ℕ) (w : World) (shelf : List Shelved) (l : Law 
         s_there = s_there;
         state = state;
         files = subst (λ o. AreFilesOf f (At f w.blobs) o r.index r.shard s entries) (sym no_source)
-            (subst (λ fs. AllPairs (λ (e : FileEntry) (file : Bytes × Bytes). (e.physical ≡ file.0) × FileStands f (At f w.blobs) r.index r.shard e file.1) entries fs) files_told
+            (subst (λ fs. AllPairs (λ (e : FileEntry) (file : Bytes × Bytes). (e.physical ≡ file.0) × FileStands f (At f w.blobs) r.index r.shard e file.1) entries fs) are_told
             (files_stand f (At f w.blobs) r.index r.shard size b.size b.base files old_file t.first (λ name bytes m. there name bytes (Has-left blobs _ (name, bytes) m))));
         new_is = e;
       }

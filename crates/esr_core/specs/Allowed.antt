@@ -393,13 +393,15 @@ Based f t index shard None base = base ≡ no_files
 Based f t index shard (Some g) base = (bytes : Bytes) × Has t.read (ShardIndex index shard g, bytes) × (f.shard_index.read bytes ≡ Some base)
 
 -- A shard is done: its ticket wrote the parts of the files that the base doesn't have, the snapshot of the shard and the
--- index under the last id that it drew, and nothing else. The files are those that the source tells, where it tells them.
+-- index under the last id that it drew, and nothing else. The files are those that the source tells, where it tells them; of a place
+-- that doesn't exist it tells none, and no shard of it is done.
 pub record DoneBy (f : Formats) (part_size : ℕ) (t : Ticket) (r : ShardResult) : Type 0 where
   pub size : 0 < part_size
   pub base : ShardFiles
   pub based : Based f t r.index r.shard t.base base
   pub files : List (Bytes × Bytes)
-  pub told : f.known t.place t.name r.shard ≡ true → files ≡ f.told t.place t.name r.shard
+  -- those of a place that exists
+  pub told : f.known t.place t.name r.shard ≡ true → f.told t.place t.name r.shard ≡ Some files
   pub generation : r.generation ≡ id_after f base t.first files
   pub drew : t.first + t.drawn ≡ suc r.generation
   pub wrote : (name : BlobName) (bytes : Bytes) → Has (shard_blobs f part_size base r.index r.shard t.uuid t.first files) (name, bytes) → Has t.wrote (name, bytes)

@@ -4,7 +4,7 @@ use Rattle.std.specs.Ordering.{nat_cmp}
 use Rattle.std.specs.FinMap.{FinMap}
 use Rattle.std.specs.FinMap as fin
 use Rattle.esr_model.specs.Names.{BlobName, Snap, ShardSnap, ShardIndex}
-use Rattle.esr_model.specs.Values.{Bytes, IndexRef, RootSnap, RootIndex, RootData, SnapInfo, FileEntry, ShardSnapshot, SnapList, ShardFiles, ShardResult, ReadsBack, Formats}
+use Rattle.esr_model.specs.Values.{Bytes, IndexRef, RootSnap, RootIndex, RootData, SnapInfo, FileEntry, ShardSnapshot, SnapList, ShardFiles, ShardResult, ReadsBack, Formats, files_told}
 use Rattle.esr_model.specs.Shelf.{Command}
 use Rattle.esr_model.specs.Places.{places, shelf_places}
 use Rattle.esr_model.specs.Image.{Has, AllPairs, RootIs, Reads, Generation, ListsAs, IndexStands, FileStands}
@@ -60,7 +60,7 @@ pub record Carries (f : Formats) (has : BlobName → Bytes → Type 0) (root : R
 
 -- the files of a shard: those that the sources tell, or of a clone those that another snapshot has of it
 abbrev pub AreFilesOf : Formats → (BlobName → Bytes → Type 0) → Option ℕ → ℕ → ℕ → ShardWork → List FileEntry → Type 0
-AreFilesOf f has None index shard s files = AllPairs (λ e file. (e.physical ≡ file.0) × FileStands f has index shard e file.1) files (f.told s.place s.ref.name s.number)
+AreFilesOf f has None index shard s files = AllPairs (λ e file. (e.physical ≡ file.0) × FileStands f has index shard e file.1) files (files_told f s.place s.ref.name s.number)
 AreFilesOf f has (Some source) index shard s files = (was : ShardSnapshot) × Reads has (ShardSnap index shard source) f.shard_snap was × (was.files ≡ files)
 
 -- a done shard of an op that copies this snapshot, or none

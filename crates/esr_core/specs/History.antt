@@ -1,7 +1,7 @@
 -- Histories with their images: which are legal, and which commands count.
 use Rattle.std.specs.Prelude.{◌≡◌, ℕ, ◌≤◌, Bool, true, false, nat_lt, ◌&&◌, length, if◌then◌else◌, List, [], ◌∷◌, ◌++◌, Option, Some, None}
 use Rattle.std.specs.FinMap as fin
-use Rattle.esr_model.specs.Values.{Bytes, Has, FileEntry, Formats}
+use Rattle.esr_model.specs.Values.{Bytes, Has, FileEntry, Formats, files_told}
 use Rattle.esr_model.specs.Shelf.{Command}
 use Rattle.esr_model.specs.Image.{Image, Blobs, At, FileStands}
 use Rattle.esr_core.specs.World.{World, Shard, Ticket, Swap, swap}
@@ -54,7 +54,7 @@ committed f safe w (m ∷ log) = commands_at f safe w m.entry.who m.entry.step m
 
 -- a file of the sources and one that stands in the container have equal bytes where they have equal length and digest
 abbrev pub IsHonest : Formats → Blobs → Type 0
-IsHonest f blobs = (place name : Bytes) (number : ℕ) (file : Bytes × Bytes) (i k : ℕ) (e : FileEntry) (bytes : Bytes) → Has (f.told place name number) file → FileStands f (At f blobs) i k e bytes
+IsHonest f blobs = (place name : Bytes) (number : ℕ) (file : Bytes × Bytes) (i k : ℕ) (e : FileEntry) (bytes : Bytes) → Has (files_told f place name number) file → FileStands f (At f blobs) i k e bytes
     → length bytes ≡ length file.1 → f.digest bytes ≡ f.digest file.1 → bytes ≡ file.1
 
 -- and so in each world of the history

@@ -25,4 +25,5 @@ pub mod History
 pub mod ReadEnds
 pub mod Left
 pub mod Refusing
+pub mod Tidy
 pub mod Example

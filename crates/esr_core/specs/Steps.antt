@@ -2,7 +2,7 @@
 use Rattle.std.specs.Prelude.{◌≡◌, ◌≢◌, Bool, ℕ, suc, ◌+◌, ◌<◌, ◌≤◌, ◌⊎◌, true, false, List, [], ◌∷◌, ◌++◌, length, Option, Some, None, map, if◌then◌else◌, ◌==◌, ◌&&◌}
 use Rattle.std.specs.FinMap as fin
 use Rattle.esr_model.specs.Names.{BlobName, Root, Latest, Snap, Meta, IndexMeta, ShardSnap, ShardIndex, File, Part, TestMaster, TestNode}
-use Rattle.esr_model.specs.Values.{Bytes, RootData, SnapInfo, FileEntry, SnapList, ShardFiles, ShardSnapshot, ShardResult, ReadsBack, Formats}
+use Rattle.esr_model.specs.Values.{Bytes, RootData, SnapInfo, FileEntry, SnapList, ShardFiles, ShardSnapshot, ShardResult, ReadsBack, Formats, files_told}
 use Rattle.esr_model.specs.Shelf.{Command}
 use Rattle.esr_model.specs.Image.{Blobs, Has, IsStored, At, Present, Reads, Lists, FileStands}
 use Rattle.esr_model.specs.Kept.{first_id}
@@ -228,7 +228,7 @@ IsToFetch t name =
 
 -- a clone's ticket draws one id, another at most one for each file of its source and one more
 abbrev pub MostDrawn : Formats → Ticket → ℕ → ℕ → Option ℕ → Type 0
-MostDrawn f t number n None = f.known t.place t.name number ≡ true → n ≤ suc (length (f.told t.place t.name number))
+MostDrawn f t number n None = f.known t.place t.name number ≡ true → n ≤ suc (length (files_told f t.place t.name number))
 MostDrawn f t number n (Some source) = n ≤ 1
 
 -- a blob that is there is fetched

@@ -4,7 +4,7 @@ use Rattle.std.specs.Ordering.{nat_cmp}
 use Rattle.std.specs.FinMap.{FinMap}
 use Rattle.std.specs.FinMap as fin
 use Rattle.esr_model.specs.Names.{BlobName, Snap, Meta, IndexMeta}
-use Rattle.esr_model.specs.Values.{Bytes, IndexRef, RootData, SnapInfo, RecordWork, Creating, Cloning, DeletingOf, Cleaning, Ledger, ClusterRecord, ShardResult, Formats}
+use Rattle.esr_model.specs.Values.{Bytes, IndexRef, RootData, SnapInfo, RecordWork, Creating, Cloning, DeletingOf, Cleaning, Ledger, ClusterRecord, ShardResult, Formats, files_told}
 use Rattle.esr_model.specs.Shelf.{ShelfShard, Shelved, Command, Create, Clone}
 use Rattle.esr_model.specs.Places.{comes_first, sorted_by}
 use Rattle.esr_model.specs.Kept.{first_id}
@@ -225,7 +225,7 @@ abbrev pub comes_first_of : ShardWork → ShardWork → Bool
 comes_first_of s z = comes_first (s.ref, s.number) (z.ref, z.number)
 
 abbrev pub shelved_shard : Formats → ShardWork → ShelfShard
-shelved_shard f s = record { index = s.ref.name; number = s.number; files = f.told s.place s.ref.name s.number }
+shelved_shard f s = record { index = s.ref.name; number = s.number; files = files_told f s.place s.ref.name s.number }
 
 -- what the op puts on the shelf: the files that the sources tell
 abbrev pub shelved_of : Formats → Op → Shelved

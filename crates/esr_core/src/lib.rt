@@ -14,6 +14,7 @@ ghost use Rattle.esr_core.specs.Generations.{Carried};
 ghost use Rattle.esr_core.specs.Written.{Written};
 ghost use Rattle.esr_core.specs.Texts.{Texted};
 ghost use Rattle.esr_core.specs.Pruning.{dooms};
+ghost use Rattle.esr_core.specs.Tidy.{TidyRoot, TidyIn, AreDeletes, TidyImage, DoomsExactly};
 ghost use Rattle.esr_core.specs.Steps.{IsOut, Raise, Remove};
 ghost use Rattle.esr_core.specs.Sound.{Sound};
 ghost use Rattle.esr_core.specs.Queue.{Lists, Sole, QueueIn};
@@ -35,7 +36,7 @@ ghost use Rattle.esr_core.specs.Entry.{Moment, AsksNoClone, Restore, AskStep, Se
 ghost use Rattle.esr_core.specs.After.{swaps_record, after};
 ghost use Rattle.esr_core.specs.Example.{CanWrite, HasSnapshot};
 ghost use Rattle.esr_core.specs.Allowed.{SameBlobs, SettlesDeletion, ClonedBy, Allowed, RestoredBy};
-ghost use Rattle.esr_core.specs.History.{world_from, IsLegal, TellsHandedOut, AreTold, AreHonest, committed, Lasts};
+ghost use Rattle.esr_core.specs.History.{world_from, IsLegal, TellsHandedOut, AreTold, AreHonest, committed, counts, Lasts};
 ghost use Rattle.esr_core.specs.Left.{cut_off, Leaves, safe_in};
 ghost use Rattle.esr_core.specs.Refusing.{RefusedSo, SwapFailed};
 
@@ -190,6 +191,49 @@ pub fn doomed_stay_apart()
 pub fn a_delete_dooms_what_it_leaves()
     ensures was { (f : Formats) (w : World) (shelf : List Shelved) (k : ℕ) (s : SettlesDeletion f w k) → Law f w shelf → s.t.term ≡ w.term → (name : BlobName) → Has (dooms f s.t) name → Reached f (HeldIn f w) w.root name ⊎ ((m : ℕ) × (name ≡ Root m) × (w.safe ≡ suc m)) }
     ensures left { (f : Formats) (w : World) (shelf : List Shelved) (k : ℕ) (s : SettlesDeletion f w k) → Law f w shelf → s.t.term ≡ w.term → (name : BlobName) → Has (dooms f s.t) name → Reached f (HeldIn f w) s.s.root name → ⊥ }
+{}
+
+/// Where the safe root is tidy a delete dooms all that it leaves behind: each name that the safe root reached and the new root doesn't, and the safe root's own name.
+pub fn a_delete_dooms_all_that_it_leaves()
+    ensures reached { (f : Formats) (w : World) (shelf : List Shelved) (k : ℕ) (s : SettlesDeletion f w k) → Law f w shelf → s.t.term ≡ w.term → TidyRoot f (HeldIn f w) w.root
+        → (name : BlobName) → Reached f (HeldIn f w) w.root name → (Reached f (HeldIn f w) s.s.root name → ⊥) → Has (dooms f s.t) name }
+    ensures root { (f : Formats) (w : World) (shelf : List Shelved) (k : ℕ) (s : SettlesDeletion f w k) → Law f w shelf → s.t.term ≡ w.term → (m : ℕ) → w.safe ≡ suc m → Has (dooms f s.t) (Root m) }
+{}
+
+/// Each turn from a lawful and tidy world leads to a tidy one, where no cleanup has a plan.
+pub fn each_turn_stays_tidy()
+    ensures { (f : Formats) (w new : World) (shelf : List Shelved) → Law f w shelf → AreDeletes w → TidyIn f w → Turn f w new → TidyIn f new }
+{}
+
+/// An image without a record is tidy.
+pub fn empty_images_are_tidy()
+    ensures { (f : Formats) (image : Image) → image.text ≡ None → TidyImage f image }
+{}
+
+/// The opened world of a tidy image is tidy.
+pub fn opened_worlds_are_tidy()
+    ensures { (f : Formats) (image : Image) (w : World) → TidyImage f image → Opened f image w → TidyIn f w }
+{}
+
+/// Each legal history from a lawful and tidy world leads to a tidy one.
+pub fn each_history_stays_tidy()
+    ensures { (f : Formats) (part_size : ℕ) (shelf : List Shelved) (w : World) (log : List Moment) → TellsHandedOut f w log → Law f w shelf → TidyIn f w → IsLegal f part_size w log → AreTold log → AreHonest f w log → TidyIn f (world_from f w log) }
+{}
+
+/// Each image that a crash might leave over a legal history from a lawful and tidy world is tidy.
+pub fn each_left_image_is_tidy()
+    ensures { (f : Formats) (part_size : ℕ) (shelf : List Shelved) (w : World) (log : List Moment) (i : Image) → TellsHandedOut f w log → Law f w shelf → TidyIn f w → ReadsBack f.cluster (record_of w) → IsLegal f part_size w log
+        → AreTold log → AreHonest f w log → Leaves f part_size w log i → TidyImage f i }
+{}
+
+/// Over a legal history from a kept and tidy image each delete that may settle dooms exactly what it leaves behind: what the safe root reaches and its new root doesn't, and the safe root's name.
+/// So does each whose settle was answered, or failed in the container.
+pub fn each_delete_dooms_exactly_what_it_leaves()
+    ensures may { (f : Formats) (part_size : ℕ) (image : Image) (shelf : List Shelved) (w : World) (log : List Moment) (k : ℕ) → TellsHandedOut f w log → Kept f image shelf → TidyImage f image → Opened f image w → IsLegal f part_size w log
+        → AreTold log → AreHonest f w log → (s : SettlesDeletion f (world_from f w log) k) → s.t.term ≡ (world_from f w log).term → DoomsExactly f (world_from f w log) k s }
+    ensures settled { (f : Formats) (part_size : ℕ) (image : Image) (shelf : List Shelved) (w : World) (before rest : List Moment) (m : Moment) → TellsHandedOut f w (before ++ m ∷ rest) → Kept f image shelf → TidyImage f image → Opened f image w
+        → IsLegal f part_size w (before ++ m ∷ rest) → AreTold (before ++ m ∷ rest) → AreHonest f w (before ++ m ∷ rest) → m.entry.step ≡ PruneStep SettlePruned → counts m.entry.reply ≡ true
+        → (s : SettlesDeletion f (world_from f w before) m.entry.who) × DoomsExactly f (world_from f w before) m.entry.who s }
 {}
 
 /// What a delete's settled ticket doomed stays doomed.

@@ -38,7 +38,7 @@ pub record AreFound (s : Start) (root : RootData) (uuids : List ℕ) (blobs : Li
 
 pub found : (s : Start) (t : Ticket) (root : RootData) (uuids : List ℕ) (held : List HeldShard) (shards : List PrunedShard) → root ≡ t.root → (g : IsGathered s t uuids held) → IsOneEach root.indices
     → ((f : Formats) (blobs : List (BlobName × Bytes)) → IsHeld f root uuids blobs held → shards ≡ pruned_shards f root uuids blobs) → AreOfRoot root shards → AreToRead root uuids shards → AreHeldSome held shards
-    → ((known : Bytes → Bytes → ℕ → Bool) (told : Bytes → Bytes → ℕ → List (Bytes × Bytes)) (blobs : List (BlobName × Bytes)) → IsHeld (formats known told) root uuids blobs held → AreWritable (formats known told) root uuids blobs shards)
+    → ((known : Bytes → Bytes → ℕ → Bool) (told : Bytes → Bytes → ℕ → Option (List (Bytes × Bytes))) (blobs : List (BlobName × Bytes)) → IsHeld (formats known told) root uuids blobs held → AreWritable (formats known told) root uuids blobs shards)
     → AreFound s t.root uuids g.blobs held shards
 found s t root uuids held shards same g one exact of_root each some writable =
     let held_is : IsHeld (formats_of s) root uuids g.blobs held = is_held (formats_of s) root uuids g.blobs held one (subst (λ (r : RootData). HoldsRead (formats_of s) r g.blobs held) (sym same) g.are_held) in

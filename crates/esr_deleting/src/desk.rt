@@ -28,7 +28,7 @@ use esr_seq::Seq;
 use std::alloc::Global;
 
 /// What a delete writes: the root, and the first id of its shard indices.
-#[derive(Debug, Drop)]
+#[derive(Drop)]
 pub struct Planned {
     pub first: Id,
     pub root: RootData,

@@ -1,5 +1,5 @@
 -- What shows why a unit failed.
-use Rattle.std.specs.Prelude.{◌≡◌, ◌<◌, ℕ, Bool, true, false, List, ◌∷◌, ◌++◌, length, Some}
+use Rattle.std.specs.Prelude.{◌≡◌, ◌<◌, ℕ, Bool, true, false, List, ◌∷◌, ◌++◌, length, Some, None}
 use Rattle.esr_model.specs.Names.{BlobName}
 use Rattle.esr_model.specs.Values.{Bytes, Has}
 use Rattle.esr_core.specs.World.{Ticket, Work, Shard, Finalize, Deleting, Drop}
@@ -56,10 +56,11 @@ pub record HadRefusal (log : List Moment) (who : ℕ) (refusal : Refusal) : Type
   pub of : moment.entry.who ≡ who
   pub reply : moment.entry.reply ≡ Refused refusal
 
--- the ticket is that of the shard of this address
+-- the ticket is that of the shard of this address, and copies nothing
 pub record IsOf (t : Ticket) (address : Address) : Type 0 where
   pub index : ℕ
   pub work : t.work ≡ Shard index address.number
+  pub source : t.source ≡ None
   pub place : t.place ≡ address.place
   pub name : t.name ≡ address.index
 

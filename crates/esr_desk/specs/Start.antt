@@ -10,7 +10,7 @@ use Rattle.esr_formats.specs.Formats.{formats}
 pub record Start : Type 0 where
   -- whether the sources tell the files of a place, an index name and a number, and which they are
   pub known : Bytes → Bytes → ℕ → Bool
-  pub told : Bytes → Bytes → ℕ → List (Bytes × Bytes)
+  pub told : Bytes → Bytes → ℕ → Option (List (Bytes × Bytes))
   pub part_size : ℕ
   -- the container tells its image
   pub tells : Bool

@@ -66,7 +66,7 @@ pub enum Why {
 pub type BlobNames = Seq<BlobName>;
 
 /// A step of a restore's ticket, or of a caller that checks the repository or verifies the container.
-#[derive(Debug, Drop)]
+#[derive(Drop)]
 pub enum Read {
     Blob { name: BlobName },
     /// A shard is restored: so many files, of so many bytes.
@@ -83,7 +83,7 @@ pub enum Read {
 }
 
 /// A step of a delete's ticket, its writing aside.
-#[derive(Debug, Drop)]
+#[derive(Drop)]
 pub enum Prune {
     /// The index of a shard is fetched.
     Shard { name: BlobName },
@@ -96,14 +96,14 @@ pub enum Prune {
 }
 
 /// What a clone takes: the snapshot that it copies, and these of its indices.
-#[derive(Debug, Drop)]
+#[derive(Drop)]
 pub struct CloneOf {
     pub source: Id,
     pub indices: IndexRefs,
 }
 
 /// What was asked.
-#[derive(Debug, Drop)]
+#[derive(Drop)]
 pub enum Step {
     Ask {
         command: Command,
@@ -152,7 +152,7 @@ pub enum Step {
 }
 
 /// The unit that a ticket was given.
-#[derive(Debug, Drop)]
+#[derive(Drop)]
 pub enum Given {
     /// A shard, with the largest live generation.
     Shard {
@@ -182,7 +182,7 @@ pub enum Given {
 }
 
 /// What was answered.
-#[derive(Debug, Drop)]
+#[derive(Drop)]
 pub enum Answer {
     Accepted {
         op: u64,
@@ -231,7 +231,7 @@ pub enum Answer {
 }
 
 /// A step with its answer. `who` is the ticket from 1 on that made it, or 0: a caller at a line of the script, or a take.
-#[derive(Debug, Drop)]
+#[derive(Drop)]
 pub struct Entry {
     pub who: u64,
     pub step: Step,

@@ -8,21 +8,21 @@ use esr_progress::ReadyUnit;
 use esr_root::{RootData, RootSnaps};
 
 /// A unit that was taken. A finalization has the root that it is to write, too.
-#[derive(Debug, Drop)]
+#[derive(Drop)]
 pub struct Unit {
     pub ready: ReadyUnit,
     pub new_root: Option<RootData>,
 }
 
 /// The snapshots of the safe root, and its generation (-1: none).
-#[derive(Debug, Drop)]
+#[derive(Drop)]
 pub struct Look {
     pub listing: RootSnaps,
     pub safe: i64,
 }
 
 /// A restore was accepted as this op: of the snapshot `uuid`, which has these indices.
-#[derive(Debug, Drop)]
+#[derive(Drop)]
 pub struct AcceptedRestore {
     pub op: u64,
     pub uuid: Id,

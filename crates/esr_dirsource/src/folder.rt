@@ -81,12 +81,46 @@ pub(crate) fn read_some<F: Read>(file: &mut F, buf: &mut [u8]) -> io::Result<usi
 }
 
 /// Makes a folder where there is none, and answers whether it did.
-pub(crate) fn make<R: Files>(rt: &R, folder: &str) -> io::Result<bool> {
+fn make<R: Files>(rt: &R, folder: &str) -> io::Result<bool> {
     match fs::create_dir(rt, folder) {
         Ok(()) => Ok(true),
         Err(_) if is_folder(rt, folder) => Ok(false),
         Err(error) => Err(error),
     }
+}
+
+/// The folder that holds an entry.
+fn parent_of(path: &str) -> &str {
+    match path.rsplit_once('/') {
+        Some(("", _)) => "/",
+        Some((folder, _)) => folder,
+        None => ".",
+    }
+}
+
+/// Makes a folder where there is none, so that its name outlasts a power cut.
+fn make_lasting<R: Files>(rt: &R, folder: &str) -> io::Result<()> {
+    if !make(rt, folder)? {
+        return Ok(());
+    }
+    let synced = sync(rt, parent_of(folder));
+    if synced.is_err() {
+        // Another call is to make it again, and then to sync its name.
+        let _ = fs::remove_dir(rt, folder);
+    }
+    synced
+}
+
+/// Makes a folder and those on the way to it, each where there is none, so that their names outlast a power cut.
+pub(crate) fn make_with_way<R: Files>(rt: &R, path: &str) -> io::Result<()> {
+    for end in 1..path.len() {
+        if let Some((folder, rest)) = path.split_at_checked(end)
+            && rest.starts_with('/')
+        {
+            make_lasting(rt, folder)?;
+        }
+    }
+    make_lasting(rt, path)
 }
 
 /// Whether there is such a folder, or a link to one.
@@ -108,6 +142,6 @@ pub(crate) fn make_in<R: Files>(rt: &R, parent: &str, folder: &str) -> io::Resul
 }
 
 /// Syncs the names that a folder holds.
-pub(crate) fn sync<R: Files>(rt: &R, folder: &str) -> io::Result<()> {
+fn sync<R: Files>(rt: &R, folder: &str) -> io::Result<()> {
     File::open(rt, folder)?.sync_all()
 }

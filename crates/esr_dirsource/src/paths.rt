@@ -33,11 +33,9 @@ pub(crate) fn source_folder(alloc: Global, place: &str, number: u32) -> Result<T
     numbered(alloc, place, number)
 }
 
-/// The folder of a shard's files where they are written, `PLACE/INDEX/S`, and those above it.
+/// The folder of a shard's files where they are written, `PLACE/INDEX/S`, and the one that holds it.
 #[derive(Drop)]
 pub(crate) struct Folders {
-    /// `PLACE/..`, the folder that holds the place.
-    pub above: Text,
     /// `PLACE/INDEX`
     pub index: Text,
     /// `PLACE/INDEX/S`
@@ -49,14 +47,9 @@ impl Folders {
         ensures index { IfOk result (λ f. f.index ≡ path_in place.now index.now) }
         ensures shard { IfOk result (λ f. f.shard ≡ target_folder place.now index.now number) }
     {
-        let above = path_in(alloc, place, "..")?;
         let index = path_in(alloc, place, index)?;
         let shard = numbered(alloc, index.as_str(), number)?;
-        Ok(Folders {
-            above,
-            index,
-            shard,
-        })
+        Ok(Folders { index, shard })
     }
 }
 

@@ -43,14 +43,12 @@ pub struct DirTarget<'a, R: Files> {
 }
 
 impl<'a, R: Files> DirTarget<'a, R> {
-    /// Makes the folder of the shard where it is absent, and makes its name and those of the folders above it outlast a
-    /// power cut.
+    /// Makes the folder of the shard and those on the way to it where they are absent, so that their names outlast a power
+    /// cut.
     fn make_folders(&self) -> io::Result<()> {
         let place = self.address.place.as_str();
         let index = self.folders.index.as_str();
-        if folder::make(self.rt, place)? {
-            folder::sync(self.rt, self.folders.above.as_str())?;
-        }
+        folder::make_with_way(self.rt, place)?;
         folder::make_in(self.rt, place, index)?;
         folder::make_in(self.rt, index, self.folders.shard.as_str())
     }

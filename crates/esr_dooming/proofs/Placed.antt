@@ -304,7 +304,7 @@ bare_bytes : (blobs : List (BlobName × Bytes)) (p : PrunedShard) → index_byte
 bare_bytes [] p = refl
 bare_bytes (b ∷ blobs) p = ap (λ (o : Option Bytes). if is_index p.index p.number p.base b.0 then Some b.1 else o) (bare_bytes blobs p)
 
-pub writable : (known : Bytes → Bytes → ℕ → Bool) (told : Bytes → Bytes → ℕ → List (Bytes × Bytes)) (root : RootData) (uuids : List ℕ) (blobs : List (BlobName × Bytes)) (held : List HeldShard) (shards : List PrunedShard)
+pub writable : (known : Bytes → Bytes → ℕ → Bool) (told : Bytes → Bytes → ℕ → Option (List (Bytes × Bytes))) (root : RootData) (uuids : List ℕ) (blobs : List (BlobName × Bytes)) (held : List HeldShard) (shards : List PrunedShard)
     → AreWhole held → AreToRead root uuids shards → IsHeld (formats known told) root uuids blobs held → AreWritable (formats known told) root uuids blobs shards
 unfolding formats
 writable known told root uuids blobs held shards whole are is_held p was m read =

@@ -9,7 +9,7 @@ use std::alloc::{AllocFailed, Global};
 use std::marker::Model;
 
 /// Names of blobs, one after another: each is one of the layout.
-#[derive(Debug, Drop)]
+#[derive(Drop)]
 pub struct DoomedNames {
     items: Seq<BlobName>,
 }

@@ -1,5 +1,5 @@
 //! The shards that a delete prunes.
-ghost use Rattle.std.specs.Prelude.{◌≡◌, ◌&&◌, not, ℕ, Bool, List, IfOk, map, flat_map, option_map};
+ghost use Rattle.std.specs.Prelude.{◌≡◌, ◌&&◌, not, ℕ, Bool, List, IfOk, map, flat_map, option_map, Option};
 ghost use Rattle.std.specs.List.{list_any};
 ghost use Rattle.std.specs.Ordering.{nat_cmp};
 ghost use Rattle.std.specs.BTreeSet.{contains};
@@ -219,7 +219,7 @@ pub fn pruned(
     ensures held { IfOk result (λ shards. AreHeldSome read.now (map pruned_of shards)) }
     ensures of_root { IfOk result (λ shards. AreOfRoot (root_of root.now) (map pruned_of shards)) }
     ensures few { IfOk result (λ shards. AreFew (map pruned_of shards)) }
-    ensures writable { IfOk result (λ shards. (known : Bytes → Bytes → ℕ → Bool) (told : Bytes → Bytes → ℕ → List (Bytes × Bytes)) (blobs : List (BlobName × Bytes))
+    ensures writable { IfOk result (λ shards. (known : Bytes → Bytes → ℕ → Bool) (told : Bytes → Bytes → ℕ → Option (List (Bytes × Bytes))) (blobs : List (BlobName × Bytes))
         → IsHeld (formats known told) (root_of root.now) (map number_of uuids.now) blobs read.now → AreWritable (formats known told) (root_of root.now) (map number_of uuids.now) blobs (map pruned_of shards)) }
     ensures one_each { IfOk result (λ shards. IsOneEach (root_of root.now).indices) }
 {

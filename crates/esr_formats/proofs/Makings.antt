@@ -1,5 +1,5 @@
 -- What a finalization writes of a snapshot that can be made reads back.
-use Rattle.std.proofs.Common.{◌≡◌, ◌≢◌, ℕ, ◌<◌, ◌^◌, ◌==◌, ◌||◌, Bool, true, false, None, inl, inr, refl, sym, subst, ◌⊎◌, ⊎_elim, List, [], ◌∷◌, ◌++◌, ◌+◌, length, drop, get_or, map, bytes_eq, arith}
+use Rattle.std.proofs.Common.{◌≡◌, ◌≢◌, ℕ, ◌<◌, ◌^◌, ◌==◌, ◌||◌, Bool, true, false, None, inl, inr, refl, sym, subst, ◌⊎◌, ⊎_elim, List, [], ◌∷◌, ◌++◌, ◌+◌, length, drop, get_or, map, bytes_eq, arith, Option}
 use Rattle.std.specs.List.{list_any, AllByRecursion}
 use Rattle.std.proofs.lemmas.Bool.{eqb-true}
 use Rattle.std.proofs.lemmas.List.{at_drop_more}
@@ -86,7 +86,7 @@ index_back uuid rs q fits refs has =
     subst (λ (x : IndexRef). ReadsBack index_meta_kind (record { index = x; uuid = uuid.number })) found.2
     (index_meta_reads_back m (record { id = one.id; name = one.name; least = one.least; most = one.most; uuid = fits }))
 
-pub makings_write_back : (known : Bytes → Bytes → ℕ → Bool) (told : Bytes → Bytes → ℕ → List (Bytes × Bytes)) (name : Bytes) (uuid : Id) (moment : ℕ) (rs : List CodeRef) → snap_name_fault name ≡ None → uuid.number < 2 ^ 128 → moment < 2 ^ 64
+pub makings_write_back : (known : Bytes → Bytes → ℕ → Bool) (told : Bytes → Bytes → ℕ → Option (List (Bytes × Bytes))) (name : Bytes) (uuid : Id) (moment : ℕ) (rs : List CodeRef) → snap_name_fault name ≡ None → uuid.number < 2 ^ 128 → moment < 2 ^ 64
     → AllByRecursion IsRuled rs → AreApart (map ref_of_code rs) → WritesBack (formats known told) name uuid.number moment (map ref_of_code rs)
 unfolding formats
 makings_write_back known told name uuid moment rs rule fits early ruled apart =

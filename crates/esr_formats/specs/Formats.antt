@@ -1,5 +1,5 @@
 -- The real texts, with the digest SHA-256, and whatever the sources tell.
-use Rattle.std.specs.Prelude.{ℕ, Bool, List}
+use Rattle.std.specs.Prelude.{ℕ, Bool, List, Option}
 use Rattle.esr_hash.specs.Prints.{print_of}
 use Rattle.esr_model.specs.Values.{Bytes, Formats}
 use Rattle.esr_formats.specs.Names.{name_kind}
@@ -12,7 +12,7 @@ use Rattle.esr_formats.specs.Shards.{shard_snap_kind, shard_index_kind}
 use Rattle.esr_formats.specs.Clusters.{cluster_kind}
 
 -- the parameter, for sources that tell this
-unfoldable pub formats : (Bytes → Bytes → ℕ → Bool) → (Bytes → Bytes → ℕ → List (Bytes × Bytes)) → Formats
+unfoldable pub formats : (Bytes → Bytes → ℕ → Bool) → (Bytes → Bytes → ℕ → Option (List (Bytes × Bytes))) → Formats
 formats known told =
     record {
       names = name_kind;

@@ -1,5 +1,5 @@
 //! What the parameter is, and what can be written.
-ghost use Rattle.std.specs.Prelude.{◌≡◌, ◌<◌, ◌^◌, ℕ, Bool, List, length, map, None, Some};
+ghost use Rattle.std.specs.Prelude.{◌≡◌, ◌<◌, ◌^◌, ℕ, Bool, List, length, map, None, Some, Option};
 ghost use Rattle.esr_names.specs.NameRule.{index_name_fault};
 ghost use Rattle.esr_hash.specs.Prints.{print_of};
 ghost use Rattle.esr_record.specs.Op.{IsMaking};
@@ -21,16 +21,16 @@ use esr_record::Making;
 
 /// The fields of the parameter.
 pub fn formats_are()
-    ensures names { (known : Bytes → Bytes → ℕ → Bool) (told : Bytes → Bytes → ℕ → List (Bytes × Bytes)) → (formats known told).names ≡ name_kind }
-    ensures root { (known : Bytes → Bytes → ℕ → Bool) (told : Bytes → Bytes → ℕ → List (Bytes × Bytes)) → (formats known told).root ≡ root_kind }
-    ensures info { (known : Bytes → Bytes → ℕ → Bool) (told : Bytes → Bytes → ℕ → List (Bytes × Bytes)) → (formats known told).info ≡ info_kind }
-    ensures global { (known : Bytes → Bytes → ℕ → Bool) (told : Bytes → Bytes → ℕ → List (Bytes × Bytes)) → (formats known told).global ≡ global_kind }
-    ensures index_meta { (known : Bytes → Bytes → ℕ → Bool) (told : Bytes → Bytes → ℕ → List (Bytes × Bytes)) → (formats known told).index_meta ≡ index_meta_kind }
-    ensures shard_snap { (known : Bytes → Bytes → ℕ → Bool) (told : Bytes → Bytes → ℕ → List (Bytes × Bytes)) → (formats known told).shard_snap ≡ shard_snap_kind }
-    ensures shard_index { (known : Bytes → Bytes → ℕ → Bool) (told : Bytes → Bytes → ℕ → List (Bytes × Bytes)) → (formats known told).shard_index ≡ shard_index_kind }
-    ensures cluster { (known : Bytes → Bytes → ℕ → Bool) (told : Bytes → Bytes → ℕ → List (Bytes × Bytes)) → (formats known told).cluster ≡ cluster_kind }
-    ensures told { (known : Bytes → Bytes → ℕ → Bool) (told : Bytes → Bytes → ℕ → List (Bytes × Bytes)) → (formats known told).told ≡ told }
-    ensures known { (known : Bytes → Bytes → ℕ → Bool) (told : Bytes → Bytes → ℕ → List (Bytes × Bytes)) → (formats known told).known ≡ known }
+    ensures names { (known : Bytes → Bytes → ℕ → Bool) (told : Bytes → Bytes → ℕ → Option (List (Bytes × Bytes))) → (formats known told).names ≡ name_kind }
+    ensures root { (known : Bytes → Bytes → ℕ → Bool) (told : Bytes → Bytes → ℕ → Option (List (Bytes × Bytes))) → (formats known told).root ≡ root_kind }
+    ensures info { (known : Bytes → Bytes → ℕ → Bool) (told : Bytes → Bytes → ℕ → Option (List (Bytes × Bytes))) → (formats known told).info ≡ info_kind }
+    ensures global { (known : Bytes → Bytes → ℕ → Bool) (told : Bytes → Bytes → ℕ → Option (List (Bytes × Bytes))) → (formats known told).global ≡ global_kind }
+    ensures index_meta { (known : Bytes → Bytes → ℕ → Bool) (told : Bytes → Bytes → ℕ → Option (List (Bytes × Bytes))) → (formats known told).index_meta ≡ index_meta_kind }
+    ensures shard_snap { (known : Bytes → Bytes → ℕ → Bool) (told : Bytes → Bytes → ℕ → Option (List (Bytes × Bytes))) → (formats known told).shard_snap ≡ shard_snap_kind }
+    ensures shard_index { (known : Bytes → Bytes → ℕ → Bool) (told : Bytes → Bytes → ℕ → Option (List (Bytes × Bytes))) → (formats known told).shard_index ≡ shard_index_kind }
+    ensures cluster { (known : Bytes → Bytes → ℕ → Bool) (told : Bytes → Bytes → ℕ → Option (List (Bytes × Bytes))) → (formats known told).cluster ≡ cluster_kind }
+    ensures told { (known : Bytes → Bytes → ℕ → Bool) (told : Bytes → Bytes → ℕ → Option (List (Bytes × Bytes))) → (formats known told).told ≡ told }
+    ensures known { (known : Bytes → Bytes → ℕ → Bool) (told : Bytes → Bytes → ℕ → Option (List (Bytes × Bytes))) → (formats known told).known ≡ known }
 {}
 
 /// Names with one text that reads back are one name.
@@ -45,7 +45,7 @@ pub fn name_texts_are_exact()
 
 /// The print of bytes is their length and their digest.
 pub fn digest_of_print()
-    ensures { (known : Bytes → Bytes → ℕ → Bool) (told : Bytes → Bytes → ℕ → List (Bytes × Bytes)) (bytes : Bytes) → print_of bytes ≡ record { len = length bytes; sha256 = (formats known told).digest bytes } }
+    ensures { (known : Bytes → Bytes → ℕ → Bool) (told : Bytes → Bytes → ℕ → Option (List (Bytes × Bytes))) (bytes : Bytes) → print_of bytes ≡ record { len = length bytes; sha256 = (formats known told).digest bytes } }
 {}
 
 /// An index's name keeps the rules, and its id fits its type.
@@ -61,7 +61,7 @@ fn rule(index: &IndexRef)
 /// its indices are apart and each has 1 to 1,024 shards.
 pub fn making_can_be_written(info: &Making)
     requires { AreApart (map ref_of_code info.now.indices) }
-    ensures written { (known : Bytes → Bytes → ℕ → Bool) (told : Bytes → Bytes → ℕ → List (Bytes × Bytes))
+    ensures written { (known : Bytes → Bytes → ℕ → Bool) (told : Bytes → Bytes → ℕ → Option (List (Bytes × Bytes)))
         → WritesBack (formats known told) info.now.name info.now.uuid.number info.now.moment (map ref_of_code info.now.indices) }
     ensures making { IsMaking info.now }
 {

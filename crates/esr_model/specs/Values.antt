@@ -1,6 +1,6 @@
 -- What the texts of a repository hold, and how they are read. The texts themselves, the digest and what the sources tell are parameters:
 -- the definitions and the law hold of any.
-use Rattle.std.specs.Prelude.{◌≡◌, ◌⊎◌, ℕ, Bool, List, [], ◌∷◌, Option, Some}
+use Rattle.std.specs.Prelude.{◌≡◌, ◌⊎◌, ℕ, Bool, List, [], ◌∷◌, Option, Some, None}
 use Rattle.esr_model.specs.Names.{BlobName}
 
 abbrev pub Bytes : Type 0
@@ -119,6 +119,15 @@ pub record Formats : Type 0 where
   -- what reads as a root lists each index once
   pub one_each : (bytes : Bytes) (r : RootData) → root.read bytes ≡ Some r → IsOneEach r.indices
   pub digest : Bytes → Bytes
-  -- whether the sources tell the files for a place, an index name and a number, and which they are
+  -- whether the sources tell the files for a place, an index name and a number, and which they are; none are told of a place that
+  -- doesn't exist
   pub known : Bytes → Bytes → ℕ → Bool
-  pub told : Bytes → Bytes → ℕ → List (Bytes × Bytes)
+  pub told : Bytes → Bytes → ℕ → Option (List (Bytes × Bytes))
+
+abbrev pub or_no_files : Option (List (Bytes × Bytes)) → List (Bytes × Bytes)
+or_no_files None = []
+or_no_files (Some files) = files
+
+-- the files that the sources tell
+abbrev pub files_told : Formats → Bytes → Bytes → ℕ → List (Bytes × Bytes)
+files_told f place name number = or_no_files (f.told place name number)

@@ -66,7 +66,7 @@ blob_reads from blobs name bytes v there reads = ap (read_as from name) there �
 agreed_ok : (root : Root) (n : ℕ) (s : CodeSnap) (info : Info) → agrees (root_of root) (root_snap_of s) (info_of_code info) ≡ true → agreed root n s info ≡ Ok tt
 agreed_ok root n s info h = ap (λ (b : Bool). let r : Result (Unit {0}) Obstacle = if b then Ok tt else Err (Damage (info_name s) (Disagrees (code.Root n))) in r) h
 
-info_found : (known : Bytes → Bytes → ℕ → Bool) (told : Bytes → Bytes → ℕ → List (Bytes × Bytes)) (blobs : Blobs) (root : Root) (n : ℕ) (s : CodeSnap) (shelved : Shelved) → IsOneEach (root_of root).indices
+info_found : (known : Bytes → Bytes → ℕ → Bool) (told : Bytes → Bytes → ℕ → Option (List (Bytes × Bytes))) (blobs : Blobs) (root : Root) (n : ℕ) (s : CodeSnap) (shelved : Shelved) → IsOneEach (root_of root).indices
     → SnapStands (formats known told) (At (formats known told) blobs) (root_of root) (root_snap_of s) shelved → info_in blobs root n s ≡ Ok tt
 unfolding formats
 info_found known told blobs root n s shelved one st =
@@ -75,7 +75,7 @@ info_found known told blobs root n s shelved one st =
     let agree : Agrees (root_of root) (root_snap_of s) st.info = standing_agrees (formats known told) (At (formats known told) blobs) (root_of root) (root_snap_of s) shelved st in
     there ∙ agreed_ok root n s i.0 (holds_test (root_of root) (root_snap_of s) (info_of_code i.0) one (subst (λ (x : SnapInfo). Agrees (root_of root) (root_snap_of s) x) (sym i.2) agree))
 
-infos_found : (known : Bytes → Bytes → ℕ → Bool) (told : Bytes → Bytes → ℕ → List (Bytes × Bytes)) (blobs : Blobs) (root : Root) (n : ℕ) (snaps : List CodeSnap) (shelf : List Shelved) → IsOneEach (root_of root).indices
+infos_found : (known : Bytes → Bytes → ℕ → Bool) (told : Bytes → Bytes → ℕ → Option (List (Bytes × Bytes))) (blobs : Blobs) (root : Root) (n : ℕ) (snaps : List CodeSnap) (shelf : List Shelved) → IsOneEach (root_of root).indices
     → AllPairs (SnapStands (formats known told) (At (formats known told) blobs) (root_of root)) (map root_snap_of snaps) shelf → infos_in blobs root n snaps ≡ Ok tt
 infos_found known told blobs root n [] shelf one stand = refl
 infos_found known told blobs root n (s ∷ snaps) [] one stand = absurd stand
@@ -90,7 +90,7 @@ record SafeFound (blobs : Blobs) (safe : ℤ) (bound : ℕ) : Type 0 where
   whole : whole_root_in blobs safe ≡ Ok root
   below : first_from bound (root_ids (root_of root)) ≡ None
 
-safe_found : (known : Bytes → Bytes → ℕ → Bool) (told : Bytes → Bytes → ℕ → List (Bytes × Bytes)) (blobs : Blobs) (safe : ℤ) (bound : ℕ) (shelf : List Shelved) → Picked (formats known told) (At (formats known told) blobs) (count_of safe) shelf
+safe_found : (known : Bytes → Bytes → ℕ → Bool) (told : Bytes → Bytes → ℕ → Option (List (Bytes × Bytes))) (blobs : Blobs) (safe : ℤ) (bound : ℕ) (shelf : List Shelved) → Picked (formats known told) (At (formats known told) blobs) (count_of safe) shelf
     → ((root : RootData) → RootIs (formats known told) (At (formats known told) blobs) (count_of safe) root → RootIds root bound) → SafeFound blobs safe bound
 unfolding formats
 safe_found known told blobs (negsuc n) bound shelf picked ids = record { root = empty_root; whole = refl; below = refl }
@@ -143,7 +143,7 @@ empty_opens : (i : Held) (shelf : List Shelved) → IsEmpty (image_of i) shelf �
 empty_opens i shelf empty =
     all_but_stops i empty_record empty_root (record_absent i (sizes_of i.blobs) (sym empty.no_record) refl ∙ ap without_record (none_listed i.blobs empty.no_blob)) refl refl
 
-recorded_opens : (known : Bytes → Bytes → ℕ → Bool) (told : Bytes → Bytes → ℕ → List (Bytes × Bytes)) (i : Held) (shelf : List Shelved) → Recorded (formats known told) (image_of i) shelf → IfErr (found i) IsNoDamage
+recorded_opens : (known : Bytes → Bytes → ℕ → Bool) (told : Bytes → Bytes → ℕ → Option (List (Bytes × Bytes))) (i : Held) (shelf : List Shelved) → Recorded (formats known told) (image_of i) shelf → IfErr (found i) IsNoDamage
 unfolding formats
 recorded_opens known told i shelf r =
     let c = cluster_reads r.text r.cluster r.reads in

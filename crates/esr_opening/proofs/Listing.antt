@@ -61,7 +61,7 @@ not_latest : (u : ℕ) → Snap u ≢ Latest
 not_latest u h = cc
 
 -- what was fetched under its name reads as it
-info_there : (blobs : Blobs) (s : CodeSnap) (info : Info) (name : Bytes) (bytes : Option Bytes) (known : Bytes → Bytes → ℕ → Bool) (told : Bytes → Bytes → ℕ → List (Bytes × Bytes)) → ReadsBack name_kind (Snap s.uuid.number) → name ≡ info_name s
+info_there : (blobs : Blobs) (s : CodeSnap) (info : Info) (name : Bytes) (bytes : Option Bytes) (known : Bytes → Bytes → ℕ → Bool) (told : Bytes → Bytes → ℕ → Option (List (Bytes × Bytes))) → ReadsBack name_kind (Snap s.uuid.number) → name ≡ info_name s
     → ◌≡◌ {A = Result (Option Bytes) Obstacle} (Ok (fin.get blobs name)) (Ok bytes) → read_as info_from name bytes ≡ Ok info
     → Reads (At (formats known told) blobs) (Snap s.uuid.number) (formats known told).info (info_of_code info)
 unfolding formats
@@ -128,7 +128,7 @@ within root s info agree apart = record {
   apart = apart;
 }
 
-in_info : (held : Option Held) (cluster : Record) (root : Root) (s : CodeSnap) (info : Info) (known : Bytes → Bytes → ℕ → Bool) (told : Bytes → Bytes → ℕ → List (Bytes × Bytes)) → IsInfoOf held root s info → is_told held ≡ true
+in_info : (held : Option Held) (cluster : Record) (root : Root) (s : CodeSnap) (info : Info) (known : Bytes → Bytes → ℕ → Bool) (told : Bytes → Bytes → ℕ → Option (List (Bytes × Bytes))) → IsInfoOf held root s info → is_told held ≡ true
     → IsInInfo (formats known told) (world_in held cluster root) info.uuid.number (map ref_of_code info.indices)
 in_info None cluster root s info known told is tells = absurd cc
 in_info (Some i) cluster root s info known told is tells =
@@ -139,7 +139,7 @@ listed_of held root infos pairs info has =
     let s = first_of (IsInfoOf held root) root.snapshots infos pairs info has in
     (root_snap_of s.0, has_map root_snap_of root.snapshots s.0 s.1, s.2.agrees.uuid_is)
 
-pub infos_of : (held : Option Held) (cluster : Record) (root : Root) (infos : List Info) (known : Bytes → Bytes → ℕ → Bool) (told : Bytes → Bytes → ℕ → List (Bytes × Bytes)) → AreInfosIn held root root.snapshots infos
+pub infos_of : (held : Option Held) (cluster : Record) (root : Root) (infos : List Info) (known : Bytes → Bytes → ℕ → Bool) (told : Bytes → Bytes → ℕ → Option (List (Bytes × Bytes))) → AreInfosIn held root root.snapshots infos
     → AreInfosOf (formats known told) (world_in held cluster root) (is_told held) infos
 infos_of held cluster root infos known told pairs = record {
   there = λ snap has.

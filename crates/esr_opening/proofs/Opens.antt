@@ -54,7 +54,7 @@ not_latest n h = cc
 
 -- ---- the root
 
-root_is : (known : Bytes → Bytes → ℕ → Bool) (told : Bytes → Bytes → ℕ → List (Bytes × Bytes)) (blobs : Blobs) (safe : ℤ) (root : Root) → safe ≤ℤ pos (2 ^ 63 - 1) → root_in blobs safe ≡ Ok root
+root_is : (known : Bytes → Bytes → ℕ → Bool) (told : Bytes → Bytes → ℕ → Option (List (Bytes × Bytes))) (blobs : Blobs) (safe : ℤ) (root : Root) → safe ≤ℤ pos (2 ^ 63 - 1) → root_in blobs safe ≡ Ok root
     → RootIs (formats known told) (At (formats known told) blobs) (count_of safe) (root_of root)
 unfolding formats
 root_is known told blobs (pos n) root most there =
@@ -65,7 +65,7 @@ root_is known told blobs (negsuc n) root most there = let same : empty_root ≡ 
 
 -- ---- the record
 
-no_text : (known : Bytes → Bytes → ℕ → Bool) (told : Bytes → Bytes → ℕ → List (Bytes × Bytes)) (i : Held) (cluster : Record) (root : Root) → i.text ≡ None → empty_record ≡ cluster → root_in i.blobs cluster.safe ≡ Ok root
+no_text : (known : Bytes → Bytes → ℕ → Bool) (told : Bytes → Bytes → ℕ → Option (List (Bytes × Bytes))) (i : Held) (cluster : Record) (root : Root) → i.text ≡ None → empty_record ≡ cluster → root_in i.blobs cluster.safe ≡ Ok root
     → Opened (formats known told) (image_of i) (opened i.blobs (cluster_of cluster) (root_of root))
 no_text known told i cluster root none empty there =
     let at_start : root_in i.blobs empty_record.safe ≡ Ok root = ap (λ (c : Record). root_in i.blobs c.safe) empty ∙ there in
@@ -80,7 +80,7 @@ nothing_found : (sizes : List (Bytes × ℕ)) (cluster : Record) → without_rec
 nothing_found [] cluster h = cc
 nothing_found (listed ∷ rest) cluster h = absurd cc
 
-by_text : (known : Bytes → Bytes → ℕ → Bool) (told : Bytes → Bytes → ℕ → List (Bytes × Bytes)) (i : Held) (text : Option Bytes) (cluster : Record) (root : Root) → i.text ≡ text → cluster.safe ≤ℤ pos (2 ^ 63 - 1)
+by_text : (known : Bytes → Bytes → ℕ → Bool) (told : Bytes → Bytes → ℕ → Option (List (Bytes × Bytes))) (i : Held) (text : Option Bytes) (cluster : Record) (root : Root) → i.text ≡ text → cluster.safe ≤ℤ pos (2 ^ 63 - 1)
     → record_in i.blobs text ≡ Ok cluster → root_in i.blobs cluster.safe ≡ Ok root → Opened (formats known told) (image_of i) (opened i.blobs (cluster_of cluster) (root_of root))
 unfolding formats
 by_text known told i None cluster root is most record_there root_there = no_text known told i cluster root is (nothing_found (sizes_of i.blobs) cluster record_there) root_there
@@ -108,7 +108,7 @@ parts i cluster root is =
     second_same : (a b : Record) (x y : Root) → ◌≡◌ {A = Result (Record × Root) Obstacle} (Ok (a, x)) (Ok (b, y)) → x ≡ y
     second_same a b x y h = ap (λ (p : Record × Root). p.1) (ok_pair (a, x) (b, y) h)
 
-pub found_opens : (held : Option Held) (i : Held) (known : Bytes → Bytes → ℕ → Bool) (told : Bytes → Bytes → ℕ → List (Bytes × Bytes)) (cluster : Record) (root : Root) → IsFit cluster root → held ≡ Some i → found i ≡ Ok (cluster, root)
+pub found_opens : (held : Option Held) (i : Held) (known : Bytes → Bytes → ℕ → Bool) (told : Bytes → Bytes → ℕ → Option (List (Bytes × Bytes))) (cluster : Record) (root : Root) → IsFit cluster root → held ≡ Some i → found i ≡ Ok (cluster, root)
     → Opened (formats known told) (image_of i) (world_in held cluster root)
 found_opens held i known told cluster root fit here is =
     let at = parts i cluster root is in

@@ -1,5 +1,5 @@
 -- No image that a run, or a crash in it, leaves is damaged.
-use Rattle.std.specs.Prelude.{ℕ, Bool, List, IfErr}
+use Rattle.std.specs.Prelude.{ℕ, Bool, List, IfErr, Option}
 use Rattle.esr_model.specs.Values.{Bytes}
 use Rattle.esr_model.specs.Shelf.{Shelved}
 use Rattle.esr_model.specs.Kept.{Kept}
@@ -12,5 +12,5 @@ use Rattle.esr_opening.specs.Hindrances.{IsNoDamage}
 -- In an image that is kept for a shelf opening finds the record and the safe root, unless the last term has come.
 abbrev pub KeptImagesOpen : Type 0
 KeptImagesOpen =
-    (known : Bytes → Bytes → ℕ → Bool) (told : Bytes → Bytes → ℕ → List (Bytes × Bytes)) (i : Held) (shelf : List Shelved)
+    (known : Bytes → Bytes → ℕ → Bool) (told : Bytes → Bytes → ℕ → Option (List (Bytes × Bytes))) (i : Held) (shelf : List Shelved)
     → Kept (formats known told) (image_of i) shelf → IfErr (found i) IsNoDamage

@@ -87,9 +87,9 @@ pub record IsOpening (before after : Look) (k : Kept) : Type 0 where
   pub order : IsInOrder (world_in (now before) cluster root)
   -- where it tells they are what opening finds, and this is the opened world of its image
   pub finds : (i : Held) → now before ≡ Some i → found i ≡ Ok (cluster, root)
-  pub opens : (i : Held) (known : Bytes → Bytes → ℕ → Bool) (told : Bytes → Bytes → ℕ → List (Bytes × Bytes)) → now before ≡ Some i → Opened (formats known told) (image_of i) (world_in (now before) cluster root)
+  pub opens : (i : Held) (known : Bytes → Bytes → ℕ → Bool) (told : Bytes → Bytes → ℕ → Option (List (Bytes × Bytes))) → now before ≡ Some i → Opened (formats known told) (image_of i) (world_in (now before) cluster root)
   -- the infos are those of the listed snapshots, and where it tells those that are there
-  pub infos : (known : Bytes → Bytes → ℕ → Bool) (told : Bytes → Bytes → ℕ → List (Bytes × Bytes)) → AreInfosOf (formats known told) (world_in (now before) cluster root) (is_told (now before)) k.infos
+  pub infos : (known : Bytes → Bytes → ℕ → Bool) (told : Bytes → Bytes → ℕ → Option (List (Bytes × Bytes))) → AreInfosOf (formats known told) (world_in (now before) cluster root) (is_told (now before)) k.infos
   pub untold : now before ≡ None → now after ≡ None
   pub swapped : (i : Held) → now before ≡ Some i → now after ≡ Some (with_text i (opened_text cluster root))
   pub bounded : after.clock ≤ 2 ^ 64 - 1
@@ -106,7 +106,7 @@ pub record SwapFailed (before after : Look) : Type 0 where
   pub root : Root
   pub order : IsInOrder (world_in (now before) cluster root)
   pub finds : (i : Held) → now before ≡ Some i → found i ≡ Ok (cluster, root)
-  pub opens : (i : Held) (known : Bytes → Bytes → ℕ → Bool) (told : Bytes → Bytes → ℕ → List (Bytes × Bytes)) → now before ≡ Some i → Opened (formats known told) (image_of i) (world_in (now before) cluster root)
+  pub opens : (i : Held) (known : Bytes → Bytes → ℕ → Bool) (told : Bytes → Bytes → ℕ → Option (List (Bytes × Bytes))) → now before ≡ Some i → Opened (formats known told) (image_of i) (world_in (now before) cluster root)
   pub left : LeavesOnly before after (IsLeftOf (now before) cluster root)
 
 -- a read of the fetch failed
@@ -121,7 +121,7 @@ IsFault faults old_faults new_faults fetch = HasCause old_faults new_faults true
 -- the image is kept for no shelf, as nothing in one that is kept is damaged
 abbrev pub SparesKept : Option Held → Type 0
 SparesKept held =
-    (i : Held) (known : Bytes → Bytes → ℕ → Bool) (told : Bytes → Bytes → ℕ → List (Bytes × Bytes)) (shelf : List Shelved) → held ≡ Some i
+    (i : Held) (known : Bytes → Bytes → ℕ → Bool) (told : Bytes → Bytes → ℕ → Option (List (Bytes × Bytes))) (shelf : List Shelved) → held ≡ Some i
     → IsKept (formats known told) (image_of i) shelf → ⊥
 
 -- Why a container wasn't opened; it counts faults. Where it tells, a refusal is what opening finds, and no kept image is damaged.

@@ -8,14 +8,14 @@ use std::alloc::{AllocError, Global};
 use std::marker::Model;
 
 /// A blob, and the text of its name.
-#[derive(Debug, Drop)]
+#[derive(Drop)]
 struct Blob {
     name: Bytes,
     bytes: Bytes,
 }
 
 /// The blobs of a container, which a contract sees as the map from the texts of their names to their bytes.
-#[derive(Debug, Drop)]
+#[derive(Drop)]
 pub struct Image {
     blobs: Vec<Blob>,
 }

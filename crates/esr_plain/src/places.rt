@@ -10,7 +10,7 @@ use std::alloc::{AllocError, Global};
 use std::cmp::Ordering;
 
 /// A shard by its index and its number.
-#[derive(Debug, Drop)]
+#[derive(Drop)]
 pub struct Place {
     pub index: IndexRef,
     pub number: u32,

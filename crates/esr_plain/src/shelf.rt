@@ -12,7 +12,7 @@ use std::alloc::{AllocError, Global};
 use std::marker::Model;
 
 /// A file by its name where it was taken from, with its bytes.
-#[derive(Debug, Drop)]
+#[derive(Drop)]
 pub struct File {
     pub name: Text,
     pub bytes: Bytes,
@@ -30,7 +30,7 @@ impl Model for File {
 pub type Files = Seq<File>;
 
 /// A shard of a snapshot: the name of its index, its number, and its files.
-#[derive(Debug, Drop)]
+#[derive(Drop)]
 pub struct ShelfShard {
     pub index: Text,
     pub number: u32,
@@ -49,7 +49,7 @@ impl Model for ShelfShard {
 pub type ShelfShards = Seq<ShelfShard>;
 
 /// A snapshot on the shelf.
-#[derive(Debug, Drop)]
+#[derive(Drop)]
 pub struct Shelved {
     pub name: Text,
     pub uuid: Id,
@@ -68,7 +68,7 @@ impl Model for Shelved {
 pub type Shelf = Seq<Shelved>;
 
 /// What changes a shelf: a snapshot is added, or one of some indices of another, or those with some uuids are taken away.
-#[derive(Debug, Drop)]
+#[derive(Drop)]
 pub enum Command {
     Create(Shelved),
     Clone {

@@ -167,7 +167,7 @@ module _ (ops : List (ℕ × Op)) (deletes : List (ℕ × Deletion)) (p : Plan) 
     }
 
     pub accepted : (m : Making) (new : Plan) (a : Accepted) → Makes m
-        → ((known : Bytes → Bytes → ℕ → Bool) (told : Bytes → Bytes → ℕ → List (Bytes × Bytes)) → WritesBack (formats known told) m.name m.uuid.number m.moment (map ref_of_code m.indices))
+        → ((known : Bytes → Bytes → ℕ → Bool) (told : Bytes → Bytes → ℕ → Option (List (Bytes × Bytes))) → WritesBack (formats known told) m.name m.uuid.number m.moment (map ref_of_code m.indices))
         → a.op ≡ p.next_op → a.drawn ≡ suc (new_by (known_in root ops) indices) → next + a.drawn < first_id (suc term)
         → new ≡ record p { ops = fin.insert p.ops a.op (op_begun m indices); completed = completing p.completed a.op (op_begun m indices).shards; next_op = suc p.next_op }
         → IsAccepted w (Snapshot name indices moment) new a

@@ -30,7 +30,7 @@ pub record MayAccept (w : World) (name : Bytes) : Type 0 where
 -- the texts of its op can be written
 abbrev pub TextsAreWritable : World → Asked → Type 0
 TextsAreWritable w (Snapshot name indices moment) =
-    (known : Bytes → Bytes → ℕ → Bool) (told : Bytes → Bytes → ℕ → List (Bytes × Bytes)) → OpTexts (formats known told) (asked_op w name indices moment)
+    (known : Bytes → Bytes → ℕ → Bool) (told : Bytes → Bytes → ℕ → Option (List (Bytes × Bytes))) → OpTexts (formats known told) (asked_op w name indices moment)
 TextsAreWritable w command = Unit {0}
 
 -- the op was added; its uuid is the next id

@@ -1,5 +1,5 @@
 //! Which clones are accepted.
-ghost use Rattle.std.specs.Prelude.{◌≡◌, ◌==◌, ◌<◌, ◌++◌, ◌^◌, List, ℕ, Bool, [], suc, length, map, position, replicate, not, nat_lt, IfOk, OnOk};
+ghost use Rattle.std.specs.Prelude.{◌≡◌, ◌==◌, ◌<◌, ◌++◌, ◌^◌, List, ℕ, Bool, [], suc, length, map, position, replicate, not, nat_lt, IfOk, OnOk, Option};
 ghost use Rattle.std.specs.List.{list_any};
 ghost use Rattle.esr_model.specs.Values.{Bytes};
 ghost use Rattle.esr_model.specs.Kept.{first_id};
@@ -76,7 +76,7 @@ impl Progress {
         requires apart { AreApart (map ref_of_code indices.now) }
         requires room { self.now.next_op < 2 ^ 62 }
         ensures plan { IfOk result (λ p. (w : World) → IsPlanOf w self.now → w.next_id ≡ next.number → IsPlanOf (clone_opened w name.now moment (record { source = source.number; indices = map ref_of_code indices.now })) p) }
-        ensures texts { IfOk result (λ p. (w : World) → w.next_id ≡ next.number → (known : Bytes → Bytes → ℕ → Bool) (told : Bytes → Bytes → ℕ → List (Bytes × Bytes))
+        ensures texts { IfOk result (λ p. (w : World) → w.next_id ≡ next.number → (known : Bytes → Bytes → ℕ → Bool) (told : Bytes → Bytes → ℕ → Option (List (Bytes × Bytes)))
             → OpTexts (formats known told) (cloned_op w name.now moment (record { source = source.number; indices = map ref_of_code indices.now }))) }
     {
         let making = Making {

@@ -3,7 +3,7 @@ use esr_names::{IndexName, IndexNames, SnapName, SnapNames};
 use esr_seq::{Seq, Text};
 
 /// An index that a snapshot is to hold.
-#[derive(Debug, Drop)]
+#[derive(Drop)]
 pub struct AskedIndex {
     pub name: IndexName,
     /// The count of its shards, 1 to 1,024.
@@ -16,7 +16,7 @@ pub struct AskedIndex {
 pub type AskedIndices = Seq<AskedIndex>;
 
 /// A command. Cleanups are not accepted so far.
-#[derive(Debug, Drop)]
+#[derive(Drop)]
 pub enum Command {
     /// Makes a snapshot of these indices.
     Create {
@@ -43,7 +43,7 @@ pub enum Command {
 }
 
 /// A command was accepted as this op, for which so many ids were drawn.
-#[derive(Clone, Copy, Debug, PartialEq, Eq)]
+#[derive(Clone, Copy, PartialEq, Eq)]
 pub struct Accepted {
     pub op: u64,
     pub drawn: u64,

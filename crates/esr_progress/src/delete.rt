@@ -20,7 +20,7 @@ use std::alloc::{AllocError, Global};
 use std::marker::Model;
 
 /// An open delete of the snapshots with these uuids, or a cleanup, by its number.
-#[derive(Debug, Drop)]
+#[derive(Drop)]
 pub struct OpenDelete {
     number: u64,
     uuids: Ids,

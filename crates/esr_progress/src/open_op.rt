@@ -25,7 +25,7 @@ use std::marker::Model;
 
 /// An open snapshot: its number, what it makes, the place of each index's files, its shards in order, and the snapshot that it
 /// copies where it is a clone.
-#[derive(Debug, Drop)]
+#[derive(Drop)]
 pub struct OpenOp {
     number: u64,
     making: Making,

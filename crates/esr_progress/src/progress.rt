@@ -9,7 +9,7 @@ use std::marker::Model;
 
 /// The open ops, deletes and restores by number, the numbers of ops in the order in which they completed, and what is kept of
 /// each ticket from 1 on.
-#[derive(Debug, Drop)]
+#[derive(Drop)]
 pub struct Progress {
     pub(crate) ops: Vec<OpenOp>,
     pub(crate) deletes: Vec<OpenDelete>,

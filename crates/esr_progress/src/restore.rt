@@ -17,7 +17,7 @@ use std::marker::Model;
 
 /// An open restore: its number, its snapshot, the place of the files, the indices, and their shards in order. A shard that is
 /// over is given up, as nothing waits for it any more.
-#[derive(Debug, Drop)]
+#[derive(Drop)]
 pub struct OpenRestore {
     number: u64,
     uuid: Id,

@@ -11,7 +11,7 @@ use esr_results::{ShardResult, ShardResults};
 use std::alloc::{AllocError, Global};
 
 /// How far the work on a shard is.
-#[derive(Clone, Copy, Debug, PartialEq, Eq)]
+#[derive(Clone, Copy, PartialEq, Eq)]
 pub(crate) enum ShardState {
     Pending,
     /// This ticket works on it.
@@ -22,7 +22,7 @@ pub(crate) enum ShardState {
 }
 
 /// A shard of an open op: `at` is the place of its index in the op's list.
-#[derive(Clone, Copy, Debug, PartialEq, Eq)]
+#[derive(Clone, Copy, PartialEq, Eq)]
 pub(crate) struct OpenShard {
     pub at: usize,
     pub shard: ShardId,

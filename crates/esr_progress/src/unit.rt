@@ -10,7 +10,7 @@ use esr_root::RootData;
 use esr_seq::Text;
 
 /// What a unit is to do.
-#[derive(Debug, Drop)]
+#[derive(Drop)]
 pub enum Work {
     /// Stores the files of a shard for the snapshot `uuid`.
     Shard {
@@ -50,7 +50,7 @@ pub enum Work {
 
 /// What a unit may rely on, copied as it was given: the safe root with its generation (-1: none), and the largest live
 /// generation of its shard.
-#[derive(Debug, Drop)]
+#[derive(Drop)]
 pub struct Copied {
     pub safe: i64,
     pub root: RootData,
@@ -58,7 +58,7 @@ pub struct Copied {
 }
 
 /// A unit that is ready, with the ticket that it is given.
-#[derive(Debug, Drop)]
+#[derive(Drop)]
 pub struct ReadyUnit {
     pub ticket: u64,
     pub op: u64,
@@ -67,7 +67,7 @@ pub struct ReadyUnit {
 }
 
 /// The kind of a ticket's unit.
-#[derive(Clone, Copy, Debug, PartialEq, Eq)]
+#[derive(Clone, Copy, PartialEq, Eq)]
 pub enum SeatKind {
     Shard { shard: ShardId },
     Finalize,
@@ -77,7 +77,7 @@ pub enum SeatKind {
 
 /// What is kept of a ticket: its unit, its op, the term in which it was given, the generation that it raised, whether it
 /// has settled, and whether it is out.
-#[derive(Clone, Copy, Debug, PartialEq, Eq)]
+#[derive(Clone, Copy, PartialEq, Eq)]
 pub struct Seat {
     pub kind: SeatKind,
     pub op: u64,
@@ -88,7 +88,7 @@ pub struct Seat {
 }
 
 /// What is kept of a restore's ticket: its op, its shard, and whether it is out. It belongs to no term.
-#[derive(Clone, Copy, Debug, PartialEq, Eq)]
+#[derive(Clone, Copy, PartialEq, Eq)]
 pub struct ReaderSeat {
     pub op: u64,
     pub shard: ShardId,
@@ -96,7 +96,7 @@ pub struct ReaderSeat {
 }
 
 /// What is kept under a number: of a ticket, or of a restore's.
-#[derive(Clone, Copy, Debug, PartialEq, Eq)]
+#[derive(Clone, Copy, PartialEq, Eq)]
 pub(crate) enum Slot {
     Ticket(Seat),
     Reader(ReaderSeat),

@@ -1,4 +1,4 @@
--- No check fails where each world of the history is lawful: the safe root stands, so it agrees.
+-- No check fails for damage where each world of the history is lawful: the safe root stands, so it agrees; nor at all where no call fails.
 use Rattle.std.proofs.Common.{◌≡◌, ◌⊎◌, ℕ, suc, ◌≤◌, Bool, true, false, true≢false, List, [], ◌∷◌, ◌++◌, append-nil, append_assoc, Option, Some, None, refl, sym, ap, ◌∙◌, subst, inl, inr, arith}
 use Rattle.std.specs.Prelude.{length, if◌then◌else◌}
 use Rattle.std.specs.List.{concat}
@@ -25,17 +25,19 @@ use Rattle.esr_desk.specs.declared.fault.By.TheVariants as by
 use Rattle.esr_desk.specs.Start.{Start, formats_of, world_of}
 use Rattle.esr_reading.specs.Parts.{sized_parts, IsFront, AreFronts, AreExact}
 use Rattle.esr_checking.specs.Caller.{caller_of}
-use Rattle.esr_checking.specs.Shown.{Counts}
+use Rattle.esr_checking.specs.Shown.{Counts, IsShown}
 use Rattle.esr_checking.specs.CheckShown.{AllFetches, SinceLook, HadAnswer, ReadAs, WasUnreadable, HasReadFile, IsMisprinted, Disagree, InfoBeside, GlobalBeside, IndexMetaBeside, IndexBeside, SnapBeside, FileBeside, DepotShown, IsShownBy}
 use Rattle.esr_quiet.specs.Caused.{AreEndsCaused}
 use Rattle.esr_quiet.specs.Smooth.{IsSmooth, NoneUnverified}
 use Rattle.esr_quiet.specs.Prefixes.{Prefixes}
+use Rattle.esr_quiet.specs.OverKept.{IsLawful}
+use Rattle.esr_quiet.specs.Undamaged.{IsDamage, NoCheckFindsDamage}
 use Rattle.esr_quiet.proofs.Maps.{some_same, some_none}
 use Rattle.esr_quiet.proofs.Prefixes.{world_both, told_at, place_of, has_at}
-use Rattle.esr_quiet.proofs.Passing.{quiet_at, legal_at}
+use Rattle.esr_quiet.proofs.OverKept.{IsAlive, lawful_front, step_at, smooth_lawful, smooth_alive, alive_before}
 use Rattle.esr_quiet.proofs.Callers.{caller_one}
 use Rattle.esr_quiet.proofs.Failures.{read_shown}
-use Rattle.esr_quiet.proofs.Restores.{IsServing, missed_at}
+use Rattle.esr_quiet.proofs.Restores.{IsServing, ReadCoreLaws, missed_at, serves}
 use Rattle.esr_quiet.proofs.Verifications as verifications
 use Rattle.esr_quiet.proofs.Rooted.{AreListed, root_listed}
 use Rattle.esr_quiet.proofs.Agreed.{IsIn, is_there, does_read, info_beside, global_beside, index_meta_beside, index_beside, snap_beside, file_of}
@@ -131,7 +133,8 @@ at_one f blobs name a b p q = some_same a b (sym p.0 ∙ q.0)
 suc_same : {a b : ℕ} → suc a ≡ suc b → a ≡ b
 suc_same e = cc
 
-module _ (s : Start) (log : List Moment) (smooth : IsSmooth s log) (prefixes : Prefixes s log) (all_serve : (front back : List Moment) → log ≡ front ++ back → IsServing (formats_of s) (world_of s front)) where
+-- in each world up to the last no record swap has failed
+module _ (s : Start) (log : List Moment) (lawful : IsLawful s log) (alive : IsAlive s log) (all_serve : (front back : List Moment) → log ≡ front ++ back → IsServing (formats_of s) (world_of s front)) where
   abbrev f : Formats
   f = formats_of s
 
@@ -139,10 +142,10 @@ module _ (s : Start) (log : List Moment) (smooth : IsSmooth s log) (prefixes : P
   KnownAt front = Known f (world_of s front).blobs (world_of s front).safe (caller_of s front)
 
   tells_at : (front back : List Moment) (m : Moment) → log ≡ front ++ m ∷ back → Tells f (world_of s front) m.entry.who m.entry.step m.entry.reply m.image
-  tells_at front back m is = told_by f s.part_size (world_of s front) m (quiet_at s log smooth front (m ∷ back) is).present (legal_at s log smooth front back m is)
+  tells_at front back m is = told_by f s.part_size (world_of s front) m (alive front (m ∷ back) is) (step_at s log lawful.over front back m is)
 
   told : (front back : List Moment) (m : Moment) → log ≡ front ++ m ∷ back → (image : Image) × (m.image ≡ Some image)
-  told front back m is = told_at log m smooth.told (subst (λ (l : List Moment). Has l m) (sym is) (has_at front back m))
+  told front back m is = told_at log m lawful.over.told (subst (λ (l : List Moment). Has l m) (sym is) (has_at front back m))
 
   -- the look
   known_look : (front back : List Moment) (m : Moment) → log ≡ front ++ m ∷ back → m.entry.step ≡ LookStep → KnownAt (front ++ m ∷ [])
@@ -189,7 +192,7 @@ module _ (s : Start) (log : List Moment) (smooth : IsSmooth s log) (prefixes : P
   agrees : (front back : List Moment) → log ≡ front ++ back → (n : ℕ) → (world_of s front).safe ≡ suc n → RootAgrees f (At f (world_of s front).blobs) n
   agrees front back is n e =
       let w : World = world_of s front in
-      let law = prefixes.lawful front back is in
+      let law = lawful.lawful front back is in
       let stands : Stands f (HeldIn f w) n law.0 = subst (λ (k : ℕ). Picked f (HeldIn f w) k law.0) e law.1.lawful.sound.rooted.kept.picked in
       stands_agrees f (At f w.blobs) n law.0 (stands_kept f (HeldIn f w) (At f w.blobs) (λ name bytes h. h.0) n law.0 stands)
 
@@ -241,15 +244,6 @@ module _ (s : Start) (log : List Moment) (smooth : IsSmooth s log) (prefixes : P
         reply_is = h.reply_is;
       }
 
-  -- no object of the container fails
-  depot : {S F H T : Type 0} (c : Counts S F) (front back : List Moment) → log ≡ front ++ back → (b : By S F H T) → DepotShown c s front b → ⊥
-  depot c front back is (by.Object (objects.Stage stage)) h = h
-  depot c front back is (by.Object (objects.Fetch fetch)) h = true≢false (sym smooth.quiet ∙ h.1)
-  depot c front back is (by.Object (objects.Shard shard)) h = h
-  depot c front back is (by.Object (objects.Target target)) h = h
-  depot c front back is by.Entry h = true≢false (sym smooth.quiet ∙ h.1)
-  depot c front back is by.Nothing h = h
-
   -- no reached blob is absent
   found : (before rest : List Moment) (m : Moment) (is : log ≡ before ++ m ∷ rest) (name : BlobName) → IsReached f (world_of s before).blobs (world_of s before).safe name → fin.get (world_of s before).blobs (f.names.text name) ≡ None → ⊥
   found before rest m is name (n, e, how) none =
@@ -266,7 +260,7 @@ module _ (s : Start) (log : List Moment) (smooth : IsSmooth s log) (prefixes : P
       let r = answered_at front back is name WasAbsent h in
       let w : World = world_of s r.before in
       let image = told r.before r.rest r.moment r.is in
-      let missed = missed_at f s.part_size w r.moment name (quiet_at s log smooth r.before (r.moment ∷ r.rest) r.is).present (legal_at s log smooth r.before r.rest r.moment r.is) r.step_is r.reply_is image.0 image.1 in
+      let missed = missed_at f s.part_size w r.moment name (alive r.before (r.moment ∷ r.rest) r.is) (step_at s log lawful.over r.before r.rest r.moment r.is) r.step_is r.reply_is image.0 image.1 in
       let known = known_at r.before (r.moment ∷ r.rest) r.is r.since in
       let reached : IsReached f w.blobs w.safe name =
       reached_by f w name image.0 r.moment.entry.who r.of (λ k q there. ((all_serve r.before (r.moment ∷ r.rest) r.is).law.tracked.tickets k q there).0) known.none missed.0 in
@@ -276,20 +270,23 @@ module _ (s : Start) (log : List Moment) (smooth : IsSmooth s log) (prefixes : P
     known : KnownAt front
     known = known_at front back is since
 
+    uncommitted : (name : BlobName) → Has (caller_of s front).committed name → ⊥
+    uncommitted name committed = subst (λ (names : List BlobName). Has names name) known.none committed
+
     abbrev has : BlobName → Bytes → Type 0
     has = HeldAt front
 
     -- what was read reads as that
     reads_as : {V : Type 0} (name : BlobName) (kind : Kind V) (v : V) → ReadAs s (caller_of s front) name kind v → Reads has name kind v
-    reads_as name kind v r = let (there, reached) = known.read name r.bytes (r.fetched.read smooth.tells) in record { bytes = r.bytes; there = there; reads = r.reads }
+    reads_as name kind v r = let (there, reached) = known.read name r.bytes (r.fetched.read lawful.over.tells) in record { bytes = r.bytes; there = there; reads = r.reads }
 
     reached_as : {V : Type 0} (name : BlobName) (kind : Kind V) (v : V) → ReadAs s (caller_of s front) name kind v → IsReached f (world_of s front).blobs (world_of s front).safe name
-    reached_as name kind v r = let (there, reached) = known.read name r.bytes (r.fetched.read smooth.tells) in reached
+    reached_as name kind v r = let (there, reached) = known.read name r.bytes (r.fetched.read lawful.over.tells) in reached
 
     -- each reached blob reads
     unread : (name : BlobName) (reason : Reason) → WasUnreadable s (caller_of s front) name reason → ⊥
     unread name reason (bytes, fetched, first) =
-        let (there, reached) = known.read name bytes (fetched.read smooth.tells) in
+        let (there, reached) = known.read name bytes (fetched.read lawful.over.tells) in
         let (n, e, how) = reached in
         does_read f has (one_at front) n (agrees front back is n e) (listed_at front back is n e) name bytes (in_at front back is n e name reached) there
         (unreadable_reads_not s.known s.told name bytes reason first)
@@ -301,7 +298,7 @@ module _ (s : Start) (log : List Moment) (smooth : IsSmooth s log) (prefixes : P
         let reached = reached_as index f.shard_index h.held h.held_read in
         let (n, e, how) = reached in
         let read : AreFronts has h.index h.shard h.e fronts =
-        AllPairs-map {R = IsFront (WasRead (caller_of s front).read)} {S = IsFront has} (λ part piece x. let (there, reached) = known.read part.0 x.0 x.1 in (x.0, there, x.2)) (sized_parts h.index h.shard h.e) fronts (h.read smooth.tells) in
+        AllPairs-map {R = IsFront (WasRead (caller_of s front).read)} {S = IsFront has} (λ part piece x. let (there, reached) = known.read part.0 x.0 x.1 in (x.0, there, x.2)) (sized_parts h.index h.shard h.e) fronts (h.read lawful.over.tells) in
         file_of f has (one_at front) n (agrees front back is n e) h.index h.shard h.generation h.held h.e fronts (in_at front back is n e index reached) (reads_as index f.shard_index h.held h.held_read) h.listed read
 
     printed : (name : BlobName) (stated_len : ℕ) (stated_digest : Bytes) (found_len : ℕ) (found_digest : Bytes) → IsMisprinted s (caller_of s front) name stated_len stated_digest found_len found_digest → ⊥
@@ -335,20 +332,77 @@ module _ (s : Start) (log : List Moment) (smooth : IsSmooth s log) (prefixes : P
         (in_at front back is n e (ShardIndex index shard g) (reached_as (ShardIndex index shard g) f.shard_index held held_read)) (reads_as (ShardIndex index shard g) f.shard_index held held_read) (reads_as _ f.shard_snap snap snap_read))
     agreed name other (FileBeside file fronts h len digest differ) = let x = file_at file fronts h in differ x.2
 
-    -- no cause is shown
-    shows : {S F H T : Type 0} (c : Counts S F) (why : Why) (b : By S F H T) → IsShownBy c s front why b → ⊥
-    shows c OfDepot b h = depot c front back is b h
-    shows c (OfAbsence name) b h = absent front back is name (read_shown b _ h)
-    shows c (OfUnreadable name reason) b h = unread name reason (read_shown b _ h)
-    shows c (OfPrint name stated_len stated_digest found_len found_digest) b h = printed name stated_len stated_digest found_len found_digest (read_shown b _ h)
-    shows c (OfDisagreement name other) b h = agreed name other (read_shown b _ h)
-    shows c OfSource b h = h
-    shows c (OfChange first_len first_digest second_len second_digest) b h = h
-    shows c (OfAhead name) b h = h
-    shows c (OfTaken name) b h = h
-    shows c (OfIdsSpent next) b h = h
-    shows c (OfGenerationsSpent pending) b h = h
-    shows c OfTarget b h = h
+    -- no damage is shown
+    undamaged : {S F H T : Type 0} (c : Counts S F) (why : Why) (b : By S F H T) → IsDamage why → IsShownBy c s front why b → ⊥
+    undamaged c (OfAbsence name) b damage h = absent front back is name (read_shown b _ h)
+    undamaged c (OfUnreadable name reason) b damage h = unread name reason (read_shown b _ h)
+    undamaged c (OfPrint name stated_len stated_digest found_len found_digest) b damage h = printed name stated_len stated_digest found_len found_digest (read_shown b _ h)
+    undamaged c (OfDisagreement name other) b damage h = agreed name other (read_shown b _ h)
+    undamaged c OfDepot b damage h = damage
+    undamaged c OfSource b damage h = damage
+    undamaged c (OfChange first_len first_digest second_len second_digest) b damage h = damage
+    undamaged c (OfAhead name) b damage h = damage
+    undamaged c (OfTaken name) b damage h = damage
+    undamaged c (OfIdsSpent next) b damage h = damage
+    undamaged c (OfGenerationsSpent pending) b damage h = damage
+    undamaged c OfTarget b damage h = damage
+
+    -- nor by a verification: none is open since the look
+    unverified : {S F H T : Type 0} (c : Counts S F) (why : Why) (b : By S F H T) → IsDamage why → IsShown c s front (caller_of s front) why b → ⊥
+    unverified c (OfAbsence name) b damage h = uncommitted name (read_shown b _ h).committed
+    unverified c (OfUnreadable name reason) b damage h = uncommitted name (read_shown b _ h).0.committed
+    unverified c (OfPrint name stated_len stated_digest found_len found_digest) b damage h = uncommitted name (read_shown b _ h).committed
+    unverified c (OfDisagreement name other) b damage h = h
+    unverified c OfDepot b damage h = damage
+    unverified c OfSource b damage h = damage
+    unverified c (OfChange first_len first_digest second_len second_digest) b damage h = damage
+    unverified c (OfAhead name) b damage h = damage
+    unverified c (OfTaken name) b damage h = damage
+    unverified c (OfIdsSpent next) b damage h = damage
+    unverified c (OfGenerationsSpent pending) b damage h = damage
+    unverified c OfTarget b damage h = damage
+
+-- so none is reported
+pub none_damaged : {S F H T : Type 0} (laws : ReadCoreLaws) (s : Start) (log : List Moment) → IsLawful s log → (c : Counts S F) (faults : List (Fault S F H T)) → AreEndsCaused c s log faults → NoCheckFindsDamage log
+none_damaged laws s log lawful c faults shown front back m why is since who step reply damage =
+    let up = lawful_front s log lawful front (m ∷ back) is in
+    let alive = alive_before s log lawful.over front back m is reply in
+    let end = sym (append-nil front) in
+    let x = shown (length front) why (record { front = front; moment = m; back = back; is = is; place_is = refl; of = who; step = step; reply = reply }) in
+    elim x.1 [
+      | inl verification ↦ unverified s front up alive (serves laws s front up) front [] end since c why x.0 damage verification
+      | inr check ↦ undamaged s front up alive (serves laws s front up) front [] end since c why x.0 damage check.shown
+    ]
+
+-- ---- where no call fails
+
+module _ (s : Start) (log : List Moment) (smooth : IsSmooth s log) (prefixes : Prefixes s log) (all_serve : (front back : List Moment) → log ≡ front ++ back → IsServing (formats_of s) (world_of s front)) where
+  -- no object of the container fails
+  depot : {S F H T : Type 0} (c : Counts S F) (front back : List Moment) → log ≡ front ++ back → (b : By S F H T) → DepotShown c s front b → ⊥
+  depot c front back is (by.Object (objects.Stage stage)) h = h
+  depot c front back is (by.Object (objects.Fetch fetch)) h = true≢false (sym smooth.quiet ∙ h.1)
+  depot c front back is (by.Object (objects.Shard shard)) h = h
+  depot c front back is (by.Object (objects.Target target)) h = h
+  depot c front back is by.Entry h = true≢false (sym smooth.quiet ∙ h.1)
+  depot c front back is by.Nothing h = h
+
+  whole : {S F H T : Type 0} (front back : List Moment) → log ≡ front ++ back → SinceLook front → (c : Counts S F) (why : Why) (b : By S F H T) → IsDamage why → IsShownBy c s front why b → ⊥
+  whole front back is since c why b damage h = undamaged s log (smooth_lawful s log smooth prefixes) (smooth_alive s log smooth) all_serve front back is since c why b damage h
+
+  -- no cause is shown
+  shows : {S F H T : Type 0} (front back : List Moment) → log ≡ front ++ back → SinceLook front → (c : Counts S F) (why : Why) (b : By S F H T) → IsShownBy c s front why b → ⊥
+  shows front back is since c OfDepot b h = depot c front back is b h
+  shows front back is since c (OfAbsence name) b h = whole front back is since c (OfAbsence name) b tt h
+  shows front back is since c (OfUnreadable name reason) b h = whole front back is since c (OfUnreadable name reason) b tt h
+  shows front back is since c (OfPrint name stated_len stated_digest found_len found_digest) b h = whole front back is since c (OfPrint name stated_len stated_digest found_len found_digest) b tt h
+  shows front back is since c (OfDisagreement name other) b h = whole front back is since c (OfDisagreement name other) b tt h
+  shows front back is since c OfSource b h = h
+  shows front back is since c (OfChange first_len first_digest second_len second_digest) b h = h
+  shows front back is since c (OfAhead name) b h = h
+  shows front back is since c (OfTaken name) b h = h
+  shows front back is since c (OfIdsSpent next) b h = h
+  shows front back is since c (OfGenerationsSpent pending) b h = h
+  shows front back is since c OfTarget b h = h
 
   -- so no verification fails, and no check
   pub none_ended : {S F H T : Type 0} (c : Counts S F) (faults : List (Fault S F H T)) → AreEndsCaused c s log faults → NoneUnverified log

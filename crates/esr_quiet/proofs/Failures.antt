@@ -1,9 +1,9 @@
 -- No unit fails where each world of the history is lawful and free.
-use Rattle.std.proofs.Common.{◌≡◌, ℕ, Bool, true, false, true≢false, List, ◌∷◌, ◌++◌, Option, Some, None, refl, sym, ap, ◌∙◌, subst, inl, inr}
+use Rattle.std.proofs.Common.{◌≡◌, ◌⊎◌, ℕ, Bool, true, false, true≢false, List, ◌∷◌, ◌++◌, Option, Some, None, refl, sym, ap, ◌∙◌, subst, inl, inr}
 use Rattle.std.proofs.Common.{append_assoc}
 use Rattle.std.specs.Prelude.{length}
 use Rattle.std.specs.FinMap as fin
-use Rattle.esr_model.specs.Names.{BlobName, ShardIndex}
+use Rattle.esr_model.specs.Names.{BlobName, ShardSnap, ShardIndex}
 use Rattle.esr_model.specs.Values.{Bytes, Has, ShardFiles, Formats, Kind}
 use Rattle.esr_model.specs.Image.{Image}
 use Rattle.esr_core.specs.World.{World, Shard, Ticket}
@@ -25,11 +25,11 @@ use Rattle.esr_desk.specs.Shown.{Counts, DepotShown, SourceShown, ReadShown, Ste
 use Rattle.esr_quiet.specs.Caused.{AreCaused}
 use Rattle.esr_quiet.specs.Smooth.{IsSpent, IsSmooth, NoneFailed}
 use Rattle.esr_quiet.specs.Prefixes.{Prefixes}
-use Rattle.esr_quiet.proofs.Maps.{some_none}
 use Rattle.esr_quiet.proofs.Prefixes.{told_at, place_of, has_front, has_at}
 use Rattle.esr_quiet.proofs.Passing.{quiet_at, legal_at}
-use Rattle.esr_quiet.proofs.Uncloned.{opened_no_clones, world_no_clones}
+use Rattle.esr_quiet.proofs.Quiet.{IsSteadyAt}
 use Rattle.esr_quiet.proofs.Bases.{is_there, does_read, not_ahead}
+use Rattle.esr_quiet.proofs.Sources.{source_there, source_reads}
 use Rattle.esr_quiet.proofs.Rules.{by_rule, no_rule}
 
 -- ---- what a step tells
@@ -49,11 +49,11 @@ tells f size w who step reply image a = tt
 told_by : (f : Formats) (size : ℕ) (w : World) (m : Moment) → w.deposed ≡ false → Allowed f size w m → Tells f w m.entry.who m.entry.step m.entry.reply m.image
 told_by f size w m present a = elim a.answered [ inl alive ↦ tells f size w m.entry.who m.entry.step m.entry.reply m.image alive.1 | inr dead ↦ absurd (true≢false (sym dead.deposed ∙ present)) ]
 
-fails_at : (f : Formats) (size : ℕ) (w : World) (m : Moment) (why : Why) → w.deposed ≡ false → Allowed f size w m → m.entry.step ≡ FailedStep why → m.entry.reply ≡ HasEnded → Fails w m.entry.who
+pub fails_at : (f : Formats) (size : ℕ) (w : World) (m : Moment) (why : Why) → w.deposed ≡ false → Allowed f size w m → m.entry.step ≡ FailedStep why → m.entry.reply ≡ HasEnded → Fails w m.entry.who
 fails_at f size w m why present a step reply =
     subst (λ st. Tells f w m.entry.who st HasEnded m.image) step (subst (λ r. Tells f w m.entry.who m.entry.step r m.image) reply (told_by f size w m present a))
 
-misses_at : (f : Formats) (size : ℕ) (w : World) (m : Moment) (name : BlobName) → w.deposed ≡ false → Allowed f size w m → m.entry.step ≡ FetchStep name → m.entry.reply ≡ WasAbsent → (image : Image) → m.image ≡ Some image
+pub misses_at : (f : Formats) (size : ℕ) (w : World) (m : Moment) (name : BlobName) → w.deposed ≡ false → Allowed f size w m → m.entry.step ≡ FetchStep name → m.entry.reply ≡ WasAbsent → (image : Image) → m.image ≡ Some image
     → Fetches f w m.entry.who name × (fin.get w.blobs (f.names.text name) ≡ None)
 misses_at f size w m name present a step reply image is =
     let h = subst (λ st. Tells f w m.entry.who st WasAbsent m.image) step (subst (λ r. Tells f w m.entry.who m.entry.step r m.image) reply (told_by f size w m present a)) in
@@ -81,6 +81,15 @@ step_shown (by.Object object) shown h = absurd h
 step_shown by.Entry shown h = h
 step_shown by.Nothing shown h = absurd h
 
+-- the ticket is of a shard that copies this
+record IsCopied (t : Ticket) (name : BlobName) : Type 0 where
+  index : ℕ
+  number : ℕ
+  source : ℕ
+  work : t.work ≡ Shard index number
+  source_is : t.source ≡ Some source
+  name_is : name ≡ ShardSnap index number source
+
 module _ (s : Start) (log : List Moment) (smooth : IsSmooth s log) (prefixes : Prefixes s log) where
   -- no object of the container fails
   no_fault : (front : List Moment) (who : ℕ) → ((m : Moment) → Has front m → Has log m) → HadFault s front who → ⊥
@@ -95,12 +104,13 @@ module _ (s : Start) (log : List Moment) (smooth : IsSmooth s log) (prefixes : P
   depot c front who within by.Nothing h = h
 
   -- nor a shard
-  source : {S F H T : Type 0} (c : Counts S F H T) (t : Ticket) → ((index number : ℕ) → t.work ≡ Shard index number → s.steady t.place t.name number ≡ true) → (b : By S F H T) → SourceShown c s t b → ⊥
+  source : {S F H T : Type 0} (c : Counts S F H T) (t : Ticket) → ((index number : ℕ) → t.work ≡ Shard index number → IsSteadyAt s t.source t.place t.name number) → (b : By S F H T) → SourceShown c s t b → ⊥
   source c t steady (by.Object (objects.Stage stage)) h = h
   source c t steady (by.Object (objects.Fetch fetch)) h = h
   source c t steady (by.Object (objects.Shard shard)) h =
       let a : Address = c.made_for shard in
-      true≢false (sym (steady h.1.index a.number h.1.work) ∙ (λ j. s.steady (h.1.place j) (h.1.name j) a.number) ∙ h.0.1)
+      let sure : s.steady t.place t.name a.number ≡ true = subst (λ (o : Option ℕ). IsSteadyAt s o t.place t.name a.number) h.1.source (steady h.1.index a.number h.1.work) in
+      true≢false (sym sure ∙ (λ j. s.steady (h.1.place j) (h.1.name j) a.number) ∙ h.0.1)
   source c t steady (by.Object (objects.Target target)) h = h
   source c t steady by.Entry h = h
   source c t steady by.Nothing h = h
@@ -109,44 +119,52 @@ module _ (s : Start) (log : List Moment) (smooth : IsSmooth s log) (prefixes : P
   untold : (t : Ticket) → IsUntold s t → ⊥
   untold t (index, number, work, unknown) = true≢false (sym (smooth.known t.place t.name number) ∙ ap (λ (known : Bytes → Bytes → ℕ → Bool). known t.place t.name number) (known_is s) ∙ unknown)
 
-  -- no ticket copies a snapshot
-  uncopied : (front back : List Moment) → log ≡ front ++ back → (who : ℕ) (t : Ticket) → IsOut (world_of s front) who t → (index number : ℕ) → t.work ≡ Shard index number → t.source ≡ None
-  uncopied front back is who t out index number work =
-      let x = (prefixes.lawful front back is).1.lawful.sound.carried.shards who t out.there out.out index number work in
-      x.source_is
-      ∙ world_no_clones (formats_of s) front s.world (opened_no_clones (formats_of s) smooth.image s.world smooth.opened)
-      (λ m h. smooth.no_clone_asked m (subst (λ (l : List Moment). Has l m) (sym is) (has_front front back m h))) t.op x.op x.op_there
-
-  -- so what it fetches is its base
-  as_base : (front back : List Moment) → log ≡ front ++ back → (who : ℕ) (t : Ticket) → IsOut (world_of s front) who t → (name : BlobName) → IsToFetch t name → IsBase t name
-  as_base front back is who t out name (index, number, work, from) = elim from [
-    | inl h ↦ record { index = index; number = number; base = h.0; work = work; base_is = h.1; name_is = h.2 }
-    | inr h ↦ absurd (some_none h.0 (sym h.1 ∙ uncopied front back is who t out index number work))
+  -- it fetches its base, or the snapshot of the shard that it copies
+  to_fetch : (t : Ticket) (name : BlobName) → IsToFetch t name → IsBase t name ⊎ IsCopied t name
+  to_fetch t name (index, number, work, from) = elim from [
+    | inl h ↦ inl (record { index = index; number = number; base = h.0; work = work; base_is = h.1; name_is = h.2 })
+    | inr h ↦ inr (record { index = index; number = number; source = h.0; work = work; source_is = h.1; name_is = h.2 })
   ]
 
-  -- each base is there
+  -- each is there
   found : (front rest : List Moment) (m : Moment) → log ≡ front ++ m ∷ rest → (name : BlobName) → m.entry.step ≡ FetchStep name → m.entry.reply ≡ WasAbsent → ⊥
   found front rest m is name step reply =
       let told = told_at log m smooth.told (subst (λ (l : List Moment). Has l m) (sym is) (has_at front rest m)) in
       let at = misses_at (formats_of s) s.part_size (world_of s front) m name (quiet_at s log smooth front (m ∷ rest) is).present (legal_at s log smooth front rest m is) step reply told.0 told.1 in
       let g = at.0 in
       let law = prefixes.lawful front (m ∷ rest) is in
-      let base = as_base front (m ∷ rest) is m.entry.who g.t g.out name g.to_fetch in
-      is_there (formats_of s) (world_of s front) law.0 law.1 m.entry.who g.t g.out base.index base.number base.base base.work base.base_is (ap (λ (n : BlobName). fin.get (world_of s front).blobs ((formats_of s).names.text n)) (sym base.name_is) ∙ at.1)
+      elim (to_fetch g.t name g.to_fetch) [
+        | inl base ↦ is_there (formats_of s) (world_of s front) law.0 law.1 m.entry.who g.t g.out base.index base.number base.base base.work base.base_is (ap (λ (n : BlobName). fin.get (world_of s front).blobs ((formats_of s).names.text n)) (sym base.name_is) ∙ at.1)
+        | inr from ↦ source_there (formats_of s) (world_of s front) law.0 law.1 m.entry.who g.t g.out from.index from.number from.source from.work from.source_is (ap (λ (n : BlobName). fin.get (world_of s front).blobs ((formats_of s).names.text n)) (sym from.name_is) ∙ at.1)
+      ]
 
   missing : (front back : List Moment) → log ≡ front ++ back → (who : ℕ) (name : BlobName) → HadFetch front who name WasAbsent → ⊥
   missing front back is who name h = found h.front (h.back ++ back) h.moment (is ∙ ap (λ (l : List Moment). l ++ back) h.is ∙ append_assoc h.front (h.moment ∷ h.back) back) name h.step h.reply
 
-  -- it reads
-  unread : (front back : List Moment) → log ≡ front ++ back → (who : ℕ) → IsOut (world_of s front) who (ticket_of s front who) → (name : BlobName) → IsBase (ticket_of s front who) name → (reason : Reason) → WasUnreadable s front who name reason → ⊥
-  unread front back is who out name base reason (had, bytes, read, refuses) =
+  unread_base : (front back : List Moment) → log ≡ front ++ back → (who : ℕ) → IsOut (world_of s front) who (ticket_of s front who) → (name : BlobName) → IsBase (ticket_of s front who) name → (reason : Reason) → WasUnreadable s front who name reason → ⊥
+  unread_base front back is who out name base reason (had, bytes, read, refuses) =
       let law = prefixes.lawful front back is in
       let t : Ticket = ticket_of s front who in
       let there : Has t.read (ShardIndex base.index base.number base.base, bytes) = subst (λ (n : BlobName). Has t.read (n, bytes)) base.name_is (read smooth.tells) in
       does_read (formats_of s) (world_of s front) law.0 law.1 who t out base.index base.number base.base base.work base.base_is bytes there
       (unreadable_reads_not s.known s.told (ShardIndex base.index base.number base.base) bytes reason (subst (λ (n : BlobName). unreadable n bytes ≡ Some reason) base.name_is refuses))
 
-  -- and isn't ahead
+  unread_source : (front back : List Moment) → log ≡ front ++ back → (who : ℕ) → IsOut (world_of s front) who (ticket_of s front who) → (name : BlobName) → IsCopied (ticket_of s front who) name → (reason : Reason) → WasUnreadable s front who name reason → ⊥
+  unread_source front back is who out name from reason (had, bytes, read, refuses) =
+      let law = prefixes.lawful front back is in
+      let t : Ticket = ticket_of s front who in
+      let there : Has t.read (ShardSnap from.index from.number from.source, bytes) = subst (λ (n : BlobName). Has t.read (n, bytes)) from.name_is (read smooth.tells) in
+      source_reads (formats_of s) (world_of s front) law.0 law.1 who t out from.index from.number from.source from.work from.source_is bytes there
+      (unreadable_reads_not s.known s.told (ShardSnap from.index from.number from.source) bytes reason (subst (λ (n : BlobName). unreadable n bytes ≡ Some reason) from.name_is refuses))
+
+  -- and reads
+  unread : (front back : List Moment) → log ≡ front ++ back → (who : ℕ) → IsOut (world_of s front) who (ticket_of s front who) → (name : BlobName) → IsToFetch (ticket_of s front who) name → (reason : Reason) → WasUnreadable s front who name reason → ⊥
+  unread front back is who out name fetched reason unreadable_is = elim (to_fetch (ticket_of s front who) name fetched) [
+    | inl base ↦ unread_base front back is who out name base reason unreadable_is
+    | inr from ↦ unread_source front back is who out name from reason unreadable_is
+  ]
+
+  -- a base isn't ahead
   ahead : (front back : List Moment) → log ≡ front ++ back → (who : ℕ) → IsOut (world_of s front) who (ticket_of s front who) → (name : BlobName) → IsBase (ticket_of s front who) name → WasAhead s (ticket_of s front who) name → ⊥
   ahead front back is who out name base (bytes, read, v, reads, over) =
       let law = prefixes.lawful front back is in
@@ -171,7 +189,7 @@ module _ (s : Start) (log : List Moment) (smooth : IsSmooth s log) (prefixes : P
   shows c front back is who out OfSource b h = source c (ticket_of s front who) ((quiet_at s log smooth front back is).tickets who (ticket_of s front who) out.there).steady b h
   shows c front back is who out (OfChange first_len first_digest second_len second_digest) b h = untold (ticket_of s front who) (read_shown b _ h).1
   shows c front back is who out (OfAbsence name) b h = let x = read_shown b _ h in missing front back is who name x.1
-  shows c front back is who out (OfUnreadable name reason) b h = let x = read_shown b _ h in unread front back is who out name (as_base front back is who (ticket_of s front who) out name x.0) reason x.1
+  shows c front back is who out (OfUnreadable name reason) b h = let x = read_shown b _ h in unread front back is who out name x.0 reason x.1
   shows c front back is who out (OfAhead name) b h = let x = read_shown b _ h in ahead front back is who out name x.0 x.1
   shows c front back is who out (OfTaken name) b h = untaken front back is who name (step_shown b _ h)
   shows c front back is who out (OfIdsSpent next) b h = unspent front back is who (IdsSpent next) tt (step_shown b _ h)

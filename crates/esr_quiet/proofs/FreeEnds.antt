@@ -2,7 +2,7 @@
 use Rattle.std.proofs.Common.{◌≡◌, ◌≢◌, ◌⊎◌, ℕ, List, [], ◌∷◌, false, true≢false, Option, Some, None, map, refl, sym, ap, ◌∙◌, subst, inl, inr}
 use Rattle.std.specs.FinMap as fin
 use Rattle.esr_model.specs.Names.{ShardIndex}
-use Rattle.esr_model.specs.Values.{Has, SnapList, ShardFiles, ShardResult, Formats}
+use Rattle.esr_model.specs.Values.{Has, FileEntry, SnapList, ShardFiles, ShardResult, ReadsBack, Formats}
 use Rattle.esr_model.specs.Shelf.{Shelved}
 use Rattle.esr_model.specs.Finalize.{Finalizes, finalized_root, done_at}
 use Rattle.esr_model.specs.Image.{Blobs, At, Reads}
@@ -13,7 +13,7 @@ use Rattle.esr_core.specs.Ready.{Waits, IsShard}
 use Rattle.esr_core.specs.Steps.{IsOut, completing}
 use Rattle.esr_core.specs.Ids.{Law}
 use Rattle.esr_core.specs.Written.{WroteLaw}
-use Rattle.esr_core.specs.Allowed.{Based, DoneBy, Settles}
+use Rattle.esr_core.specs.Allowed.{Based, DoneAs, Settles}
 use Rattle.esr_core.proofs.Finalizing.{finalizes, root_one_each}
 use Rattle.esr_core.proofs.Marked.{marked_is}
 use Rattle.esr_core.proofs.Queues.{was_in}
@@ -33,20 +33,49 @@ marked_waits k r z waits = elim (marked_is k (Done r) z) [
   | inr h ↦ waited_as z (marked k (Done r) z) h.is waits
 ]
 
-module _ (f : Formats) (size : ℕ) (w : World) (shelf : List Shelved) (law : Law f w shelf) (l : IsFree f w) (k : ℕ) (t : Ticket) (out : IsOut w k t) (r : ShardResult) (is : t.work ≡ Shard r.index r.shard)
-    (op : Op) (op_there : fin.get w.ops t.op ≡ Some op) (by : DoneBy f size t r) where
+-- the index that the ticket wrote is its base with the snapshot of these files more
+pub record HasIndexed (f : Formats) (t : Ticket) (r : ShardResult) : Type 0 where
+  base : ShardFiles
+  based : Based f t r.index r.shard t.base base
+  files : List FileEntry
+  wrote : Has t.wrote (ShardIndex r.index r.shard r.generation, f.shard_index.text (with_snap base t.uuid files))
+  index_back : ReadsBack f.shard_index (with_snap base t.uuid files)
+
+-- of a shard that is done, of a clone's too
+pub has_indexed : (f : Formats) (size : ℕ) (t : Ticket) (r : ShardResult) (source : Option ℕ) → DoneAs f size t r source → HasIndexed f t r
+has_indexed f size t r None by =
+    record {
+      base = by.base;
+      based = by.based;
+      files = entries_from f size by.base t.first by.files;
+      wrote =
+          subst (λ g. Has t.wrote (ShardIndex r.index r.shard g, f.shard_index.text (with_snap by.base t.uuid (entries_from f size by.base t.first by.files)))) (sym by.generation)
+          (by.wrote (ShardIndex r.index r.shard (id_after f by.base t.first by.files)) (f.shard_index.text (with_snap by.base t.uuid (entries_from f size by.base t.first by.files)))
+          (Has-right (new_blobs f size by.base r.index r.shard t.first by.files) _ _ (inr (inl refl))));
+      index_back = by.index_back;
+    }
+has_indexed f size t r (Some source) by =
+    record {
+      base = by.base;
+      based = by.based;
+      files = by.was.files;
+      wrote =
+          subst (λ g. Has t.wrote (ShardIndex r.index r.shard g, f.shard_index.text (with_snap by.base t.uuid by.was.files))) (sym by.generation)
+          (by.wrote (ShardIndex r.index r.shard t.first) (f.shard_index.text (with_snap by.base t.uuid by.was.files)) (inr (inl refl)));
+      index_back = by.index_back;
+    }
+
+module _ (f : Formats) (w : World) (shelf : List Shelved) (law : Law f w shelf) (l : IsFree f w) (k : ℕ) (t : Ticket) (out : IsOut w k t) (r : ShardResult) (is : t.work ≡ Shard r.index r.shard)
+    (op : Op) (op_there : fin.get w.ops t.op ≡ Some op) (by : HasIndexed f t r) where
   wrote : WroteLaw f w.blobs t
   wrote = law.written k t out.there out.out (subst IsShard (sym is) tt)
 
   abbrev held_now : ShardFiles
-  held_now = with_snap by.base t.uuid (entries_from f size by.base t.first by.files)
+  held_now = with_snap by.base t.uuid by.files
 
   -- the index that it wrote
   index_there : At f w.blobs (ShardIndex r.index r.shard r.generation) (f.shard_index.text held_now)
-  index_there =
-      subst (λ g. At f w.blobs (ShardIndex r.index r.shard g) (f.shard_index.text held_now)) (sym by.generation)
-      (wrote.there _ _ (by.wrote (ShardIndex r.index r.shard (id_after f by.base t.first by.files)) (f.shard_index.text held_now)
-      (Has-right (new_blobs f size by.base r.index r.shard t.first by.files) _ _ (inr (inl refl)))))
+  index_there = wrote.there (ShardIndex r.index r.shard r.generation) (f.shard_index.text held_now) by.wrote
 
   held_is : (held : ShardFiles) → Reads (At f w.blobs) (ShardIndex r.index r.shard r.generation) f.shard_index held → held ≡ held_now
   held_is held reads = some_same _ _ (sym reads.reads ∙ ap f.shard_index.read (some_same _ _ (sym reads.there.0 ∙ index_there.0)) ∙ by.index_back)

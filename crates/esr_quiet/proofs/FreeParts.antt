@@ -136,9 +136,9 @@ module _ (tickets : FinMap nat_cmp Ticket) (own : Own tickets) where
 -- ---- ops
 
 -- an op that a delete may have aborted
-pub was_shards : (op old : Op) (by : ℕ) → (op ≡ old) ⊎ (op ≡ record old { aborted = Some by }) → (op.shards ≡ old.shards) × (op.uuid ≡ old.uuid)
-was_shards op old by (inl e) = (ap (λ (x : Op). x.shards) e, ap (λ (x : Op). x.uuid) e)
-was_shards op old by (inr e) = (ap (λ (x : Op). x.shards) e, ap (λ (x : Op). x.uuid) e)
+pub was_shards : (op old : Op) (by : ℕ) → (op ≡ old) ⊎ (op ≡ record old { aborted = Some by }) → (op.shards ≡ old.shards) × (op.uuid ≡ old.uuid) × (op.source ≡ old.source)
+was_shards op old by (inl e) = (ap (λ (x : Op). x.shards) e, ap (λ (x : Op). x.uuid) e, ap (λ (x : Op). x.source) e)
+was_shards op old by (inr e) = (ap (λ (x : Op). x.shards) e, ap (λ (x : Op). x.uuid) e, ap (λ (x : Op). x.source) e)
 
 pub waited_all : (w : World) (o : ℕ) (op : Op) (s : ShardWork) → fin.get w.ops o ≡ Some op → Has op.shards s → Waits s.state → Waited w op s
 waited_all w o op s there m waits = record { number = o; old = op; there = there; z = s; z_there = m; uuid = refl; index = refl; shard = refl; waits = waits; pending = λ e. e }

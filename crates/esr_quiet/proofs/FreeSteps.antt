@@ -1,24 +1,26 @@
 -- Each step keeps what is to be written free, where no call of the container fails.
-use Rattle.std.proofs.Common.{◌≡◌, ◌≢◌, ◌⊎◌, ℕ, zero, suc, ◌<◌, List, [], ◌∷◌, ◌++◌, Bool, true, false, Option, Some, None, map, refl, sym, ap, ◌∙◌, subst, inl, inr, arith}
+use Rattle.std.proofs.Common.{◌≡◌, ◌≢◌, ◌⊎◌, ℕ, zero, suc, ◌+◌, ◌<◌, List, [], ◌∷◌, ◌++◌, Bool, true, false, Option, Some, None, map, refl, sym, ap, ◌∙◌, subst, inl, inr, arith}
 use Rattle.std.specs.Prelude.{if◌then◌else◌}
 use Rattle.std.specs.FinMap as fin
 use Rattle.esr_model.specs.Names.{BlobName, Latest, ShardSnap}
 use Rattle.esr_model.specs.Values.{Bytes, Has, ShardResult, ReadsBack, Formats}
 use Rattle.esr_model.specs.Shelf.{Shelved}
+use Rattle.esr_model.specs.Places.{places}
 use Rattle.esr_model.specs.Image.{Image, Blobs, At, Present}
 use Rattle.esr_core.specs.World.{World, Op, ShardWork, ShardState, Pending, Shard, Deleting, Drop, Ticket, Swap, ReadState, Restored, NotRestored, Restoring, Reader, Caller, no_caller, HeldIn}
 use Rattle.esr_core.specs.Restores as restoring
 use Rattle.esr_core.specs.Restores.{IsTestOf, put_restore, read_more, restore_of, shard_handed}
 use Rattle.esr_core.specs.Generations.{IsLive}
 use Rattle.esr_core.specs.Ready.{Waits}
-use Rattle.esr_core.specs.Steps.{Largest, Removes, with_ticket, settled, given, shard_ticket, final_ticket}
+use Rattle.esr_core.specs.Steps.{Largest, Removes, with_ticket, settled, given, completing, shard_ticket, final_ticket}
 use Rattle.esr_core.specs.Turns.{plain_ticket, fails}
 use Rattle.esr_core.specs.Ids.{Law}
-use Rattle.esr_core.specs.Entry.{AskedIndex, Snapshot, AsksNoClone, Restore, Given, GivenShard, GivenFinalize, GivenDrop, GivenRestore, GivenClone, GivenDelete, GivenCleanup, Why, Read, ReadBlob, RestoredShard, CommitTest, RemoveTests, ReadFails, Step, AskStep, CommitStep, LatestStep, ReadStep, DepotFault, Reply, WasDone, WasReplaced, WasFetched, WasAbsent, WasRemoved, HasEnded, Refused, Moment}
-use Rattle.esr_core.specs.After.{asked, asked_op, taken_by, taken_shard, taken_restore, taken_restore_shard, read_told, shard_over, read_over, caller_told, caller_wrote, with_given, committing, told_blob, done_of, done_by, failed_of, failed_by, is_stale, settled_of, dropped_of, blobs_in, after}
+use Rattle.esr_core.specs.Entry.{AskedIndex, CloneOf, Snapshot, Clone, Restore, Given, GivenShard, GivenFinalize, GivenDrop, GivenRestore, GivenClone, GivenDelete, GivenCleanup, Why, Read, ReadBlob, RestoredShard, CommitTest, RemoveTests, ReadFails, Step, AskStep, CommitStep, LatestStep, ReadStep, DepotFault, Reply, WasDone, WasReplaced, WasFetched, WasAbsent, WasRemoved, HasEnded, Refused, Moment}
+use Rattle.esr_core.specs.After.{new_names, asked, asked_op, cloned_op, taken_by, taken_shard, taken_restore, taken_restore_shard, read_told, shard_over, read_over, caller_told, caller_wrote, with_given, committing, told_blob, done_of, done_by, failed_of, failed_by, is_stale, settled_of, dropped_of, blobs_in, after}
 use Rattle.esr_core.specs.Allowed as allowed
-use Rattle.esr_core.specs.Allowed.{latest_text, Told, SameBlobs, Adds, Gives, Commits, Settles, Fails, Dones, Drops, IsOwnTest, RestoreAllows, OpeningRestore, NotListed, NamedByDelete, FullOfRestores, ReadAllows, ReadFound, ReadMissing, ReadFault, RestoringShard, ReaderFailing, CheckingAll, CheckFailing, VerifyAllows, DrawingTest, TestSpent, BeginningTest, BeginTestFails, CommittingTest, TestTaken, CommitTestFails, RemovingTests, RemoveTestsFails, VerifyingAll, VerifyFailing, DoneAs, Allows, Allowed}
+use Rattle.esr_core.specs.Allowed.{latest_text, Told, SameBlobs, Adds, Gives, Commits, Settles, Fails, Dones, Drops, IsOwnTest, RestoreAllows, OpeningRestore, NotListed, NamedByDelete, FullOfRestores, ReadAllows, ReadFound, ReadMissing, ReadFault, RestoringShard, ReaderFailing, CheckingAll, CheckFailing, VerifyAllows, DrawingTest, TestSpent, BeginningTest, BeginTestFails, CommittingTest, TestTaken, CommitTestFails, RemovingTests, RemoveTestsFails, VerifyingAll, VerifyFailing, CloneAllows, OpeningClone, CloneUsed, SourceNotListed, SourceDeleted, IndexMissing, FullOfClones, CloneSpent, CloneFault, Allows, Allowed}
 use Rattle.esr_core.proofs.Accepting.{in_all}
+use Rattle.esr_core.proofs.AskedClones.{copied_pending}
 use Rattle.std.specs.Cmp.Lexicographic.{nat_list_cmp_total}
 use Rattle.esr_core.proofs.Adds.{text_one, at_kept, at_new, at_was}
 use Rattle.esr_core.proofs.Evolving.{out_pending, pending_done, failed_is, failed_goes}
@@ -26,7 +28,6 @@ use Rattle.esr_core.proofs.Histories.{deposed_stays}
 use Rattle.esr_core.proofs.LatestPut.{at_back}
 use Rattle.esr_core.proofs.Maps.{get_other, texts_same}
 use Rattle.esr_core.proofs.Moments.{moment, settled_plain}
-use Rattle.esr_core.proofs.NoClones.{AreNoClones}
 use Rattle.esr_core.proofs.Ops.{live_was}
 use Rattle.esr_core.proofs.Queues.{was_in}
 use Rattle.esr_core.proofs.Reading.{none_some, some_same, Has-left, Has-right}
@@ -36,7 +37,7 @@ use Rattle.esr_quiet.proofs.FreeFrame.{IsFree, own_all, Tests, IsNewTicket, Wait
 use Rattle.esr_quiet.proofs.FreeNames.{one_place, snap_alone, test_id_below}
 use Rattle.esr_quiet.proofs.FreeParts.{Were, Back, at_same, told_same, own_were, tests_was, tests_none, follows_same, came_all, came_put, came_new, own_put, own_new, WaitedBy, waited_as, waited_map, waited_left, live_left}
 use Rattle.esr_quiet.proofs.FreeBlobs.{used_below, free_committed}
-use Rattle.esr_quiet.proofs.FreeEnds.{free_done, live_settled}
+use Rattle.esr_quiet.proofs.FreeEnds.{has_indexed, free_done, live_settled}
 use Rattle.esr_quiet.proofs.FreeTickets.{waited, kept, beside, called, elected, changed, ended, noted, finds, fetches, tries, ends, draws, raises}
 use Rattle.esr_quiet.proofs.FreeDeletes.{asks_delete, prunes}
 
@@ -70,32 +71,37 @@ module _ (f : Formats) (w : World) (shelf : List Shelved) (law : Law f w shelf) 
   -- ---- ops
 
   -- the shards of a new op are pending, under an id that is next
-  asks : (name : Bytes) (indices : List AskedIndex) (time : ℕ) (blobs : Blobs) → Back f blobs w.blobs → IsFree f (record (asked w (Snapshot name indices time)) { blobs = blobs; caller = no_caller })
-  asks name indices time blobs back =
-      framed f w (record (asked w (Snapshot name indices time)) { blobs = blobs; caller = no_caller }) l (came_all f w) (own_all f w l) ops live back.were (tests_none f blobs no_caller refl refl)
+  opens : (new : Op) → new.uuid ≡ w.next_id → ((s : ShardWork) → Has new.shards s → s.state ≡ Pending) → (completed : List ℕ) (next_id : ℕ) (blobs : Blobs) → Back f blobs w.blobs
+      → IsFree f (record w { ops = fin.insert w.ops w.next_op new; next_op = suc w.next_op; completed = completed; next_id = next_id; blobs = blobs; caller = no_caller })
+  opens new uuid_is pending completed next_id blobs back =
+      framed f w (record w { ops = fin.insert w.ops w.next_op new; next_op = suc w.next_op; completed = completed; next_id = next_id; blobs = blobs; caller = no_caller }) l (came_all f w) (own_all f w l) ops live back.were (tests_none f blobs no_caller refl refl)
     where
-      all_pending_new : (s : ShardWork) → Has (asked_op w name indices time).shards s → s.state ≡ Pending
-      all_pending_new s m = (in_all w indices (suc w.next_id) s m).0
-
-      new_shard : (s : ShardWork) → IsNewShard f w (asked_op w name indices time) s
+      new_shard : (s : ShardWork) → IsNewShard f w new s
       new_shard s =
           record {
-            absent = λ p. let b : w.next_id < w.next_id = (law.ids.blobs (ShardSnap s.ref.id s.number w.next_id) p).1 in omega (arith, b);
-            unlisted = λ g held list used reads m same. let b : list.uuid < w.next_id = used_below f w shelf law s.ref.id s.number g held list used reads m in let e : list.uuid ≡ w.next_id = same in omega (arith, b, e);
+            absent = λ p. let b : new.uuid < w.next_id = (law.ids.blobs (ShardSnap s.ref.id s.number new.uuid) p).1 in let e : new.uuid ≡ w.next_id = uuid_is in omega (arith, b, e);
+            unlisted = λ g held list used reads m same. let b : list.uuid < w.next_id = used_below f w shelf law s.ref.id s.number g held list used reads m in let e : list.uuid ≡ w.next_id = same ∙ uuid_is in omega (arith, b, e);
           }
 
-      ops : (o : ℕ) (op : Op) (s : ShardWork) → fin.get (fin.insert w.ops w.next_op (asked_op w name indices time)) o ≡ Some op → Has op.shards s → Waits s.state → Waited w op s ⊎ IsNewShard f w op s
-      ops o op s e m waits = elim (was_in w.ops w.next_op (asked_op w name indices time) o op e) [
+      ops : (o : ℕ) (op : Op) (s : ShardWork) → fin.get (fin.insert w.ops w.next_op new) o ≡ Some op → Has op.shards s → Waits s.state → Waited w op s ⊎ IsNewShard f w op s
+      ops o op s e m waits = elim (was_in w.ops w.next_op new o op e) [
         | inl h ↦ inr (subst (λ (x : Op). IsNewShard f w x s) h.1 (new_shard s))
         | inr h ↦ waited f w shelf law l o op s h.1 m waits
       ]
 
-      live : (i n g : ℕ) → IsLive w.root (fin.insert w.ops w.next_op (asked_op w name indices time)) i n g → IsLive w.root w.ops i n g ⊎ ListsDone f w (asked w (Snapshot name indices time)) i n g
+      live : (i n g : ℕ) → IsLive w.root (fin.insert w.ops w.next_op new) i n g
+          → IsLive w.root w.ops i n g ⊎ ListsDone f w (record w { ops = fin.insert w.ops w.next_op new; next_op = suc w.next_op; completed = completed; next_id = next_id; blobs = blobs; caller = no_caller }) i n g
       live i n g (inl h) = inl (inl h)
-      live i n g (inr (uuid, d)) = elim (was_in w.ops w.next_op (asked_op w name indices time) d.number d.op d.there) [
-        | inl h ↦ absurd (pending_done (sym (all_pending_new d.s (subst (λ (x : Op). Has x.shards d.s) (sym h.1) d.s_there)) ∙ d.state))
+      live i n g (inr (uuid, d)) = elim (was_in w.ops w.next_op new d.number d.op d.there) [
+        | inl h ↦ absurd (pending_done (sym (pending d.s (subst (λ (x : Op). Has x.shards d.s) (sym h.1) d.s_there)) ∙ d.state))
         | inr h ↦ inl (inr (uuid, record { number = d.number; op = d.op; there = h.1; uuid_is = d.uuid_is; s = d.s; s_there = d.s_there; r = d.r; state = d.state; index_is = d.index_is; shard_is = d.shard_is; generation_is = d.generation_is }))
       ]
+
+  asks : (name : Bytes) (indices : List AskedIndex) (time : ℕ) (blobs : Blobs) → Back f blobs w.blobs → IsFree f (record (asked w (Snapshot name indices time)) { blobs = blobs; caller = no_caller })
+  asks name indices time blobs back = opens (asked_op w name indices time) refl (λ s m. (in_all w indices (suc w.next_id) s m).0) (completing w.completed w.next_op (asked_op w name indices time).shards) (w.next_id + suc (new_names w indices)) blobs back
+
+  clones : (source name : Bytes) (names : List Bytes) (time : ℕ) (taken : CloneOf) (blobs : Blobs) → Back f blobs w.blobs → IsFree f (record (asked w (Clone source name names time (Some taken))) { blobs = blobs; caller = no_caller })
+  clones source name names time taken blobs back = opens (cloned_op w name time taken) refl (λ s m. copied_pending (places taken.indices) s m) (completing w.completed w.next_op (cloned_op w name time taken).shards) (suc w.next_id) blobs back
 
   -- a new ticket of no shard
   gives_plain : (v : Ticket) → IsNewTicket f w v → v.drawn ≡ 0 → (blobs : Blobs) → Back f blobs w.blobs → IsFree f (record w { tickets = fin.insert w.tickets w.next_ticket v; next_ticket = suc w.next_ticket; blobs = blobs })
@@ -259,7 +265,7 @@ module _ (f : Formats) (w : World) (shelf : List Shelved) (law : Law f w shelf) 
 
 -- ---- each answer, where the image is told
 
-module _ (f : Formats) (size : ℕ) (w : World) (shelf : List Shelved) (law : Law f w shelf) (l : IsFree f w) (none_copies : AreNoClones w.ops) where
+module _ (f : Formats) (size : ℕ) (w : World) (shelf : List Shelved) (law : Law f w shelf) (l : IsFree f w) where
   commits : (k : ℕ) (name : BlobName) (image : Option Image) (c : Commits f w k name) → Told image (Adds f w name c.bytes) → (i : Image) → image ≡ Some i → IsFree f (after f w (moment k (CommitStep name) WasDone image))
   commits k name None c adds i told = absurd (none_some i told)
   commits k name (Some x) c adds i told =
@@ -279,7 +285,7 @@ module _ (f : Formats) (size : ℕ) (w : World) (shelf : List Shelved) (law : La
   does k r (Some x) d same i told =
       subst (λ o. IsFree f (record (done_of w k r o) { blobs = x.blobs })) (sym d.out.there)
       (subst (λ o. IsFree f (record (done_by w k r d.t o) { blobs = x.blobs })) (sym d.op_there)
-      (free_done f size w shelf law l k d.t d.out r d.is d.op d.op_there (subst (DoneAs f size d.t r) (sym d.source_is ∙ none_copies d.t.op d.op d.op_there) d.done) x.blobs (at_same f w (Some x) same)))
+      (free_done f w shelf law l k d.t d.out r d.is d.op d.op_there (has_indexed f size d.t r d.t.source d.done) x.blobs (at_same f w (Some x) same)))
 
   still : (image : Option Image) → SameBlobs w image → IsFree f (record w { blobs = blobs_in image w.blobs })
   still image same = kept f w shelf law l (blobs_in image w.blobs) (at_same f w image same)
@@ -294,6 +300,17 @@ module _ (f : Formats) (size : ℕ) (w : World) (shelf : List Shelved) (law : La
   asks_restore name place reply image (NotListed im none) same = anew im same no_caller refl refl
   asks_restore name place reply image (NamedByDelete uuid d im listed named) same = anew im same no_caller refl refl
   asks_restore name place reply image (FullOfRestores uuid im listed spared full) same = anew im same no_caller refl refl
+
+  asks_clone : (source name : Bytes) (names : List Bytes) (time : ℕ) (taken : Option CloneOf) (reply : Reply) (image : Option Image) → reply ≢ Refused DepotFault → CloneAllows f w source name names time taken reply image → SameBlobs w image
+      → IsFree f (after f w (moment 0 (AskStep (Clone source name names time taken)) reply image))
+  asks_clone source name names time taken reply image calm (OpeningClone t o im acc) same = clones f w shelf law l source name names time t (blobs_in im w.blobs) (at_same f w im same)
+  asks_clone source name names time taken reply image calm (CloneUsed uuid im clear is) same = anew im same no_caller refl refl
+  asks_clone source name names time taken reply image calm (SourceNotListed im may none) same = anew im same no_caller refl refl
+  asks_clone source name names time taken reply image calm (SourceDeleted uuid d im may listed named) same = anew im same no_caller refl refl
+  asks_clone source name names time taken reply image calm (IndexMissing uuid place im may first) same = anew im same no_caller refl refl
+  asks_clone source name names time taken reply image calm (FullOfClones uuid im may full) same = anew im same no_caller refl refl
+  asks_clone source name names time taken reply image calm (CloneSpent uuid im may room spent) same = anew im same no_caller refl refl
+  asks_clone source name names time taken reply image calm (CloneFault t im acc) same = absurd (calm refl)
 
   -- it goes on
   goes : (image : Option Image) → SameBlobs w image → (caller : Caller) → Tests f (blobs_in image w.blobs) caller → IsFree f (record w { blobs = blobs_in image w.blobs; caller = caller })
@@ -358,62 +375,62 @@ module _ (f : Formats) (size : ℕ) (w : World) (shelf : List Shelved) (law : La
   verifies read reply image calm i told (VerifyingAll im done same) = anew im same no_caller refl refl
   verifies read reply image calm i told (VerifyFailing why im begun same) = anew im same no_caller refl refl
 
-  free_by : (who : ℕ) (step : Step) (reply : Reply) (image : Option Image) → reply ≢ Refused DepotFault → AsksNoClone step → (i : Image) → image ≡ Some i → Allows f size w who step reply image → IsFree f (after f w (moment who step reply image))
-  free_by who step reply image calm unasked i told (allowed.Accepting name indices time o im acc same) = asks f w shelf law l name indices time (blobs_in im w.blobs) (at_same f w im same)
-  free_by who step reply image calm unasked i told (allowed.GivingNothing im none same) = still im same
-  free_by who step reply image calm unasked i told (allowed.Giving k o unit im is lowest g same) = gives f w shelf law l o unit g (blobs_in im w.blobs) (at_same f w im same)
-  free_by who step reply image calm unasked i told (allowed.Drawing k n first im d same) = draws f w shelf law l k n d.may.t d.may.out.there d.may.shard (blobs_in im w.blobs) (at_same f w im same)
-  free_by who step reply image calm unasked i told (allowed.Beginning k name im c same) = still im same
-  free_by who step reply image calm unasked i told (allowed.BeginningLatest k im c same) = still im same
-  free_by who step reply image calm unasked i told (allowed.Committing k name im c adds) = commits k name im c adds i told
-  free_by who step reply image calm unasked i told (allowed.Finding k name im c found) =
+  free_by : (who : ℕ) (step : Step) (reply : Reply) (image : Option Image) → reply ≢ Refused DepotFault → (i : Image) → image ≡ Some i → Allows f size w who step reply image → IsFree f (after f w (moment who step reply image))
+  free_by who step reply image calm i told (allowed.Accepting name indices time o im acc same) = asks f w shelf law l name indices time (blobs_in im w.blobs) (at_same f w im same)
+  free_by who step reply image calm i told (allowed.GivingNothing im none same) = still im same
+  free_by who step reply image calm i told (allowed.Giving k o unit im is lowest g same) = gives f w shelf law l o unit g (blobs_in im w.blobs) (at_same f w im same)
+  free_by who step reply image calm i told (allowed.Drawing k n first im d same) = draws f w shelf law l k n d.may.t d.may.out.there d.may.shard (blobs_in im w.blobs) (at_same f w im same)
+  free_by who step reply image calm i told (allowed.Beginning k name im c same) = still im same
+  free_by who step reply image calm i told (allowed.BeginningLatest k im c same) = still im same
+  free_by who step reply image calm i told (allowed.Committing k name im c adds) = commits k name im c adds i told
+  free_by who step reply image calm i told (allowed.Finding k name im c found) =
       finds f w shelf law l k c.t c.out.there name (blobs_in im w.blobs) (at_same f w im (told_same w im (λ blobs. Present f w.blobs name × (blobs ≡ w.blobs)) (λ blobs h. h.1) found))
-  free_by who step reply image calm unasked i told (allowed.Replacing k im c named puts) = replaces k im c.t c.out.there c.n named puts i told
-  free_by who step reply image calm unasked i told (allowed.Fetching k name im g found) =
+  free_by who step reply image calm i told (allowed.Replacing k im c named puts) = replaces k im c.t c.out.there c.n named puts i told
+  free_by who step reply image calm i told (allowed.Fetching k name im g found) =
       fetches f w shelf law l k g.t g.out.there name (told_blob f im name) (blobs_in im w.blobs)
       (at_same f w im (told_same w im (λ blobs. (bytes : Bytes) × (fin.get w.blobs (f.names.text name) ≡ Some bytes) × (blobs ≡ w.blobs)) (λ blobs h. h.2) found))
-  free_by who step reply image calm unasked i told (allowed.Missing k name im g found) = still im (told_same w im (λ blobs. (fin.get w.blobs (f.names.text name) ≡ None) × (blobs ≡ w.blobs)) (λ blobs h. h.1) found)
-  free_by who step reply image calm unasked i told (allowed.Listing k im t out same) = still im same
-  free_by who step reply image calm unasked i told (allowed.Raising k n im r same) = raises f w shelf law l k n r (blobs_in im w.blobs) (at_same f w im same)
-  free_by who step reply image calm unasked i told (allowed.Settling k im s same) = settles_step f w shelf law l k s (blobs_in im w.blobs) (at_same f w im same)
-  free_by who step reply image calm unasked i told (allowed.Doing k r im d same) = does k r im d same i told
-  free_by who step reply image calm unasked i told (allowed.Failing k why im c same) = fails_step f w shelf law l k c (blobs_in im w.blobs) (at_same f w im same)
-  free_by who step reply image calm unasked i told (allowed.Finishing k im c same) =
+  free_by who step reply image calm i told (allowed.Missing k name im g found) = still im (told_same w im (λ blobs. (fin.get w.blobs (f.names.text name) ≡ None) × (blobs ≡ w.blobs)) (λ blobs h. h.1) found)
+  free_by who step reply image calm i told (allowed.Listing k im t out same) = still im same
+  free_by who step reply image calm i told (allowed.Raising k n im r same) = raises f w shelf law l k n r (blobs_in im w.blobs) (at_same f w im same)
+  free_by who step reply image calm i told (allowed.Settling k im s same) = settles_step f w shelf law l k s (blobs_in im w.blobs) (at_same f w im same)
+  free_by who step reply image calm i told (allowed.Doing k r im d same) = does k r im d same i told
+  free_by who step reply image calm i told (allowed.Failing k why im c same) = fails_step f w shelf law l k c (blobs_in im w.blobs) (at_same f w im same)
+  free_by who step reply image calm i told (allowed.Finishing k im c same) =
       changed f w shelf law l k c.t c.out.there (λ (t : Ticket). record t { out = false }) (ended f w shelf law l c.t) refl refl refl (blobs_in im w.blobs) (at_same f w im same)
-  free_by who step reply image calm unasked i told (allowed.Dropping k im c same) = drops_step f w shelf law l k c (blobs_in im w.blobs) (at_same f w im same)
-  free_by who step reply image calm unasked i told (allowed.Electing im room same) = elected f w shelf law l (blobs_in im w.blobs) (at_same f w im same)
-  free_by who step reply image calm unasked i told (allowed.Looking im same) = anew im same (record no_caller { looked = true }) refl refl
-  free_by who step reply image calm unasked i told (allowed.AskingRestore name place rep im h same) = asks_restore name place rep im h same
-  free_by who step reply image calm unasked i told (allowed.AskingClone source name names time taken rep im h same) = absurd (unasked source name names time taken refl)
-  free_by who step reply image calm unasked i told (allowed.AskingDelete names rep im h same) = asks_delete f w shelf law l names rep im calm h same
-  free_by who step reply image calm unasked i told (allowed.Reading k read rep im h same) = reads k read rep im calm h same
-  free_by who step reply image calm unasked i told (allowed.Verifying read rep im h) = verifies read rep im calm i told h
-  free_by who step reply image calm unasked i told (allowed.Pruning k prune rep im h) = prunes f w shelf law l k prune rep im calm i told h
-  free_by who step reply image calm unasked i told (allowed.Cleaning c d x im recorded there clean same) = anew im same no_caller refl refl
-  free_by who step reply image calm unasked i told (allowed.Used name indices time uuid im clear is same) = anew im same no_caller refl refl
-  free_by who step reply image calm unasked i told (allowed.Full name indices time im clear unused full same) = anew im same no_caller refl refl
-  free_by who step reply image calm unasked i told (allowed.AskSpent name indices time im clear unused room spent same) = anew im same no_caller refl refl
-  free_by who step reply image calm unasked i told (allowed.DrawSpent k n im may spent same) = still im same
-  free_by who step reply image calm unasked i told (allowed.RaiseStale k im may apart same) = still im same
-  free_by who step reply image calm unasked i told (allowed.SettleStale k n t s im may apart same) = still im same
-  free_by who step reply image calm unasked i told (allowed.DropStale k im may apart same) = still im same
-  free_by who step reply image calm unasked i told (allowed.RaiseSpent k im may present spent same) = still im same
-  free_by who step reply image calm unasked i told (allowed.ElectSpent im spent same) = still im same
-  free_by who step reply image calm unasked i told (allowed.Taken k name im c aside found) = still im (told_same w im (λ blobs. Present f w.blobs name × (blobs ≡ w.blobs)) (λ blobs h. h.1) found)
-  free_by who step reply image calm unasked i told (allowed.BeginFails k name im c same) = absurd (calm refl)
-  free_by who step reply image calm unasked i told (allowed.BeginLatestFails k im c same) = absurd (calm refl)
-  free_by who step reply image calm unasked i told (allowed.CommitFails k name im c leaves) = absurd (calm refl)
-  free_by who step reply image calm unasked i told (allowed.ReplaceFails k im c named puts) = absurd (calm refl)
-  free_by who step reply image calm unasked i told (allowed.FetchFails k name im g same) = absurd (calm refl)
-  free_by who step reply image calm unasked i told (allowed.ListFails k im t out same) = absurd (calm refl)
-  free_by who step reply image calm unasked i told (allowed.AskFails name indices time im acc same) = absurd (calm refl)
-  free_by who step reply image calm unasked i told (allowed.RaiseFails k im r same) = absurd (calm refl)
-  free_by who step reply image calm unasked i told (allowed.SettleFails k im s same) = absurd (calm refl)
-  free_by who step reply image calm unasked i told (allowed.DropFails k im c same) = absurd (calm refl)
-  free_by who step reply image calm unasked i told (allowed.ElectFails im room same) = absurd (calm refl)
+  free_by who step reply image calm i told (allowed.Dropping k im c same) = drops_step f w shelf law l k c (blobs_in im w.blobs) (at_same f w im same)
+  free_by who step reply image calm i told (allowed.Electing im room same) = elected f w shelf law l (blobs_in im w.blobs) (at_same f w im same)
+  free_by who step reply image calm i told (allowed.Looking im same) = anew im same (record no_caller { looked = true }) refl refl
+  free_by who step reply image calm i told (allowed.AskingRestore name place rep im h same) = asks_restore name place rep im h same
+  free_by who step reply image calm i told (allowed.AskingClone source name names time taken rep im h same) = asks_clone source name names time taken rep im calm h same
+  free_by who step reply image calm i told (allowed.AskingDelete names rep im h same) = asks_delete f w shelf law l names rep im calm h same
+  free_by who step reply image calm i told (allowed.Reading k read rep im h same) = reads k read rep im calm h same
+  free_by who step reply image calm i told (allowed.Verifying read rep im h) = verifies read rep im calm i told h
+  free_by who step reply image calm i told (allowed.Pruning k prune rep im h) = prunes f w shelf law l k prune rep im calm i told h
+  free_by who step reply image calm i told (allowed.Cleaning c d x im recorded there clean same) = anew im same no_caller refl refl
+  free_by who step reply image calm i told (allowed.Used name indices time uuid im clear is same) = anew im same no_caller refl refl
+  free_by who step reply image calm i told (allowed.Full name indices time im clear unused full same) = anew im same no_caller refl refl
+  free_by who step reply image calm i told (allowed.AskSpent name indices time im clear unused room spent same) = anew im same no_caller refl refl
+  free_by who step reply image calm i told (allowed.DrawSpent k n im may spent same) = still im same
+  free_by who step reply image calm i told (allowed.RaiseStale k im may apart same) = still im same
+  free_by who step reply image calm i told (allowed.SettleStale k n t s im may apart same) = still im same
+  free_by who step reply image calm i told (allowed.DropStale k im may apart same) = still im same
+  free_by who step reply image calm i told (allowed.RaiseSpent k im may present spent same) = still im same
+  free_by who step reply image calm i told (allowed.ElectSpent im spent same) = still im same
+  free_by who step reply image calm i told (allowed.Taken k name im c aside found) = still im (told_same w im (λ blobs. Present f w.blobs name × (blobs ≡ w.blobs)) (λ blobs h. h.1) found)
+  free_by who step reply image calm i told (allowed.BeginFails k name im c same) = absurd (calm refl)
+  free_by who step reply image calm i told (allowed.BeginLatestFails k im c same) = absurd (calm refl)
+  free_by who step reply image calm i told (allowed.CommitFails k name im c leaves) = absurd (calm refl)
+  free_by who step reply image calm i told (allowed.ReplaceFails k im c named puts) = absurd (calm refl)
+  free_by who step reply image calm i told (allowed.FetchFails k name im g same) = absurd (calm refl)
+  free_by who step reply image calm i told (allowed.ListFails k im t out same) = absurd (calm refl)
+  free_by who step reply image calm i told (allowed.AskFails name indices time im acc same) = absurd (calm refl)
+  free_by who step reply image calm i told (allowed.RaiseFails k im r same) = absurd (calm refl)
+  free_by who step reply image calm i told (allowed.SettleFails k im s same) = absurd (calm refl)
+  free_by who step reply image calm i told (allowed.DropFails k im c same) = absurd (calm refl)
+  free_by who step reply image calm i told (allowed.ElectFails im room same) = absurd (calm refl)
 
-pub step_free : (f : Formats) (size : ℕ) (w : World) (shelf : List Shelved) → Law f w shelf → IsFree f w → AreNoClones w.ops → (m : Moment) → m.entry.reply ≢ Refused DepotFault → AsksNoClone m.entry.step → (i : Image) → m.image ≡ Some i → Allowed f size w m → IsFree f (after f w m)
-step_free f size w shelf law l none_copies m calm unasked i told a = elim a.answered [
-  | inl alive ↦ free_by f size w shelf law l none_copies m.entry.who m.entry.step m.entry.reply m.image calm unasked i told alive.1
+pub step_free : (f : Formats) (size : ℕ) (w : World) (shelf : List Shelved) → Law f w shelf → IsFree f w → (m : Moment) → m.entry.reply ≢ Refused DepotFault → (i : Image) → m.image ≡ Some i → Allowed f size w m → IsFree f (after f w m)
+step_free f size w shelf law l m calm i told a = elim a.answered [
+  | inl alive ↦ free_by f size w shelf law l m.entry.who m.entry.step m.entry.reply m.image calm i told alive.1
   | inr dead ↦ subst (IsFree f) (sym (deposed_stays f w m dead)) l
 ]

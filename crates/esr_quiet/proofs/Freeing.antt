@@ -9,15 +9,13 @@ use Rattle.esr_core.specs.Entry.{Moment}
 use Rattle.esr_core.specs.After.{after}
 use Rattle.esr_core.specs.Allowed.{Allowed}
 use Rattle.esr_core.specs.History.{world_from, IsLegal, AllKnown, all_handed_out, AreTold, IsHonest, AreHonest}
-use Rattle.esr_core.proofs.NoClones.{AreNoClones, after_no_clones}
 use Rattle.esr_core.proofs.Opening.{nothing}
 use Rattle.esr_quiet.specs.Free.{Free}
-use Rattle.esr_quiet.specs.Smooth.{AreCalm, NoCloneAsked}
+use Rattle.esr_quiet.specs.Smooth.{AreCalm}
 use Rattle.esr_quiet.proofs.Core.{CoreLaws}
 use Rattle.esr_quiet.proofs.FreeFrame.{IsFree}
 use Rattle.esr_quiet.proofs.FreeParts.{tests_none}
 use Rattle.esr_quiet.proofs.FreeSteps.{step_free}
-use Rattle.esr_quiet.proofs.Uncloned.{opened_no_clones}
 
 -- ---- the front of a history, and what comes next
 
@@ -81,18 +79,17 @@ opened_free f image w (OpenedRecord cluster text root there reads is) =
 
 module _ (laws : CoreLaws) (f : Formats) (part_size : ℕ) (image : Image) (shelf : List Shelved) (w : World) (known : AllKnown f) (kept : Kept f image shelf) (opens : Opened f image w) where
   -- after the front of a history, over the rest of it
-  free_from : (rest log : List Moment) → IsFree f (world_from f w log) → AreNoClones (world_from f w log).ops → IsLegal f part_size w (log ++ rest) → AreTold (log ++ rest) → AreHonest f w (log ++ rest) → AreCalm (log ++ rest) → NoCloneAsked (log ++ rest) → IsFree f (world_from f w (log ++ rest))
-  free_from [] log l none_copies legal told honest calm uncloned = subst (λ xs. IsFree f (world_from f w xs)) (sym (no_more log)) l
-  free_from (m ∷ rest) log l none_copies legal told honest calm uncloned =
+  free_from : (rest log : List Moment) → IsFree f (world_from f w log) → IsLegal f part_size w (log ++ rest) → AreTold (log ++ rest) → AreHonest f w (log ++ rest) → AreCalm (log ++ rest) → IsFree f (world_from f w (log ++ rest))
+  free_from [] log l legal told honest calm = subst (λ xs. IsFree f (world_from f w xs)) (sym (no_more log)) l
+  free_from (m ∷ rest) log l legal told honest calm =
       let law = laws.lawful f part_size image shelf w log (all_handed_out f w log known) kept opens (legal_front f part_size w log (m ∷ rest) legal) (told_front log (m ∷ rest) told) (honest_front f w log (m ∷ rest) honest) in
       let (i, is) = told_next log rest m told in
-      let no_clone = uncloned m (has_next log rest m) in
-      let next = step_free f part_size (world_from f w log) _ law l none_copies m (calm m (has_next log rest m)) no_clone i is (legal_next f part_size w log rest m legal) in
+      let next = step_free f part_size (world_from f w log) _ law l m (calm m (has_next log rest m)) i is (legal_next f part_size w log rest m legal) in
       let same : log ++ m ∷ rest ≡ (log ++ m ∷ []) ++ rest = sym (one_more log rest m) in
       subst (λ xs. IsFree f (world_from f w xs)) (sym same)
-      (free_from rest (log ++ m ∷ []) (subst (IsFree f) (sym (world_next f w log m)) next) (subst (λ (x : World). AreNoClones x.ops) (sym (world_next f w log m)) (after_no_clones f (world_from f w log) m no_clone none_copies)) (subst (IsLegal f part_size w) same legal) (subst AreTold same told) (subst (AreHonest f w) same honest) (subst AreCalm same calm) (subst NoCloneAsked same uncloned))
+      (free_from rest (log ++ m ∷ []) (subst (IsFree f) (sym (world_next f w log m)) next) (subst (IsLegal f part_size w) same legal) (subst AreTold same told) (subst (AreHonest f w) same honest) (subst AreCalm same calm))
 
 pub histories_free : CoreLaws → (f : Formats) (part_size : ℕ) (image : Image) (shelf : List Shelved) (w : World) (log : List Moment) → AllKnown f → Kept f image shelf → Opened f image w → IsLegal f part_size w log → AreTold log → AreHonest f w log
-    → AreCalm log → NoCloneAsked log → Free f (world_from f w log)
-histories_free laws f part_size image shelf w log known kept opens legal told honest calm uncloned =
-    (free_from laws f part_size image shelf w known kept opens log [] (opened_free f image w opens) (opened_no_clones f image w opens) legal told honest calm uncloned).free
+    → AreCalm log → Free f (world_from f w log)
+histories_free laws f part_size image shelf w log known kept opens legal told honest calm =
+    (free_from laws f part_size image shelf w known kept opens log [] (opened_free f image w opens) legal told honest calm).free

@@ -5,10 +5,13 @@ pub mod Callers
 pub mod Numbers
 pub mod Terms
 pub mod Quiet
-pub mod Uncloned
+pub mod Sources
 pub mod Passing
+pub mod OverKept
 pub mod Bases
 pub mod Failures
+pub mod UnitDamage
+pub mod FreeCommits
 pub mod Rules
 pub mod Pruned
 pub mod Undeleted
@@ -30,3 +33,7 @@ pub mod FreeTickets
 pub mod FreeDeletes
 pub mod FreeSteps
 pub mod Freeing
+pub mod SpareFrame
+pub mod SpareBlobs
+pub mod SpareSteps
+pub mod Untaken

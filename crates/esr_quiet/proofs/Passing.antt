@@ -15,7 +15,7 @@ module _ (s : Start) (log : List Moment) (smooth : IsSmooth s log) where
       let within : (m : Moment) → Has front m → Has log m = λ m h. subst (λ (l : List Moment). Has l m) (sym is) (has_front front back m h) in
       quiet_history s (formats_of s) s.part_size front s.world (quiet_opened s (formats_of s) smooth.image s.world smooth.opened)
       (legal_front (formats_of s) s.part_size front back s.world (subst (IsLegal (formats_of s) s.part_size s.world) is smooth.legal))
-      (λ m name indices moment h. smooth.steady m name indices moment (within m h)) (λ m h. smooth.calm m (within m h)) (λ m h. smooth.unelected m (within m h)) (λ m h. smooth.no_clone_asked m (within m h))
+      (λ m name indices moment h. smooth.steady m name indices moment (within m h)) (λ m h. smooth.calm m (within m h)) (λ m h. smooth.unelected m (within m h))
 
   pub legal_at : (front back : List Moment) (m : Moment) → log ≡ front ++ m ∷ back → Allowed (formats_of s) s.part_size (world_of s front) m
   legal_at front back m is = (legal_rest (formats_of s) s.part_size front (m ∷ back) s.world (subst (IsLegal (formats_of s) s.part_size s.world) is smooth.legal)).0
@@ -41,5 +41,4 @@ module _ (s : Start) (log : List Moment) (smooth : IsSmooth s log) where
         calm = λ m h. smooth.calm m (within m h);
         unspent = λ m h. smooth.unspent m (within m h);
         unelected = λ m h. smooth.unelected m (within m h);
-        no_clone_asked = λ m h. smooth.no_clone_asked m (within m h);
       }

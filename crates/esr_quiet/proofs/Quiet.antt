@@ -1,5 +1,5 @@
 -- What no step breaks where no call fails and nobody is elected: no record swap has failed, no cleanup is open, each ticket is
--- of the present term, and the shards of open ops and of tickets are steady.
+-- of the present term, and the shards of open ops and of tickets are steady, those of clones aside.
 use Rattle.std.proofs.Common.{◌≡◌, ◌≢◌, ◌⊎◌, ℕ, zero, suc, ◌+◌, ◌<◌, Bool, true, false, List, [], ◌∷◌, ◌++◌, Option, Some, None, map, refl, sym, ap, ◌∙◌, subst, inl, inr, arith, nat_cmp}
 use Rattle.std.specs.Prelude.{if◌then◌else◌, ◌==◌, ◌&&◌}
 use Rattle.std.specs.FinMap.{FinMap}
@@ -15,13 +15,13 @@ use Rattle.esr_core.specs.Steps.{noting, given, shard_ticket, final_ticket}
 use Rattle.esr_core.specs.Deletes.{named_uuids, waiting_delete, running_delete, aborted_ops, with_named, delete_merged, delete_by}
 use Rattle.esr_core.specs.Pruning.{planned_work, planned}
 use Rattle.esr_core.specs.Turns.{Aborts, plain_ticket, fails, fails_by}
-use Rattle.esr_core.specs.Entry.{AskedIndex, Snapshot, Clone, DeleteSnapshots, AsksNoClone, Restore, Given, GivenShard, GivenClone, GivenFinalize, GivenDrop, GivenRestore, Read, ReadBlob, RestoredShard, CheckedAll, DrawTest, CommitTest, ReadFails, Step, AskStep, TakeStep, DrawStep, CommitStep, LatestStep, FetchStep, RaiseStep, SettleStep, DoneStep, FailedStep, FinishStep, DroppedStep, ElectStep, ReadStep, DepotFault, Reply, Gave, DrawnFrom, WasDone, WasThere, WasFetched, Refused, AcceptedRestore, Moment, GivenDelete, Prune, FetchShard, PlanShards, SettlePruned, RemoveDoomed, EndDelete, DeleteFails, PruneStep}
-use Rattle.esr_core.specs.After.{asked, asked_op, known_id, ref_by, next_by, refs_from, pending_shards, all_pending, taken_shard, taken_restore_shard, taken_restore, taken_by, read_told, shard_over, read_over, read_step, read_by, shard_of, with_given, committing, told_blob, fetching, settled_by, settled_of, done_by, done_of, is_stale, failed_by, failed_of, dropped_of, delete_settled_by, delete_settled, delete_failed_by, delete_failed, prune_step, done_step, answered, after}
+use Rattle.esr_core.specs.Entry.{AskedIndex, Snapshot, Clone, CloneOf, DeleteSnapshots, Restore, Given, GivenShard, GivenClone, GivenFinalize, GivenDrop, GivenRestore, Read, ReadBlob, RestoredShard, CheckedAll, DrawTest, CommitTest, ReadFails, Step, AskStep, TakeStep, DrawStep, CommitStep, LatestStep, FetchStep, RaiseStep, SettleStep, DoneStep, FailedStep, FinishStep, DroppedStep, ElectStep, ReadStep, DepotFault, Reply, Gave, DrawnFrom, WasDone, WasThere, WasFetched, Refused, AcceptedRestore, Moment, GivenDelete, Prune, FetchShard, PlanShards, SettlePruned, RemoveDoomed, EndDelete, DeleteFails, PruneStep}
+use Rattle.esr_core.specs.After.{asked, asked_op, cloned_op, known_id, ref_by, next_by, refs_from, pending_shards, all_pending, taken_shard, taken_restore_shard, taken_restore, taken_by, read_told, shard_over, read_over, read_step, read_by, shard_of, with_given, committing, told_blob, fetching, settled_by, settled_of, done_by, done_of, is_stale, failed_by, failed_of, dropped_of, delete_settled_by, delete_settled, delete_failed_by, delete_failed, prune_step, done_step, answered, after}
 use Rattle.esr_core.specs.History.{world_from, IsLegal}
 use Rattle.esr_core.proofs.AskedDeletes.{aborts}
 use Rattle.esr_desk.specs.Start.{Start}
 use Rattle.esr_quiet.specs.Asked.{IsSteady, AreSteady}
-use Rattle.esr_quiet.specs.Smooth.{AreCalm, AreUnelected, NoCloneAsked}
+use Rattle.esr_quiet.specs.Smooth.{AreCalm, AreUnelected}
 use Rattle.esr_quiet.proofs.FreeParts.{was_shards}
 use Rattle.esr_quiet.proofs.Maps.{some_same, some_none, get_was, get_left, nothing}
 
@@ -34,23 +34,28 @@ Deletes = FinMap nat_cmp Deletion
 abbrev Tickets : Type 0
 Tickets = FinMap nat_cmp Ticket
 
--- no call of the shard fails
-abbrev pub IsOfSteady : Start → ShardWork → Type 0
-IsOfSteady s z = s.steady z.place z.ref.name z.number ≡ true
+-- no call of a shard at this address fails, if it isn't one that copies a snapshot
+abbrev pub IsSteadyAt : Start → Option ℕ → Bytes → Bytes → ℕ → Type 0
+IsSteadyAt s None place name number = s.steady place name number ≡ true
+IsSteadyAt s (Some source) place name number = Unit {0}
+
+-- so is the shard of an op that copies this snapshot, or none
+abbrev pub IsOfSteady : Start → Option ℕ → ShardWork → Type 0
+IsOfSteady s source z = IsSteadyAt s source z.place z.ref.name z.number
 
 -- what a ticket is for: in this term, and no shard that fails
-pub record Fine (s : Start) (now term : ℕ) (work : Work) (place name : Bytes) : Type 0 where
+pub record Fine (s : Start) (now term : ℕ) (work : Work) (source : Option ℕ) (place name : Bytes) : Type 0 where
   pub present : term ≡ now
-  pub steady : (index number : ℕ) → work ≡ Shard index number → s.steady place name number ≡ true
+  pub steady : (index number : ℕ) → work ≡ Shard index number → IsSteadyAt s source place name number
 
 abbrev pub IsFine : Start → ℕ → Ticket → Type 0
-IsFine s now t = Fine s now t.term t.work t.place t.name
+IsFine s now t = Fine s now t.term t.work t.source t.place t.name
 
 abbrev pub AreFine : Start → ℕ → Tickets → Type 0
 AreFine s now tickets = (k : ℕ) (t : Ticket) → fin.get tickets k ≡ Some t → IsFine s now t
 
 abbrev pub AreSteadyOps : Start → Ops → Type 0
-AreSteadyOps s ops = (o : ℕ) (op : Op) (z : ShardWork) → fin.get ops o ≡ Some op → Has op.shards z → IsOfSteady s z
+AreSteadyOps s ops = (o : ℕ) (op : Op) (z : ShardWork) → fin.get ops o ≡ Some op → Has op.shards z → IsOfSteady s op.source z
 
 -- no open delete is a cleanup
 abbrev pub AreUnclean : Deletes → Type 0
@@ -117,16 +122,17 @@ has_mapped g [] z h = absurd h
 has_mapped g (x ∷ shards) z (inl e) = (x, inl refl, e)
 has_mapped g (x ∷ shards) z (inr h) = let (y, m, e) = has_mapped g shards z h in (y, inr m, e)
 
-same_steady : (s : Start) (a b : ShardWork) → IsSame a b → IsOfSteady s a → IsOfSteady s b
-same_steady s a b same steady = (λ j. s.steady (same.place j) (same.name j) (same.number j)) ∙ steady
+same_steady : (s : Start) (source : Option ℕ) (a b : ShardWork) → IsSame a b → IsOfSteady s source a → IsOfSteady s source b
+same_steady s None a b same steady = (λ j. s.steady (same.place j) (same.name j) (same.number j)) ∙ steady
+same_steady s (Some source) a b same steady = tt
 
 -- the shards go on
-mapped_steady : (s : Start) (shards : List ShardWork) (g : ShardWork → ShardWork) → ((z : ShardWork) → IsSame z (g z)) → ((z : ShardWork) → Has shards z → IsOfSteady s z) → (z : ShardWork) → Has (map g shards) z → IsOfSteady s z
-mapped_steady s shards g same steady z h = let (x, m, e) = has_mapped g shards z h in subst (IsOfSteady s) e (same_steady s x (g x) (same x) (steady x m))
+mapped_steady : (s : Start) (source : Option ℕ) (shards : List ShardWork) (g : ShardWork → ShardWork) → ((z : ShardWork) → IsSame z (g z)) → ((z : ShardWork) → Has shards z → IsOfSteady s source z) → (z : ShardWork) → Has (map g shards) z → IsOfSteady s source z
+mapped_steady s source shards g same steady z h = let (x, m, e) = has_mapped g shards z h in subst (IsOfSteady s source) e (same_steady s source x (g x) (same x) (steady x m))
 
 -- an op is put whose shards are steady
-put_steady : (s : Start) (ops : Ops) (o : ℕ) (op : Op) → ((z : ShardWork) → Has op.shards z → IsOfSteady s z) → AreSteadyOps s ops → AreSteadyOps s (fin.insert ops o op)
-put_steady s ops o op mine steady p q z there h = elim (get_was ops o op p q there) [ inl e ↦ mine z (subst (λ (x : Op). Has x.shards z) (sym e.1) h) | inr e ↦ steady p q z e.1 h ]
+put_steady : (s : Start) (ops : Ops) (o : ℕ) (op : Op) → ((z : ShardWork) → Has op.shards z → IsOfSteady s op.source z) → AreSteadyOps s ops → AreSteadyOps s (fin.insert ops o op)
+put_steady s ops o op mine steady p q z there h = elim (get_was ops o op p q there) [ inl e ↦ subst (λ (x : Op). (y : ShardWork) → Has x.shards y → IsOfSteady s x.source y) e.1 mine z h | inr e ↦ steady p q z e.1 h ]
 
 put_fine : (s : Start) (now : ℕ) (tickets : Tickets) (k : ℕ) (v : Ticket) → IsFine s now v → AreFine s now tickets → AreFine s now (fin.insert tickets k v)
 put_fine s now tickets k v mine fine p t there = elim (get_was tickets k v p t there) [ inl e ↦ subst (IsFine s now) e.1 mine | inr e ↦ fine p t e.1 ]
@@ -159,7 +165,7 @@ has_either [] ys z h = inr h
 has_either (x ∷ xs) ys z (inl e) = inl (inl e)
 has_either (x ∷ xs) ys z (inr h) = elim (has_either xs ys z h) [ inl m ↦ inl (inr m) | inr m ↦ inr m ]
 
-asked_steady : (s : Start) (w : World) (next : ℕ) (indices : List AskedIndex) → IsSteady s indices → (z : ShardWork) → Has (all_pending indices (refs_from w next indices)) z → IsOfSteady s z
+asked_steady : (s : Start) (w : World) (next : ℕ) (indices : List AskedIndex) → IsSteady s indices → (z : ShardWork) → Has (all_pending indices (refs_from w next indices)) z → IsOfSteady s None z
 asked_steady s w next [] steady z h = absurd h
 asked_steady s w next (a ∷ indices) steady z h =
     let r : IndexRef = ref_by a (known_id w a.name) next in
@@ -185,6 +191,16 @@ module _ (s : Start) where
         present = q.present;
         no_cleanup = q.no_cleanup;
         ops = put_steady s w.ops w.next_op (asked_op w name indices moment) (asked_steady s w (suc w.next_id) indices steady) q.ops;
+        tickets = q.tickets;
+      }
+
+  quiet_cloned : (w : World) → IsQuiet s w → (source name : Bytes) (names : List Bytes) (moment : ℕ) (taken : Option CloneOf) → IsQuiet s (asked w (Clone source name names moment taken))
+  quiet_cloned w q source name names moment None = q
+  quiet_cloned w q source name names moment (Some taken) =
+      record {
+        present = q.present;
+        no_cleanup = q.no_cleanup;
+        ops = put_steady s w.ops w.next_op (cloned_op w name moment taken) (λ z h. tt) q.ops;
         tickets = q.tickets;
       }
 
@@ -221,14 +237,14 @@ module _ (s : Start) where
   quiet_shard : (w : World) → IsQuiet s w → (o : ℕ) (op : Op) (base : Option ℕ) → fin.get w.ops o ≡ Some op → (found : Option ShardWork) → ((z : ShardWork) → found ≡ Some z → Has op.shards z) → IsQuiet s (taken_shard w o op base found)
   quiet_shard w q o op base there None has = q
   quiet_shard w q o op base there (Some z) has =
-      let steady : (x : ShardWork) → Has op.shards x → IsOfSteady s x = λ x h. q.ops o op x there h in
+      let steady : (x : ShardWork) → Has op.shards x → IsOfSteady s op.source x = λ x h. q.ops o op x there h in
       record {
         present = q.present;
         no_cleanup = q.no_cleanup;
-        ops = put_steady s w.ops o (record op { shards = map (given w.next_ticket z.ref.id z.number) op.shards }) (mapped_steady s op.shards (given w.next_ticket z.ref.id z.number) (same_given w.next_ticket z.ref.id z.number) steady) q.ops;
+        ops = put_steady s w.ops o (record op { shards = map (given w.next_ticket z.ref.id z.number) op.shards }) (mapped_steady s op.source op.shards (given w.next_ticket z.ref.id z.number) (same_given w.next_ticket z.ref.id z.number) steady) q.ops;
         tickets = put_fine s w.term w.tickets w.next_ticket (shard_ticket w o op z base) (record {
           present = refl;
-          steady = λ index number e. ap (s.steady z.place z.ref.name) (sym (one_number z.ref.id z.number index number e)) ∙ steady z (has z refl);
+          steady = λ index number e. subst (IsSteadyAt s op.source z.place z.ref.name) (one_number z.ref.id z.number index number e) (steady z (has z refl));
         }) q.tickets;
       }
 
@@ -285,7 +301,7 @@ module _ (s : Start) where
       record {
         present = q.present;
         no_cleanup = q.no_cleanup;
-        ops = put_steady s w.ops t.op (record op { shards = map (marked k (Done r)) op.shards }) (mapped_steady s op.shards (marked k (Done r)) (same_marked k (Done r)) (λ z h. q.ops t.op op z op_there h)) q.ops;
+        ops = put_steady s w.ops t.op (record op { shards = map (marked k (Done r)) op.shards }) (mapped_steady s op.source op.shards (marked k (Done r)) (same_marked k (Done r)) (λ z h. q.ops t.op op z op_there h)) q.ops;
         tickets = put_fine s w.term w.tickets k (record t { out = false }) (q.tickets k t there) q.tickets;
       }
 
@@ -299,7 +315,7 @@ module _ (s : Start) where
       record {
         present = q.present;
         no_cleanup = q.no_cleanup;
-        ops = put_steady s w.ops t.op (record op { shards = map (fails k) op.shards; failed = true }) (mapped_steady s op.shards (fails k) (same_fails k) (λ z h. q.ops t.op op z op_there h)) q.ops;
+        ops = put_steady s w.ops t.op (record op { shards = map (fails k) op.shards; failed = true }) (mapped_steady s op.source op.shards (fails k) (same_fails k) (λ z h. q.ops t.op op z op_there h)) q.ops;
         tickets = put_fine s w.term w.tickets k (record t { out = false }) (q.tickets k t there) q.tickets;
       }
 
@@ -362,7 +378,10 @@ module _ (s : Start) where
       record {
         present = q.present;
         no_cleanup = unclean;
-        ops = λ o op z there h. let (old, was, how) = a.was o op there in q.ops o old z was (subst (λ (shards : List ShardWork). Has shards z) (was_shards op old by how).0 h);
+        ops = λ o op z there h.
+            let (old, was, how) = a.was o op there in
+            let same = was_shards op old by how in
+            subst (λ (source : Option ℕ). IsOfSteady s source z) (sym same.2) (q.ops o old z was (subst (λ (shards : List ShardWork). Has shards z) same.0 h));
         tickets = q.tickets;
       }
 
@@ -423,15 +442,14 @@ module _ (s : Start) where
 
   -- ---- all steps
 
-  -- what is asked is steady, nobody is elected, and no clone is asked
+  -- what is asked is steady, and nobody is elected
   record Suits (step : Step) : Type 0 where
     steady : (name : Bytes) (indices : List AskedIndex) (moment : ℕ) → step ≡ AskStep (Snapshot name indices moment) → IsSteady s indices
     unelected : step ≢ ElectStep
-    uncloned : AsksNoClone step
 
   quiet_step : (f : Formats) (w : World) → IsQuiet s w → (k : ℕ) (step : Step) (reply : Reply) (image : Option Image) → Suits step → IsQuiet s (done_step f w k step reply image)
   quiet_step f w q k (AskStep (Snapshot name indices moment)) reply image h = quiet_asked w q name indices moment (h.steady name indices moment refl)
-  quiet_step f w q k (AskStep (Clone source name names moment taken)) reply image h = absurd (h.uncloned source name names moment taken refl)
+  quiet_step f w q k (AskStep (Clone source name names moment taken)) reply image h = quiet_cloned w q source name names moment taken
   quiet_step f w q k (AskStep (DeleteSnapshots names)) reply image h = quiet_delete w q names (waiting_delete w) (running_delete w (named_uuids w names))
   quiet_step f w q k (AskStep (Restore name place)) (AcceptedRestore o uuid indices) image h = quiet_same w _ q refl refl refl refl refl
   quiet_step f w q k TakeStep (Gave ticket op unit) image h = quiet_taken f w q op unit (fin.get w.ops op) refl
@@ -461,12 +479,12 @@ module _ (s : Start) where
 
   -- ---- histories
 
-  pub quiet_history : (f : Formats) (size : ℕ) (log : List Moment) (w : World) → IsQuiet s w → IsLegal f size w log → AreSteady s log → AreCalm log → AreUnelected log → NoCloneAsked log → IsQuiet s (world_from f w log)
-  quiet_history f size [] w q legal steady calm unelected uncloned = q
-  quiet_history f size (m ∷ log) w q legal steady calm unelected uncloned =
+  pub quiet_history : (f : Formats) (size : ℕ) (log : List Moment) (w : World) → IsQuiet s w → IsLegal f size w log → AreSteady s log → AreCalm log → AreUnelected log → IsQuiet s (world_from f w log)
+  quiet_history f size [] w q legal steady calm unelected = q
+  quiet_history f size (m ∷ log) w q legal steady calm unelected =
       quiet_history f size log (after f w m)
-      (quiet_after f w q m (record { steady = λ name indices moment e. steady m name indices moment (inl refl) e; unelected = unelected m (inl refl); uncloned = uncloned m (inl refl) }) (calm m (inl refl))) legal.1
-      (λ n name indices moment h. steady n name indices moment (inr h)) (λ n h. calm n (inr h)) (λ n h. unelected n (inr h)) (λ n h. uncloned n (inr h))
+      (quiet_after f w q m (record { steady = λ name indices moment e. steady m name indices moment (inl refl) e; unelected = unelected m (inl refl) }) (calm m (inl refl))) legal.1
+      (λ n name indices moment h. steady n name indices moment (inr h)) (λ n h. calm n (inr h)) (λ n h. unelected n (inr h))
 
   none_open : AreSteadyOps s fin.empty
   none_open o op z there h = absurd (nothing fin.empty o op refl there)

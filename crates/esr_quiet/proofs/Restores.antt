@@ -1,5 +1,6 @@
--- No shard of a restore fails where each world of the history is lawful and serves the tickets of restores.
-use Rattle.std.proofs.Common.{◌≡◌, ℕ, ◌≤◌, true, false, true≢false, List, [], ◌∷◌, ◌++◌, append_assoc, Option, Some, None, refl, sym, ap, ◌∙◌, subst, inl, inr, arith}
+-- No shard of a restore fails for damage where each world of the history is lawful and serves the tickets of restores; nor at all where
+-- no call fails.
+use Rattle.std.proofs.Common.{◌≡◌, ℕ, ◌≤◌, true, false, true≢false, List, [], ◌∷◌, ◌++◌, append-nil, append_assoc, Option, Some, None, refl, sym, ap, ◌∙◌, subst, inl, inr, arith}
 use Rattle.std.specs.Prelude.{length}
 use Rattle.std.specs.List.{concat}
 use Rattle.std.specs.FinMap as fin
@@ -13,7 +14,7 @@ use Rattle.esr_core.specs.Restores.{IsReading, WasRead}
 use Rattle.esr_core.specs.Entry.{Reason, Why, OfDepot, OfSource, OfChange, OfAbsence, OfUnreadable, OfAhead, OfTaken, OfIdsSpent, OfGenerationsSpent, OfTarget, OfPrint, OfDisagreement, Read, ReadBlob, ReadFails, Step, ReadStep, Reply, WasAbsent, HasEnded, Moment}
 use Rattle.esr_core.specs.Allowed as allowed
 use Rattle.esr_core.specs.Allowed.{Told, MayRead, Fetcher, ByReader, ByCheck, ByVerify, ReadAllows, ReadMissing, ReaderFailing, CheckFailing, VerifyAllows, VerifyFailing, Allows, Allowed}
-use Rattle.esr_core.specs.History.{world_from, IsLegal, TellsHandedOut, all_handed_out, AreTold, AreHonest}
+use Rattle.esr_core.specs.History.{world_from, IsLegal, TellsHandedOut, AreTold, AreHonest}
 use Rattle.esr_core.specs.Ids.{Law}
 use Rattle.esr_core.specs.ReadLaw.{ReadLaw}
 use Rattle.esr_core.specs.Restored.{IsServed}
@@ -31,10 +32,12 @@ use Rattle.esr_reading.specs.Parts.{sized_parts, IsFront, AreFronts, AreExact}
 use Rattle.esr_reading.specs.Shown.{Counts, HadFault, HadFetch, DepotShown, TargetShown, ReadShown, WasUnreadable, HasReadFile, IsMisprinted, IsMiscut, IsShown}
 use Rattle.esr_quiet.specs.Caused.{AreReadCaused}
 use Rattle.esr_quiet.specs.Smooth.{IsSmooth, NoneUnrestored}
-use Rattle.esr_quiet.specs.Prefixes.{Prefixes}
+use Rattle.esr_quiet.specs.OverKept.{OverKept, IsLawful}
+use Rattle.esr_quiet.specs.Undamaged.{IsDamage, NoRestoreFindsDamage}
 use Rattle.esr_quiet.proofs.Maps.{some_none}
 use Rattle.esr_quiet.proofs.Prefixes.{told_at, place_of, has_front, has_at}
-use Rattle.esr_quiet.proofs.Passing.{quiet_at, legal_at, smooth_front}
+use Rattle.esr_quiet.proofs.Passing.{quiet_at, legal_at}
+use Rattle.esr_quiet.proofs.OverKept.{IsAlive, kept_front, lawful_front, step_at, smooth_alive, alive_before}
 use Rattle.esr_quiet.proofs.Fronts.{file_whole}
 
 -- ---- what a step tells
@@ -156,12 +159,12 @@ module _ (laws : ReadCoreLaws) where
   opened_law f image w (OpenedEmpty none) = laws.opened f image.blobs no_record no_root
   opened_law f image w (OpenedRecord cluster text root there reads is) = laws.opened f image.blobs cluster root
 
-  pub serves : (s : Start) (log : List Moment) → IsSmooth s log → Prefixes s log → (front back : List Moment) → log ≡ front ++ back → IsServing (formats_of s) (world_of s front)
-  serves s log smooth prefixes front back is =
-      let h = smooth_front s log smooth front back is in
-      let first = prefixes.lawful [] log refl in
-      let here = prefixes.lawful front back is in
-      let law : ReadLaw (formats_of s) (world_of s front) = laws.kept (formats_of s) s.part_size first.0 s.world front (all_handed_out (formats_of s) s.world front h.known) first.1 (opened_law (formats_of s) h.image s.world h.opened) h.legal h.told h.honest in
+  pub serves : (s : Start) (log : List Moment) → IsLawful s log → (front back : List Moment) → log ≡ front ++ back → IsServing (formats_of s) (world_of s front)
+  serves s log lawful front back is =
+      let h = kept_front s log lawful.over front back is in
+      let first = lawful.lawful [] log refl in
+      let here = lawful.lawful front back is in
+      let law : ReadLaw (formats_of s) (world_of s front) = laws.kept (formats_of s) s.part_size first.0 s.world front h.known first.1 (opened_law (formats_of s) h.image s.world h.opened) h.legal h.told h.honest in
       record { law = law; served = λ k q reading. laws.served (formats_of s) (world_of s front) here.0 k q here.1 law reading }
 
 -- ---- each cause
@@ -171,7 +174,85 @@ read_shown (by.Object object) shown h = absurd h
 read_shown by.Entry shown h = absurd h
 read_shown by.Nothing shown h = h
 
-module _ (s : Start) (log : List Moment) (smooth : IsSmooth s log) (all_serve : (front back : List Moment) → log ≡ front ++ back → IsServing (formats_of s) (world_of s front)) (sure : s.sure_targets ≡ true) where
+-- what a ticket may read stands in each world up to the last, in none of which a record swap has failed
+module _ (s : Start) (log : List Moment) (lawful : IsLawful s log) (alive : IsAlive s log) (all_serve : (front back : List Moment) → log ≡ front ++ back → IsServing (formats_of s) (world_of s front)) where
+  -- each blob is there
+  found : (front rest : List Moment) (m : Moment) → log ≡ front ++ m ∷ rest → (name : BlobName) → m.entry.step ≡ ReadStep (ReadBlob name) → m.entry.reply ≡ WasAbsent → 1 ≤ m.entry.who → ⊥
+  found front rest m is name step reply some =
+      let told = told_at log m lawful.over.told (subst (λ (l : List Moment). Has l m) (sym is) (has_at front rest m)) in
+      let at = misses_at (formats_of s) s.part_size (world_of s front) m name (alive front (m ∷ rest) is) (step_at s log lawful.over front rest m is) step reply told.0 told.1 some in
+      is_there (formats_of s) (world_of s front) (all_serve front (m ∷ rest) is) m.entry.who at.q at.reading name told.0 at.may at.none
+
+  missing : (front back : List Moment) → log ≡ front ++ back → (who : ℕ) → 1 ≤ who → (name : BlobName) → HadFetch front who name WasAbsent → ⊥
+  missing front back is who some name h =
+      found h.front (h.back ++ back) h.moment (is ∙ ap (λ (l : List Moment). l ++ back) h.is ∙ append_assoc h.front (h.moment ∷ h.back) back) name h.step h.reply (subst (λ (k : ℕ). 1 ≤ k) (sym h.of) some)
+
+  -- and reads
+  unread : (front back : List Moment) → log ≡ front ++ back → (who : ℕ) → IsReading (world_of s front) who (reader_of s front who) → (name : BlobName) (reason : Reason) → WasUnreadable s front who name reason → ⊥
+  unread front back is who reading name reason (had, (name_is, bytes, read, refuses)) =
+      let q : Reader = reader_of s front who in
+      let snap : BlobName = ShardSnap q.index q.number q.uuid in
+      does_read (formats_of s) (world_of s front) (all_serve front back is) who q reading bytes
+      (subst (λ (n : BlobName). WasRead q.read n bytes) name_is (read lawful.over.tells))
+      (unreadable_reads_not s.known s.told snap bytes reason (subst (λ (n : BlobName). unreadable n bytes ≡ Some reason) name_is refuses))
+
+  -- of each file all was read
+  file_of : (front back : List Moment) → log ≡ front ++ back → (who : ℕ) → IsReading (world_of s front) who (reader_of s front who) → (name : BlobName) (fronts : List Bytes) (h : HasReadFile s (reader_of s front who) name fronts)
+      → (length (concat fronts) ≡ h.e.len) × ((formats_of s).digest (concat fronts) ≡ h.e.digest) × AreExact (reader_of s front who).index (reader_of s front who).number h.e fronts
+  file_of front back is who reading name fronts h =
+      reads_whole (formats_of s) (world_of s front) (all_serve front back is) who (reader_of s front who) reading h.snap (h.snap_read lawful.over.tells) h.e h.listed fronts (h.read lawful.over.tells)
+
+  -- with the stated print
+  printed : (front back : List Moment) → log ≡ front ++ back → (who : ℕ) → IsReading (world_of s front) who (reader_of s front who) → (name : BlobName) (stated_len : ℕ) (stated_digest : Bytes) (found_len : ℕ) (found_digest : Bytes)
+      → IsMisprinted s (reader_of s front who) name stated_len stated_digest found_len found_digest → ⊥
+  printed front back is who reading name stated_len stated_digest found_len found_digest h =
+      let x = file_of front back is who reading name h.fronts h.file in
+      h.differ (h.stated_len_is ∙ sym x.0 ∙ sym h.found_len_is) (h.stated_digest_is ∙ sym x.1 ∙ sym h.found_digest_is)
+
+  -- and cut as stated
+  uncut : (front back : List Moment) → log ≡ front ++ back → (who : ℕ) → IsReading (world_of s front) who (reader_of s front who) → (name other : BlobName) → IsMiscut s (reader_of s front who) name other → ⊥
+  uncut front back is who reading name other h = let x = file_of front back is who reading name h.fronts h.file in h.cut x.2
+
+  -- no damage is shown
+  undamaged : {S F H T : Type 0} (c : Counts F T) (front back : List Moment) → log ≡ front ++ back → (who : ℕ) → 1 ≤ who → IsReading (world_of s front) who (reader_of s front who) → (why : Why) (b : By S F H T) → IsDamage why → IsShown c s front who why b → ⊥
+  undamaged c front back is who some reading (OfAbsence name) b damage h = missing front back is who some name (read_shown b _ h)
+  undamaged c front back is who some reading (OfUnreadable name reason) b damage h = unread front back is who reading name reason (read_shown b _ h)
+  undamaged c front back is who some reading (OfPrint name stated_len stated_digest found_len found_digest) b damage h = printed front back is who reading name stated_len stated_digest found_len found_digest (read_shown b _ h)
+  undamaged c front back is who some reading (OfDisagreement name other) b damage h = uncut front back is who reading name other (read_shown b _ h)
+  undamaged c front back is who some reading OfDepot b damage h = damage
+  undamaged c front back is who some reading OfTarget b damage h = damage
+  undamaged c front back is who some reading (OfAhead name) b damage h = damage
+  undamaged c front back is who some reading OfSource b damage h = damage
+  undamaged c front back is who some reading (OfChange first_len first_digest second_len second_digest) b damage h = damage
+  undamaged c front back is who some reading (OfTaken name) b damage h = damage
+  undamaged c front back is who some reading (OfIdsSpent next) b damage h = damage
+  undamaged c front back is who some reading (OfGenerationsSpent pending) b damage h = damage
+
+-- a report, and what its ticket is
+record ReportOf (s : Start) (log : List Moment) (m : Moment) (why : Why) : Type 0 where
+  front : List Moment
+  back : List Moment
+  is : log ≡ front ++ m ∷ back
+  reading : IsReading (world_of s front) m.entry.who (reader_of s front m.entry.who)
+
+report_of : (s : Start) (log : List Moment) (over : OverKept s log) (m : Moment) (why : Why) → Has log m → 1 ≤ m.entry.who → m.entry.step ≡ ReadStep (ReadFails why) → m.entry.reply ≡ HasEnded → ReportOf s log m why
+report_of s log over m why has some step reply =
+    let p = place_of log m has in
+    let alive = alive_before s log over p.front p.back m p.is reply p.front [] (sym (append-nil p.front)) in
+    let at = reading_at (formats_of s) s.part_size (world_of s p.front) m why alive (step_at s log over p.front p.back m p.is) step reply some in
+    record { front = p.front; back = p.back; is = p.is; reading = subst (IsReading (world_of s p.front) m.entry.who) (sym (ap or_no_reader at.1.there)) at.1 }
+
+-- so none is reported
+pub none_damaged : {S F H T : Type 0} (laws : ReadCoreLaws) (s : Start) (log : List Moment) → IsLawful s log → (c : Counts F T) (faults : List (Fault S F H T)) → AreReadCaused c s log faults → NoRestoreFindsDamage log
+none_damaged laws s log lawful c faults shown m why has some step reply damage =
+    let r = report_of s log lawful.over m why has some step reply in
+    let up = lawful_front s log lawful r.front (m ∷ r.back) r.is in
+    let x = shown (length r.front) m.entry.who why (record { front = r.front; moment = m; back = r.back; is = r.is; place_is = refl; ticket = some; of = refl; step = step; reply = reply }) in
+    undamaged s r.front up (alive_before s log lawful.over r.front r.back m r.is reply) (serves laws s r.front up) c r.front [] (sym (append-nil r.front)) m.entry.who some r.reading why x.0 damage x.1
+
+-- ---- where no call fails
+
+module _ (s : Start) (log : List Moment) (smooth : IsSmooth s log) (lawful : IsLawful s log) (all_serve : (front back : List Moment) → log ≡ front ++ back → IsServing (formats_of s) (world_of s front)) (sure : s.sure_targets ≡ true) where
   -- no object of the container fails
   no_fault : (front back : List Moment) (who : ℕ) → log ≡ front ++ back → HadFault front who → ⊥
   no_fault front back who is h =
@@ -194,52 +275,15 @@ module _ (s : Start) (log : List Moment) (smooth : IsSmooth s log) (all_serve : 
   target_of c q by.Entry h = h
   target_of c q by.Nothing h = h
 
-  -- each blob is there
-  found : (front rest : List Moment) (m : Moment) → log ≡ front ++ m ∷ rest → (name : BlobName) → m.entry.step ≡ ReadStep (ReadBlob name) → m.entry.reply ≡ WasAbsent → 1 ≤ m.entry.who → ⊥
-  found front rest m is name step reply some =
-      let told = told_at log m smooth.told (subst (λ (l : List Moment). Has l m) (sym is) (has_at front rest m)) in
-      let at = misses_at (formats_of s) s.part_size (world_of s front) m name (quiet_at s log smooth front (m ∷ rest) is).present (legal_at s log smooth front rest m is) step reply told.0 told.1 some in
-      is_there (formats_of s) (world_of s front) (all_serve front (m ∷ rest) is) m.entry.who at.q at.reading name told.0 at.may at.none
-
-  missing : (front back : List Moment) → log ≡ front ++ back → (who : ℕ) → 1 ≤ who → (name : BlobName) → HadFetch front who name WasAbsent → ⊥
-  missing front back is who some name h =
-      found h.front (h.back ++ back) h.moment (is ∙ ap (λ (l : List Moment). l ++ back) h.is ∙ append_assoc h.front (h.moment ∷ h.back) back) name h.step h.reply (subst (λ (k : ℕ). 1 ≤ k) (sym h.of) some)
-
-  -- and reads
-  unread : (front back : List Moment) → log ≡ front ++ back → (who : ℕ) → IsReading (world_of s front) who (reader_of s front who) → (name : BlobName) (reason : Reason) → WasUnreadable s front who name reason → ⊥
-  unread front back is who reading name reason (had, (name_is, bytes, read, refuses)) =
-      let q : Reader = reader_of s front who in
-      let snap : BlobName = ShardSnap q.index q.number q.uuid in
-      does_read (formats_of s) (world_of s front) (all_serve front back is) who q reading bytes
-      (subst (λ (n : BlobName). WasRead q.read n bytes) name_is (read smooth.tells))
-      (unreadable_reads_not s.known s.told snap bytes reason (subst (λ (n : BlobName). unreadable n bytes ≡ Some reason) name_is refuses))
-
-  -- of each file all was read
-  file_of : (front back : List Moment) → log ≡ front ++ back → (who : ℕ) → IsReading (world_of s front) who (reader_of s front who) → (name : BlobName) (fronts : List Bytes) (h : HasReadFile s (reader_of s front who) name fronts)
-      → (length (concat fronts) ≡ h.e.len) × ((formats_of s).digest (concat fronts) ≡ h.e.digest) × AreExact (reader_of s front who).index (reader_of s front who).number h.e fronts
-  file_of front back is who reading name fronts h =
-      reads_whole (formats_of s) (world_of s front) (all_serve front back is) who (reader_of s front who) reading h.snap (h.snap_read smooth.tells) h.e h.listed fronts (h.read smooth.tells)
-
-  -- with the stated print
-  printed : (front back : List Moment) → log ≡ front ++ back → (who : ℕ) → IsReading (world_of s front) who (reader_of s front who) → (name : BlobName) (stated_len : ℕ) (stated_digest : Bytes) (found_len : ℕ) (found_digest : Bytes)
-      → IsMisprinted s (reader_of s front who) name stated_len stated_digest found_len found_digest → ⊥
-  printed front back is who reading name stated_len stated_digest found_len found_digest h =
-      let x = file_of front back is who reading name h.fronts h.file in
-      h.differ (h.stated_len_is ∙ sym x.0 ∙ sym h.found_len_is) (h.stated_digest_is ∙ sym x.1 ∙ sym h.found_digest_is)
-
-  -- and cut as stated
-  uncut : (front back : List Moment) → log ≡ front ++ back → (who : ℕ) → IsReading (world_of s front) who (reader_of s front who) → (name other : BlobName) → IsMiscut s (reader_of s front who) name other → ⊥
-  uncut front back is who reading name other h = let x = file_of front back is who reading name h.fronts h.file in h.cut x.2
-
   -- no cause is shown
   shows : {S F H T : Type 0} (c : Counts F T) (front back : List Moment) → log ≡ front ++ back → (who : ℕ) → 1 ≤ who → IsReading (world_of s front) who (reader_of s front who) → (why : Why) (b : By S F H T) → IsShown c s front who why b → ⊥
   shows c front back is who some reading OfDepot b h = depot c front back who is b h
   shows c front back is who some reading OfTarget b h = target_of c (reader_of s front who) b h
-  shows c front back is who some reading (OfAbsence name) b h = missing front back is who some name (read_shown b _ h)
-  shows c front back is who some reading (OfUnreadable name reason) b h = unread front back is who reading name reason (read_shown b _ h)
+  shows c front back is who some reading (OfAbsence name) b h = undamaged s log lawful (smooth_alive s log smooth) all_serve c front back is who some reading (OfAbsence name) b tt h
+  shows c front back is who some reading (OfUnreadable name reason) b h = undamaged s log lawful (smooth_alive s log smooth) all_serve c front back is who some reading (OfUnreadable name reason) b tt h
   shows c front back is who some reading (OfAhead name) b h = h
-  shows c front back is who some reading (OfPrint name stated_len stated_digest found_len found_digest) b h = printed front back is who reading name stated_len stated_digest found_len found_digest (read_shown b _ h)
-  shows c front back is who some reading (OfDisagreement name other) b h = uncut front back is who reading name other (read_shown b _ h)
+  shows c front back is who some reading (OfPrint name stated_len stated_digest found_len found_digest) b h = undamaged s log lawful (smooth_alive s log smooth) all_serve c front back is who some reading (OfPrint name stated_len stated_digest found_len found_digest) b tt h
+  shows c front back is who some reading (OfDisagreement name other) b h = undamaged s log lawful (smooth_alive s log smooth) all_serve c front back is who some reading (OfDisagreement name other) b tt h
   shows c front back is who some reading OfSource b h = h
   shows c front back is who some reading (OfChange first_len first_digest second_len second_digest) b h = h
   shows c front back is who some reading (OfTaken name) b h = h

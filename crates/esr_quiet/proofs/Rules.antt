@@ -1,10 +1,10 @@
 -- Only a rule of accepting refuses a step where each world of the history is free.
-use Rattle.std.proofs.Common.{◌≡◌, ◌≢◌, ◌⊎◌, ℕ, true≢false, List, [], ◌∷◌, Option, Some, None, map, refl, sym, ap, ◌∙◌, subst, inl, inr}
+use Rattle.std.proofs.Common.{◌≡◌, ◌≢◌, ℕ, true≢false, List, ◌∷◌, Option, Some, None, refl, sym, ap, ◌∙◌, subst, inl, inr}
 use Rattle.std.specs.FinMap as fin
-use Rattle.esr_model.specs.Names.{BlobName, IndexMeta}
-use Rattle.esr_model.specs.Values.{Bytes, Has, IndexRef, RootData, SnapInfo, Formats}
+use Rattle.esr_model.specs.Names.{BlobName}
+use Rattle.esr_model.specs.Values.{Bytes, Has, Formats}
 use Rattle.esr_model.specs.Image.{Image, Present}
-use Rattle.esr_core.specs.World.{World, Work, Shard, Finalize, Deleting, Drop, Ticket, Swap, swap_of, metadata}
+use Rattle.esr_core.specs.World.{World, Ticket}
 use Rattle.esr_core.specs.Steps.{IsOut}
 use Rattle.esr_core.specs.Entry.{Asked, Snapshot, Clone, CloneOf, DeleteSnapshots, Restore, Read, CommitTest, Prune, Step, AskStep, CommitStep, ReadStep, PruneStep, NameTaken, Reply, Refused, DepotFault, Moment}
 use Rattle.esr_core.specs.Allowed as allowed
@@ -14,33 +14,10 @@ use Rattle.esr_quiet.specs.Free.{Free}
 use Rattle.esr_quiet.specs.Smooth.{IsSpent, IsSmooth}
 use Rattle.esr_quiet.specs.Refusals.{IsByRule, AreByRule}
 use Rattle.esr_quiet.specs.Prefixes.{Prefixes}
-use Rattle.esr_quiet.proofs.Maps.{some_same}
 use Rattle.esr_quiet.proofs.Prefixes.{told_at, place_of}
 use Rattle.esr_quiet.proofs.Quiet.{IsQuiet}
+use Rattle.esr_quiet.proofs.FreeCommits.{taken}
 use Rattle.esr_quiet.proofs.Passing.{quiet_at, legal_at}
-
--- ---- what a ticket may commit
-
--- the name of a blob among a finalization's metadata
-named_metadata : (f : Formats) (info : SnapInfo) (name : BlobName) (bytes : Bytes) → Has (metadata f info) (name, bytes) → IsMetadata name
-named_metadata f info name bytes (inl e) = (info.uuid, inl (ap (λ (x : BlobName × Bytes). x.0) (sym e)))
-named_metadata f info name bytes (inr (inl e)) = (info.uuid, inr (inl (ap (λ (x : BlobName × Bytes). x.0) (sym e))))
-named_metadata f info name bytes (inr (inr h)) = go info.indices h
-  where
-    go : (refs : List IndexRef) → Has (map {B = BlobName × Bytes} (λ (r : IndexRef). (IndexMeta r.id info.uuid, f.index_meta.text (record { index = r; uuid = info.uuid }))) refs) (name, bytes) → IsMetadata name
-    go [] m = absurd m
-    go (r ∷ refs) (inl e) = (info.uuid, inr (inr (r.id, ap (λ (x : BlobName × Bytes). x.0) (sym e))))
-    go (r ∷ refs) (inr m) = go refs m
-
-no_swap : (s : Swap) → None ≡ Some s → ⊥
-no_swap s e = cc
-
--- what a swap writes beside its root is metadata, where it is no delete's plan
-own_metadata : (f : Formats) (work : Work) (root : RootData) (s : Swap) → swap_of f work root ≡ Some s → (name : BlobName) (bytes : Bytes) → Has s.own (name, bytes) → IsMetadata name ⊎ ((uuids : List ℕ) × (work ≡ Deleting uuids (Some s)))
-own_metadata f (Shard index number) root s e name bytes h = absurd (no_swap s e)
-own_metadata f (Finalize info results made) root s e name bytes h = inl (named_metadata f info name bytes (subst (λ (x : Swap). Has x.own (name, bytes)) (sym (some_same _ s e)) h))
-own_metadata f (Deleting uuids plan) root s e name bytes h = inr (uuids, ap (λ (p : Option Swap). Deleting uuids p) e)
-own_metadata f Drop root s e name bytes h = absurd (no_swap s e)
 
 -- ---- each refusal
 
@@ -57,19 +34,6 @@ abbrev IsNewTest : World → Step → Type 0
 IsNewTest w step = (name : BlobName) → step ≡ ReadStep (CommitTest name) → Has w.caller.committed name → ⊥
 
 module _ (s : Start) (f : Formats) (size : ℕ) (w : World) (q : IsQuiet s w) (free : Free f w) where
-  -- a name that may be committed is free
-  taken : (k : ℕ) (name : BlobName) (c : Commits f w k name) → (IsMetadata name → ⊥) → Present f w.blobs name → (Has c.t.noted name → ⊥) → ⊥
-  taken k name c aside present new = elim c.may [
-    | inl h ↦ elim h.2 [
-      | inl own ↦ elim (own_metadata f c.t.work c.t.root h.0 h.1 name c.bytes own) [
-        | inl metadata_name ↦ aside metadata_name
-        | inr plan ↦ new (free.plans k c.t plan.0 h.0 name c.bytes c.out.there plan.1 own present)
-      ]
-      | inr root ↦ new (subst (Has c.t.noted) (sym root.1) (free.roots k root.0 c.t c.out.there root.2.raised (subst (Present f w.blobs) root.1 present)))
-    ]
-    | inr h ↦ new (free.shards k c.t name c.out.there c.out.out h.1 present)
-  ]
-
   found : (name : BlobName) (image : Option Image) (i : Image) → image ≡ Some i → Told image (λ blobs. Present f w.blobs name × (blobs ≡ w.blobs)) → Present f w.blobs name
   found name image i is told = (subst (λ (im : Option Image). Told im (λ blobs. Present f w.blobs name × (blobs ≡ w.blobs))) is told).0
 
@@ -155,7 +119,7 @@ module _ (s : Start) (f : Formats) (size : ℕ) (w : World) (q : IsQuiet s w) (f
   ruled who step reply image i told calm unspent new new_test (allowed.DropStale k im may apart same) = absurd (present k may.t may.out apart)
   ruled who step reply image i told calm unspent new new_test (allowed.RaiseSpent k im may now spent same) = absurd (unspent tt)
   ruled who step reply image i told calm unspent new new_test (allowed.ElectSpent im spent same) = absurd (unspent tt)
-  ruled who step reply image i told calm unspent new new_test (allowed.Taken k name im c aside there) = absurd (taken k name c aside (found name im i told there) (new name c.t refl c.out.there aside))
+  ruled who step reply image i told calm unspent new new_test (allowed.Taken k name im c aside there) = absurd (taken f w free k name c aside (found name im i told there) (new name c.t refl c.out.there aside))
   ruled who step reply image i told calm unspent new new_test (allowed.BeginFails k name im c same) = absurd (calm refl)
   ruled who step reply image i told calm unspent new new_test (allowed.BeginLatestFails k im c same) = absurd (calm refl)
   ruled who step reply image i told calm unspent new new_test (allowed.CommitFails k name im c leaves) = absurd (calm refl)

@@ -1,12 +1,12 @@
 -- Where no master is elected each ticket is of the present term, so no step is stale.
-use Rattle.std.proofs.Common.{◌≡◌, ℕ, zero, suc, Bool, true, false, List, [], ◌∷◌, Option, Some, None, refl, sym, ap, ◌∙◌, subst, inl, inr, nat_cmp}
+use Rattle.std.proofs.Common.{◌≡◌, ℕ, zero, suc, Bool, true, false, List, [], ◌∷◌, ◌++◌, Option, Some, None, refl, sym, ap, ◌∙◌, subst, inl, inr, nat_cmp}
 use Rattle.std.specs.Prelude.{◌≢◌, if◌then◌else◌}
 use Rattle.std.specs.FinMap.{FinMap}
 use Rattle.std.specs.FinMap as fin
 use Rattle.esr_model.specs.Names.{BlobName}
 use Rattle.esr_model.specs.Values.{Bytes, Has, ShardResult, Formats}
 use Rattle.esr_model.specs.Image.{Image}
-use Rattle.esr_core.specs.World.{World, Op, ShardWork, Drop, Swap, Ticket, ReadState, Restored, NotRestored, RestoreShard, Restoring, Reader, swap, record_of, Deleting}
+use Rattle.esr_core.specs.World.{World, Op, ShardWork, Drop, Swap, Ticket, ReadState, Restored, NotRestored, RestoreShard, Restoring, Reader, swap, record_of, Deleting, Opened, OpenedEmpty, OpenedRecord}
 use Rattle.esr_core.specs.Restores.{restore_shard}
 use Rattle.esr_core.specs.Steps.{noting, shard_ticket, final_ticket}
 use Rattle.esr_core.specs.Turns.{plain_ticket}
@@ -212,6 +212,18 @@ present_answered f w k step reply image none h = present_step f w k step reply i
 present_from : (f : Formats) (log : List Moment) (w : World) → ArePresent w → AreUnelected log → ArePresent (world_from f w log)
 present_from f [] w h none = h
 present_from f (m ∷ log) w h none = present_from f log (after f w m) (present_answered f w m.entry.who m.entry.step m.entry.reply m.image (none m (inl refl)) h) (λ n has. none n (inr has))
+
+-- each ticket is of the present term, in each world of the history
+abbrev pub ArePresentIn : Start → List Moment → Type 0
+ArePresentIn s log = (front back : List Moment) → log ≡ front ++ back → (k : ℕ) (t : Ticket) → fin.get (world_of s front).tickets k ≡ Some t → t.term ≡ (world_of s front).term
+
+none_opened : (f : Formats) (image : Image) (w : World) → Opened f image w → ArePresent w
+none_opened f image w (OpenedEmpty none) k t there = absurd (nothing fin.empty k t refl there)
+none_opened f image w (OpenedRecord cluster text root is reads of_root) k t there = absurd (nothing fin.empty k t refl there)
+
+pub unelected_present : (s : Start) (log : List Moment) (image : Image) → Opened (formats_of s) image s.world → AreUnelected log → ArePresentIn s log
+unelected_present s log image opened unelected front back is =
+    present_from (formats_of s) front s.world (none_opened (formats_of s) image s.world opened) (λ m has. unelected m (subst (λ (l : List Moment). Has l m) (sym is) (has_front front back m has)))
 
 -- ---- no step is stale
 

@@ -1,5 +1,5 @@
--- No delete fails where each world of the history is lawful and free.
-use Rattle.std.proofs.Common.{◌≡◌, ℕ, false, true≢false, List, ◌∷◌, ◌++◌, append_assoc, Option, Some, None, refl, sym, ap, ◌∙◌, subst, inl, inr}
+-- No delete fails for damage where each world of the history is lawful and no master was elected; nor at all where no call fails.
+use Rattle.std.proofs.Common.{◌≡◌, ℕ, false, true≢false, List, [], ◌∷◌, ◌++◌, append-nil, append_assoc, Option, Some, None, refl, sym, ap, ◌∙◌, subst, inl, inr}
 use Rattle.std.specs.Prelude.{length}
 use Rattle.std.specs.FinMap as fin
 use Rattle.esr_model.specs.Names.{BlobName, ShardIndex}
@@ -18,8 +18,12 @@ use Rattle.esr_deleting.specs.Shown.{IsOfDelete, HadShard, WasUnreadable, IsDele
 use Rattle.esr_quiet.specs.Caused.{AreDeleteCaused}
 use Rattle.esr_quiet.specs.Smooth.{IsSmooth, NoneUndeleted}
 use Rattle.esr_quiet.specs.Prefixes.{Prefixes}
+use Rattle.esr_quiet.specs.OverKept.{IsLawful}
+use Rattle.esr_quiet.specs.Undamaged.{IsDamage, NoDeleteFindsDamage}
 use Rattle.esr_quiet.proofs.Prefixes.{told_at, place_of, has_front, has_at}
 use Rattle.esr_quiet.proofs.Passing.{quiet_at, legal_at}
+use Rattle.esr_quiet.proofs.Terms.{ArePresentIn, unelected_present}
+use Rattle.esr_quiet.proofs.OverKept.{IsAlive, lawful_front, step_at, smooth_lawful, smooth_alive, alive_before}
 use Rattle.esr_quiet.proofs.Pruned.{is_there, does_read}
 use Rattle.esr_quiet.proofs.Failures.{read_shown, step_shown, depot, untaken, unspent}
 
@@ -56,16 +60,16 @@ misses_at f size w m name present a step reply image is =
 
 -- ---- each cause
 
-module _ (s : Start) (log : List Moment) (smooth : IsSmooth s log) (prefixes : Prefixes s log) where
+-- in each world up to the last no record swap has failed, and tickets are of the present term
+module _ (s : Start) (log : List Moment) (lawful : IsLawful s log) (alive : IsAlive s log) (present : ArePresentIn s log) where
   -- each index that it fetches is there
   found : (front rest : List Moment) (m : Moment) → log ≡ front ++ m ∷ rest → (name : BlobName) → m.entry.step ≡ PruneStep (FetchShard name) → m.entry.reply ≡ WasAbsent → ⊥
   found front rest m is name step reply =
-      let told = told_at log m smooth.told (subst (λ (l : List Moment). Has l m) (sym is) (has_at front rest m)) in
-      let quiet = quiet_at s log smooth front (m ∷ rest) is in
-      let at = misses_at (formats_of s) s.part_size (world_of s front) m name quiet.present (legal_at s log smooth front rest m is) step reply told.0 told.1 in
+      let told = told_at log m lawful.over.told (subst (λ (l : List Moment). Has l m) (sym is) (has_at front rest m)) in
+      let at = misses_at (formats_of s) s.part_size (world_of s front) m name (alive front (m ∷ rest) is) (step_at s log lawful.over front rest m is) step reply told.0 told.1 in
       let g = at.0 in
-      let law = prefixes.lawful front (m ∷ rest) is in
-      is_there (formats_of s) (world_of s front) law.0 law.1 m.entry.who g.t g.uuids None g.deleting.out.there g.deleting.out.out g.unsettled (quiet.tickets m.entry.who g.t g.deleting.out.there).present g.deleting.work g.index g.number g.generation g.to_read
+      let law = lawful.lawful front (m ∷ rest) is in
+      is_there (formats_of s) (world_of s front) law.0 law.1 m.entry.who g.t g.uuids None g.deleting.out.there g.deleting.out.out g.unsettled (present front (m ∷ rest) is m.entry.who g.t g.deleting.out.there) g.deleting.work g.index g.number g.generation g.to_read
       (ap (λ (n : BlobName). fin.get (world_of s front).blobs ((formats_of s).names.text n)) (sym g.name_is) ∙ at.1)
 
   missing : (front back : List Moment) → log ≡ front ++ back → (who : ℕ) (name : BlobName) → HadShard front who name WasAbsent → ⊥
@@ -78,19 +82,52 @@ module _ (s : Start) (log : List Moment) (smooth : IsSmooth s log) (prefixes : P
     -- and reads
     unread : (name : BlobName) → IsOfDelete (ticket_of s front who) name → (reason : Reason) → WasUnreadable s front who name reason → ⊥
     unread name of reason (had, bytes, read, refuses) =
-        let law = prefixes.lawful front back is in
+        let law = lawful.lawful front back is in
         let t : Ticket = ticket_of s front who in
-        let there : Has t.read (ShardIndex of.index of.number of.base, bytes) = subst (λ (n : BlobName). Has t.read (n, bytes)) of.name_is (read smooth.tells) in
+        let there : Has t.read (ShardIndex of.index of.number of.base, bytes) = subst (λ (n : BlobName). Has t.read (n, bytes)) of.name_is (read lawful.over.tells) in
         let at : fin.get (world_of s front).tickets who ≡ Some t = c.deleting.out.there ∙ ap (λ (x : Ticket). Some x) same in
         does_read (formats_of s) (world_of s front) law.0 law.1 who t of.uuids of.plan at (ap (λ (x : Ticket). x.out) (sym same) ∙ c.deleting.out.out) (ap (λ (x : Ticket). x.settled) (sym same) ∙ c.unsettled)
-        ((quiet_at s log smooth front back is).tickets who t at).present of.work of.index of.number of.base of.to_read bytes there
+        (present front back is who t at) of.work of.index of.number of.base of.to_read bytes there
         (unreadable_reads_not s.known s.told (ShardIndex of.index of.number of.base) bytes reason (subst (λ (n : BlobName). unreadable n bytes ≡ Some reason) of.name_is refuses))
+
+    -- no damage is shown
+    undamaged : {S F H T : Type 0} (counts : Counts S F H T) (why : Why) (b : By S F H T) → IsDamage why → IsDeleteShown counts s front who why b → ⊥
+    undamaged counts (OfAbsence name) b damage h = let x = read_shown b _ h in missing front back is who name x.1
+    undamaged counts (OfUnreadable name reason) b damage h = let x = read_shown b _ h in unread name x.0 reason x.1
+    undamaged counts (OfPrint name stated_len stated_digest found_len found_digest) b damage h = h
+    undamaged counts (OfDisagreement name other) b damage h = h
+    undamaged counts OfDepot b damage h = damage
+    undamaged counts OfSource b damage h = damage
+    undamaged counts (OfChange first_len first_digest second_len second_digest) b damage h = damage
+    undamaged counts (OfAhead name) b damage h = damage
+    undamaged counts (OfTaken name) b damage h = damage
+    undamaged counts (OfIdsSpent next) b damage h = damage
+    undamaged counts (OfGenerationsSpent pending) b damage h = damage
+    undamaged counts OfTarget b damage h = damage
+
+-- so none is reported
+pub none_damaged : {S F H T : Type 0} (s : Start) (log : List Moment) → IsLawful s log → (c : Counts S F H T) (faults : List (Fault S F H T)) → AreDeleteCaused c s log faults → NoDeleteFindsDamage log
+none_damaged s log lawful c faults shown front back m why is unelected step reply damage =
+    let up = lawful_front s log lawful front (m ∷ back) is in
+    let alive = alive_before s log lawful.over front back m is reply in
+    let end = sym (append-nil front) in
+    let fails = fails_at (formats_of s) s.part_size (world_of s front) m why (alive front [] end) (step_at s log lawful.over front back m is) step reply in
+    let x = shown (length front) m.entry.who why (record { front = front; moment = m; back = back; is = is; place_is = refl; of = refl; step = step; reply = reply }) in
+    undamaged s front up alive (unelected_present s front lawful.over.image lawful.over.opened unelected) front [] end m.entry.who fails c why x.0 damage x.1
+
+-- ---- where no call fails
+
+module _ (s : Start) (log : List Moment) (smooth : IsSmooth s log) (prefixes : Prefixes s log) where
+  module _ (front back : List Moment) (is : log ≡ front ++ back) (who : ℕ) (c : FailsDeletion (world_of s front) who) where
+    whole : {S F H T : Type 0} (counts : Counts S F H T) (why : Why) (b : By S F H T) → IsDamage why → IsDeleteShown counts s front who why b → ⊥
+    whole counts why b damage h =
+        undamaged s log (smooth_lawful s log smooth prefixes) (smooth_alive s log smooth) (λ a rest e k t there. ((quiet_at s log smooth a rest e).tickets k t there).present) front back is who c counts why b damage h
 
     -- no cause is shown
     shows : {S F H T : Type 0} (counts : Counts S F H T) (why : Why) (b : By S F H T) → IsDeleteShown counts s front who why b → ⊥
     shows counts OfDepot b h = depot s log smooth prefixes counts front who (λ m has. subst (λ (l : List Moment). Has l m) (sym is) (has_front front back m has)) b h
-    shows counts (OfAbsence name) b h = let x = read_shown b _ h in missing front back is who name x.1
-    shows counts (OfUnreadable name reason) b h = let x = read_shown b _ h in unread name x.0 reason x.1
+    shows counts (OfAbsence name) b h = whole counts (OfAbsence name) b tt h
+    shows counts (OfUnreadable name reason) b h = whole counts (OfUnreadable name reason) b tt h
     shows counts (OfTaken name) b h = untaken s log smooth prefixes front back is who name (step_shown b _ h)
     shows counts (OfIdsSpent next) b h = unspent s log smooth prefixes front back is who (IdsSpent next) tt (step_shown b _ h)
     shows counts (OfGenerationsSpent pending) b h = unspent s log smooth prefixes front back is who (GenerationsSpent pending) tt (step_shown b _ h)

@@ -6,3 +6,6 @@ pub mod Numbers
 pub mod Asking
 pub mod Prefixes
 pub mod Caused
+pub mod OverKept
+pub mod Undamaged
+pub mod Untaken

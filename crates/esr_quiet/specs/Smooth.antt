@@ -5,7 +5,7 @@ use Rattle.esr_model.specs.Shelf.{Shelved}
 use Rattle.esr_model.specs.Image.{Image}
 use Rattle.esr_model.specs.Kept.{Kept}
 use Rattle.esr_core.specs.World.{Opened}
-use Rattle.esr_core.specs.Entry.{AsksNoClone, Restore, AskStep, FailedStep, Why, ElectStep, ReadStep, PruneStep, DeleteFails, CheckedAll, DrawTest, ReadFails, Reply, HasEnded, Refused, DepotFault, IdsSpent, GenerationsSpent, TermsSpent, Moment}
+use Rattle.esr_core.specs.Entry.{Restore, AskStep, FailedStep, Why, ElectStep, ReadStep, PruneStep, DeleteFails, CheckedAll, DrawTest, ReadFails, Reply, HasEnded, Refused, DepotFault, IdsSpent, GenerationsSpent, TermsSpent, Moment}
 use Rattle.esr_core.specs.History.{AllKnown, AreTold, AreHonest}
 use Rattle.esr_desk.specs.Start.{Start, formats_of, Legal}
 use Rattle.esr_desk.specs.Once.{AreOnce}
@@ -30,12 +30,8 @@ AreUnspent log = (m : Moment) → Has log m → IsSpent m.entry.reply → ⊥
 abbrev pub AreUnelected : List Moment → Type 0
 AreUnelected log = (m : Moment) → Has log m → m.entry.step ≢ ElectStep
 
--- no clone was asked for
-abbrev pub NoCloneAsked : List Moment → Type 0
-NoCloneAsked log = (m : Moment) → Has log m → AsksNoClone m.entry.step
-
 -- The container told its image, which was kept, at the start and at each moment, and no call of it failed; the sources tell
--- all files, and no shard that was asked for fails. No clone was asked for.
+-- all files, and no shard that was asked for fails.
 pub record IsSmooth (s : Start) (log : List Moment) : Type 0 where
   pub tells : s.tells ≡ true
   pub quiet : s.quiet ≡ true
@@ -53,7 +49,6 @@ pub record IsSmooth (s : Start) (log : List Moment) : Type 0 where
   pub calm : AreCalm log
   pub unspent : AreUnspent log
   pub unelected : AreUnelected log
-  pub no_clone_asked : NoCloneAsked log
 
 -- no unit failed
 abbrev pub NoneFailed : List Moment → Type 0

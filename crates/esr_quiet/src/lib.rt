@@ -1,9 +1,14 @@
-//! What histories are where nothing fails: laws over the definitions alone.
+//! What histories are over a kept container that tells, above all where nothing fails: laws over the definitions alone.
 #![tactic(auto)]
 
+mod damage;
 mod law;
 mod number;
 
+pub use damage::{
+    no_check_finds_damage, no_delete_finds_damage, no_name_is_taken, no_restore_finds_damage,
+    no_unit_finds_damage,
+};
 pub use law::{
     no_check_fails, no_delete_fails, no_restore_fails, no_unasked_restore_fails, no_unit_fails,
     no_verification_fails, only_rules_refuse, other_tickets_stay, work_leaves_the_caller,

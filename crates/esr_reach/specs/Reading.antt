@@ -1,5 +1,5 @@
 -- What is held for the shards of a root.
-use Rattle.std.specs.Prelude.{◌≡◌, ℕ, Bool, List, Some, IsSome}
+use Rattle.std.specs.Prelude.{◌≡◌, ℕ, Bool, List, Some, IsSome, Option}
 use Rattle.esr_model.specs.Names.{BlobName, ShardIndex}
 use Rattle.esr_model.specs.Values.{Bytes, RootIndex, RootData, ShardFiles, Formats}
 use Rattle.esr_model.specs.Image.{Blobs, At, Reads, Generation, at_shard}
@@ -21,4 +21,4 @@ ReadsAsHeld f has root held =
 
 -- it holds of each image, with the real texts, whatever the sources tell
 abbrev pub InEachImage : ((f : Formats) → (BlobName → Bytes → Type 0) → Type 0) → Type 0
-InEachImage P = (known : Bytes → Bytes → ℕ → Bool) (told : Bytes → Bytes → ℕ → List (Bytes × Bytes)) (blobs : Blobs) → P (formats known told) (At (formats known told) blobs)
+InEachImage P = (known : Bytes → Bytes → ℕ → Bool) (told : Bytes → Bytes → ℕ → Option (List (Bytes × Bytes))) (blobs : Blobs) → P (formats known told) (At (formats known told) blobs)

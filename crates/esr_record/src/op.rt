@@ -6,7 +6,7 @@ use esr_names::{Id, Ids, IndexRefs, SnapName};
 use std::alloc::{AllocError, Global};
 
 /// The snapshot that an op makes: its indices in the command's order, its moment, name and uuid.
-#[derive(Debug, Drop)]
+#[derive(Drop)]
 pub struct Making {
     pub indices: IndexRefs,
     pub moment: u64,
@@ -15,7 +15,7 @@ pub struct Making {
 }
 
 /// What an op does.
-#[derive(Debug, Drop)]
+#[derive(Drop)]
 pub enum OpWork {
     /// Makes a snapshot.
     Create { info: Making },
@@ -28,7 +28,7 @@ pub enum OpWork {
 }
 
 /// An open op, by its number.
-#[derive(Debug, Drop)]
+#[derive(Drop)]
 pub struct RecordOp {
     pub op: u64,
     pub work: OpWork,

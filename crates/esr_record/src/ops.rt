@@ -8,7 +8,7 @@ use std::alloc::{AllocError, AllocFailed, Global};
 use std::marker::Model;
 
 /// Ops whose numbers rise, seen as the list of them.
-#[derive(Debug, Drop)]
+#[derive(Drop)]
 pub struct RecordOps {
     items: Vec<RecordOp>,
 }

@@ -15,7 +15,7 @@ use serde_json::Value;
 use std::alloc::Global;
 
 /// The kinds of op that a text can name.
-#[derive(Clone, Copy, Debug, PartialEq, Eq)]
+#[derive(Clone, Copy, PartialEq, Eq)]
 enum Kind {
     Create,
     Clone,

@@ -7,7 +7,7 @@ use std::marker::Model;
 
 /// The record of a cluster: its open ops, the last generation that was given out (`pending`), the one
 /// that stands (`safe`, at most `pending`; both -1 before the first) and the master's term (below 2^63).
-#[derive(Debug, Drop)]
+#[derive(Drop)]
 pub struct ClusterRecord {
     pub ops: RecordOps,
     pub pending: i64,

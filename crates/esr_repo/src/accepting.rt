@@ -143,7 +143,10 @@ impl<D: Depot, K: Told> Repo<D, K> {
     {
         match command_refusal(refusal) {
             Some(refusal) => self.refuse(0, step, refusal),
-            None => StepRefusal::Memory,
+            None => {
+                drop(step);
+                StepRefusal::Memory
+            }
         }
     }
 
@@ -188,7 +191,10 @@ impl<D: Depot, K: Told> Repo<D, K> {
     {
         match delete_refusal(refusal) {
             Some(refusal) => self.refuse(0, step, refusal),
-            None => StepRefusal::Memory,
+            None => {
+                drop(step);
+                StepRefusal::Memory
+            }
         }
     }
 

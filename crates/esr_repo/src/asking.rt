@@ -1,20 +1,11 @@
 //! The steps that ask, take and look.
-ghost use Rattle.std.specs.Prelude.{length, ◌≡◌, ◌+◌, ◌<◌, ◌^◌, ◌≤ℤ◌, negsuc, ℕ, List, [], map, Option, Some, None, true, false, IfOk, IfSome, OnOk, OnErr};
-ghost use Rattle.esr_model.specs.Names.{Latest};
-ghost use Rattle.esr_model.specs.Values.{Bytes};
-ghost use Rattle.esr_core.specs.Entry.{Moment, DeleteSnapshots, AskStep, TakeStep, DrawStep, BeginStep, CommitStep, LatestStep, FetchStep, RaiseStep, SettleStep, DoneStep, FailedStep, FinishStep, DroppedStep, LookStep, Accepted, DrawnFrom, WasBegun, WasReplaced, RaisedTo, WasSettled, HasEnded, Looked};
-ghost use Rattle.esr_core.specs.Allowed.{IsMetadata, latest_text};
-ghost use Rattle.esr_core.specs.After.{fetching};
-ghost use Rattle.esr_names.specs.Layout.{IsName};
-ghost use Rattle.esr_formats.specs.Names.{name_of};
-ghost use Rattle.esr_formats.specs.Roots.{root_of, root_snap_of};
+ghost use Rattle.std.specs.Prelude.{length, ◌≡◌, ◌<◌, ◌^◌, ◌≤ℤ◌, negsuc, map, Option, Some, None, IfOk, IfSome};
+ghost use Rattle.esr_core.specs.Entry.{DeleteSnapshots, AskStep, TakeStep, LookStep, Accepted, Looked};
+ghost use Rattle.esr_formats.specs.Roots.{root_snap_of};
 ghost use Rattle.esr_formats.specs.Clusters.{count_of};
-ghost use Rattle.esr_results.specs.Results.{result_of};
 ghost use Rattle.esr_progress.specs.Asked.{asked_of, IsAskable};
-ghost use Rattle.esr_desk.specs.Entries.{why_of, step_of};
-ghost use Rattle.esr_desk.specs.Start.{Start, ticket_of, told_bytes};
-ghost use Rattle.esr_desk.specs.Outcome.{commit_reply, fetch_reply, take_reply};
-ghost use Rattle.esr_desk.specs.Conditions.{CanDraw, CanCommit, CanPut, CanBegin, Holds, CanFetch, CanRaise, CanSettle, CanEnd, CanFail, CanFinish, CanDrop};
+ghost use Rattle.esr_desk.specs.Entries.{step_of};
+ghost use Rattle.esr_desk.specs.Outcome.{take_reply};
 ghost use Rattle.esr_desk.specs.Readers.{TookUnit, IsBare};
 ghost use Rattle.esr_desk.specs.declared.refusal.StepRefusal.{StepRefusal};
 ghost use Rattle.esr_repo.specs.Next.{Did};

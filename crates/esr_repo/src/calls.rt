@@ -74,8 +74,12 @@ impl<D: Depot, K: Told> Repo<D, K> {
         ensures why { IfErr result (λ e. (e ≡ Memory) ⊎ (e ≡ Refused DepotFault)) }
     {
         Self::laws();
-        let text = write_name(alloc, &name)?;
+        let Ok(text) = write_name(alloc, &name) else {
+            drop(step);
+            return Err(StepRefusal::Memory);
+        };
         if self.history.reserve(1).is_err() {
+            drop(step);
             return Err(StepRefusal::Memory);
         }
         match self.depot.begin(alloc, text.as_str(), room) {
@@ -114,6 +118,8 @@ impl<D: Depot, K: Told> Repo<D, K> {
         let Named { name, stage } = stage;
         reads_back(&name);
         if self.history.reserve(1).is_err() {
+            drop(step);
+            drop(stage);
             return Err(StepRefusal::Memory);
         }
         match self.depot.commit(alloc, stage) {
@@ -194,8 +200,12 @@ impl<D: Depot, K: Told> Repo<D, K> {
         ensures why { IfErr result (λ e. (e ≡ Memory) ⊎ (e ≡ Refused DepotFault)) }
     {
         Self::laws();
-        let text = write_name(alloc, &name)?;
+        let Ok(text) = write_name(alloc, &name) else {
+            drop(step);
+            return Err(StepRefusal::Memory);
+        };
         if self.history.reserve(1).is_err() {
+            drop(step);
             return Err(StepRefusal::Memory);
         }
         match self.depot.fetch(alloc, text.as_str()) {
@@ -209,7 +219,10 @@ impl<D: Depot, K: Told> Repo<D, K> {
                 self.history.push_reserved(Entry { who, step, answer });
                 Ok(None)
             }
-            Err(CallError::Memory) => Err(StepRefusal::Memory),
+            Err(CallError::Memory) => {
+                drop(step);
+                Err(StepRefusal::Memory)
+            }
             Err(CallError::Failed) => {
                 self.history.push_reserved(faulted(who, step));
                 Err(StepRefusal::Refused(EntryRefusal::DepotFault))

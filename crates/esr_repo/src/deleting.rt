@@ -243,13 +243,14 @@ impl<D: Depot, K: Told> Repo<D, K> {
         self.rules();
         let own = self.seat(ticket).term;
         let now = self.term();
-        let prune = Prune::Settle;
-        let step = Step::Prune { prune };
         if own != now {
             let refusal = EntryRefusal::StaleTerm { own, now };
-            return Err(self.refuse(ticket, step, refusal));
+            let prune = Prune::Settle;
+            return Err(self.refuse(ticket, Step::Prune { prune }, refusal));
         }
         let renewed = self.pruned(alloc, ticket, root)?;
+        let prune = Prune::Settle;
+        let step = Step::Prune { prune };
         self.swap(alloc, ticket, step, Answer::Settled, renewed)
     }
 

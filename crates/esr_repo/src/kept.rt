@@ -1,14 +1,13 @@
 //! What is kept of the world, as the steps read it.
-ghost use Rattle.std.specs.Prelude.{◌≡◌, ◌+◌, ◌^◌, ◌<◌, ◌≤◌, ◌≤ℤ◌, negsuc, ℕ, suc, true, length, MatchOption};
+ghost use Rattle.std.specs.Prelude.{◌≡◌, ◌+◌, ◌^◌, ◌<◌, ◌≤◌, ◌≤ℤ◌, negsuc, suc, true, length, MatchOption};
 ghost use Rattle.esr_model.specs.Kept.{first_id};
-ghost use Rattle.esr_model.specs.Values.{ReadsBack};
 ghost use Rattle.esr_core.specs.World.{record_of};
 ghost use Rattle.esr_core.specs.Allowed.{NoCleanup};
 ghost use Rattle.esr_core.specs.Tracked.{Tracked};
 ghost use Rattle.esr_core.specs.Ranked.{Ranked};
 ghost use Rattle.esr_core.specs.ReadTracked.{ReadTracked};
 ghost use Rattle.esr_formats.specs.Roots.{root_of};
-ghost use Rattle.esr_formats.specs.Clusters.{count_of, cluster_of, cluster_kind};
+ghost use Rattle.esr_formats.specs.Clusters.{count_of, cluster_of};
 ghost use Rattle.esr_record.specs.Record.{AreNumbers};
 ghost use Rattle.esr_progress.specs.Plan.{IsPlanOf, seat_of, seat_of_code};
 ghost use Rattle.esr_desk.specs.Numbered.{Numbered};

@@ -48,8 +48,12 @@ impl<D: Depot, K: Told> Repo<D, K> {
         ensures why { IfErr result (λ e. (e ≡ Memory) ⊎ (e ≡ Refused DepotFault)) }
     {
         Self::laws();
-        let texts = texts_of(alloc, names)?;
+        let Ok(texts) = texts_of(alloc, names) else {
+            drop(step);
+            return Err(StepRefusal::Memory);
+        };
         if self.history.reserve(1).is_err() {
+            drop(step);
             return Err(StepRefusal::Memory);
         }
         match self.depot.remove(&texts) {

@@ -79,14 +79,17 @@ impl<D: Depot, K: Told> Repo<D, K> {
     {
         self.check(0, asks(alloc, name, place)?)?;
         self.rules();
-        let step = asks(alloc, name, place)?;
         let uuid = match self.plan().restorable(self.safe_root(), name) {
             Ok(uuid) => uuid,
-            Err(refusal) => return Err(self.refuse(0, step, restore_refusal(refusal))),
+            Err(refusal) => {
+                let refused = asks(alloc, name, place)?;
+                return Err(self.refuse(0, refused, restore_refusal(refusal)));
+            }
         };
         let indices = self.indices_of(alloc, uuid)?;
         let progress = self.plan().restoring(alloc, uuid, place, &indices)?;
         let told = indices_copy(alloc, &indices)?;
+        let step = asks(alloc, name, place)?;
         let op = self.next_op();
         let answer = Answer::AcceptedRestore {
             op,

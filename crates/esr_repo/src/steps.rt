@@ -35,9 +35,11 @@ impl<D: Depot, K: Told> Repo<D, K> {
     {
         Self::laws();
         let Some(entry) = self.deposed else {
+            drop(step);
             return Ok(());
         };
         if self.history.reserve(1).is_err() {
+            drop(step);
             return Err(StepRefusal::Memory);
         }
         let refusal = EntryRefusal::Deposed { entry };
@@ -62,6 +64,9 @@ impl<D: Depot, K: Told> Repo<D, K> {
     {
         Self::laws();
         if self.history.reserve(1).is_err() {
+            drop(step);
+            drop(answer);
+            drop(progress);
             return Err(StepRefusal::Memory);
         }
         self.history.push_reserved(Entry { who, step, answer });

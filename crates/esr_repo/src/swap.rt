@@ -144,8 +144,15 @@ impl<D: Depot, K: Told> Repo<D, K> {
                 );
                 Ok(())
             }
-            Err(CallError::Memory) => Err(StepRefusal::Memory),
+            Err(CallError::Memory) => {
+                drop(step);
+                drop(answer);
+                drop(renewed);
+                Err(StepRefusal::Memory)
+            }
             Err(CallError::Failed) => {
+                drop(answer);
+                drop(renewed);
                 let place = self.history.len() as u64;
                 let refusal = EntryRefusal::DepotFault;
                 let answer = Answer::Refused { refusal };

@@ -93,6 +93,18 @@ fn new_root(alloc: Global, unit: &ReadyUnit) -> Result<Option<RootData>, AllocEr
     Ok(Some(root))
 }
 
+/// What is given, as an entry tells it, and the root that a finalization is to write.
+fn given_and_root(alloc: Global, unit: &ReadyUnit) -> Result<(Given, Option<RootData>), AllocError>
+    requires { IsRootable unit.now }
+    ensures given { IfOk result (λ r. unit_of r.0 ≡ given_of unit.now) }
+    ensures root { IfOk result (λ r. HasRoot unit.now r.1) }
+    ensures none { IfOk result (λ r. HasNoRoot unit.now r.1) }
+{
+    let new_root = new_root(alloc, unit)?;
+    let given = given(alloc, unit)?;
+    Ok((given, new_root))
+}
+
 impl<D: Depot, K: Told> Repo<D, K> {
     /// The first ready unit of the lowest op, with the list in which its ticket is out.
     pub(crate) fn ready(&self, alloc: Global) -> Result<Option<(Progress, ReadyUnit)>, AllocError>
@@ -128,15 +140,24 @@ impl<D: Depot, K: Told> Repo<D, K> {
         ensures bare { IfOk result (λ unit. IsBare K.start self.new unit) }
     {
         self.rules();
-        let given = given(alloc, &ready)?;
-        let new_root = new_root(alloc, &ready)?;
+        let Ok((given, new_root)) = given_and_root(alloc, &ready) else {
+            drop(progress);
+            drop(ready);
+            return Err(StepRefusal::Memory);
+        };
         let answer = Answer::Gave {
             ticket: ready.ticket,
             op: ready.op,
             unit: given,
         };
+        let unit = Unit { ready, new_root };
         let next = self.next_id();
-        self.note(0, Step::Take, answer, Some(progress), next)?;
-        Ok(Unit { ready, new_root })
+        match self.note(0, Step::Take, answer, Some(progress), next) {
+            Ok(()) => Ok(unit),
+            Err(refusal) => {
+                drop(unit);
+                Err(refusal)
+            }
+        }
     }
 }

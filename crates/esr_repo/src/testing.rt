@@ -1,5 +1,5 @@
 //! The steps of a verification.
-ghost use Rattle.std.specs.Prelude.{◌≡◌, ◌<◌, ◌≤◌, ◌^◌, [], ◌++◌, length, map, true, IsTrue, IfOk, IfSome, OnOk, OnErr};
+ghost use Rattle.std.specs.Prelude.{◌≡◌, ◌<◌, ◌^◌, [], ◌++◌, length, map, true, IsTrue, IfOk, IfSome, OnOk, OnErr};
 ghost use Rattle.esr_model.specs.Values.{Bytes, Has};
 ghost use Rattle.esr_core.specs.World.{no_caller};
 ghost use Rattle.esr_core.specs.Entry.{ReadStep, ReadBlob, DrawTest, BeginTest, CommitTest, RemoveTests, VerifiedAll, ReadFails, DrawnFrom, WasBegun, WasDone, WasRemoved, HasEnded};

@@ -1,5 +1,5 @@
 //! What was told of the container when it was opened.
-ghost use Rattle.std.specs.Prelude.{ℕ, List, [], false};
+ghost use Rattle.std.specs.Prelude.{ℕ, None, false};
 ghost use Rattle.std.specs.FinMap as fin;
 ghost use Rattle.esr_core.specs.World.{opened, no_record, no_root};
 ghost use Rattle.esr_depot.specs.Image.{Image};
@@ -22,7 +22,7 @@ pub trait Told {
 }
 
 impl Told for Brand {
-    ghost start = { record { known = λ _ _ _. false; told = λ _ _ _. []; part_size = 1; tells = false; quiet = false; steady = λ _ _ _. false; sure_targets = false; alone = false; world = opened fin.empty no_record no_root } };
+    ghost start = { record { known = λ _ _ _. false; told = λ _ _ _. None; part_size = 1; tells = false; quiet = false; steady = λ _ _ _. false; sure_targets = false; alone = false; world = opened fin.empty no_record no_root } };
 
     ghost clock = { 0 };
 

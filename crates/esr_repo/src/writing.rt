@@ -1,21 +1,15 @@
 //! The steps by which a unit reads and writes.
-ghost use Rattle.std.specs.Prelude.{◌≡◌, ◌+◌, ◌<◌, ◌^◌, ℕ, List, [], map, length, Option, Some, None, true, false, IsTrue, IfOk, IfSome, OnOk, OnErr};
+ghost use Rattle.std.specs.Prelude.{◌≡◌, ◌+◌, ◌<◌, ◌^◌, ℕ, [], length, Option, Some, None, true, IsTrue, IfOk, IfSome, OnErr};
 ghost use Rattle.esr_model.specs.Names.{Latest};
 ghost use Rattle.esr_model.specs.Values.{Bytes};
-ghost use Rattle.esr_core.specs.Entry.{Moment, AskStep, TakeStep, DrawStep, BeginStep, CommitStep, LatestStep, FetchStep, RaiseStep, SettleStep, DoneStep, FailedStep, FinishStep, DroppedStep, LookStep, Accepted, DrawnFrom, WasBegun, WasReplaced, RaisedTo, WasSettled, HasEnded, Looked};
+ghost use Rattle.esr_core.specs.Entry.{DrawStep, BeginStep, CommitStep, LatestStep, FetchStep, DrawnFrom, WasBegun, WasReplaced};
 ghost use Rattle.esr_core.specs.Allowed.{IsMetadata, latest_text};
-ghost use Rattle.esr_core.specs.After.{fetching};
 ghost use Rattle.esr_names.specs.Layout.{IsName};
 ghost use Rattle.esr_formats.specs.Names.{name_of};
-ghost use Rattle.esr_formats.specs.Roots.{root_of, root_snap_of};
-ghost use Rattle.esr_formats.specs.Clusters.{count_of};
-ghost use Rattle.esr_results.specs.Results.{result_of};
-ghost use Rattle.esr_progress.specs.Asked.{asked_of, IsAskable};
-ghost use Rattle.esr_desk.specs.Entries.{why_of};
-ghost use Rattle.esr_desk.specs.Start.{Start, ticket_of, told_bytes};
-ghost use Rattle.esr_desk.specs.Outcome.{commit_reply, fetch_reply, take_reply};
-ghost use Rattle.esr_desk.specs.Conditions.{CanDraw, CanCommit, CanPut, CanBegin, Holds, CanFetch, CanRaise, CanSettle, CanEnd, CanFail, CanFinish, CanDrop};
-ghost use Rattle.esr_desk.specs.Taken.{Took, committed_by, begun_by, tried_by, fetched_by, LeftBy, HasRaised, IsSettled, HasEndedAs};
+ghost use Rattle.esr_desk.specs.Start.{ticket_of};
+ghost use Rattle.esr_desk.specs.Outcome.{commit_reply, fetch_reply};
+ghost use Rattle.esr_desk.specs.Conditions.{CanDraw, CanCommit, CanPut, CanBegin, Holds, CanFetch};
+ghost use Rattle.esr_desk.specs.Taken.{committed_by, begun_by, tried_by, fetched_by};
 ghost use Rattle.esr_desk.specs.declared.refusal.StepRefusal.{StepRefusal};
 ghost use Rattle.esr_repo.specs.Next.{Did};
 

@@ -13,7 +13,7 @@ use esr_names::BlobName;
 use esr_script::Script;
 
 /// How a run ended that opened the container; the first that holds.
-#[derive(Clone, Copy, Debug, PartialEq, Eq)]
+#[derive(Clone, Copy, PartialEq, Eq)]
 pub enum Ending {
     /// A record swap failed.
     SwapFailed,

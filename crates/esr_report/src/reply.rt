@@ -5,7 +5,7 @@ use esr_root::RootSnaps;
 use esr_seq::Seq;
 
 /// What a line of a script was answered.
-#[derive(Debug, Drop)]
+#[derive(Drop)]
 pub enum Reply {
     /// The snapshot of this uuid is in the root.
     Made { uuid: Id },

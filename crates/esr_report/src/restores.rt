@@ -14,7 +14,7 @@ use esr_names::{Id, IndexRef, ShardId};
 use std::alloc::{AllocError, Global};
 
 /// A shard that a restore reads: of this op, for the snapshot of this uuid.
-#[derive(Clone, Copy, Debug)]
+#[derive(Clone, Copy)]
 pub struct ReadShard {
     pub op: u64,
     pub shard: ShardId,
@@ -22,21 +22,21 @@ pub struct ReadShard {
 }
 
 /// How it ended: so many files were restored, of so many bytes, or it failed.
-#[derive(Clone, Copy, Debug)]
+#[derive(Clone, Copy)]
 pub enum ShardEnd {
     Restored { files: u64, bytes: u64 },
     Failed { why: Why },
 }
 
 /// The ticket to which a shard was given.
-#[derive(Clone, Copy, Debug)]
+#[derive(Clone, Copy)]
 pub struct ShardTake {
     pub shard: ReadShard,
     pub ticket: u64,
 }
 
 /// How the shard of a ticket ended.
-#[derive(Clone, Copy, Debug)]
+#[derive(Clone, Copy)]
 pub struct TicketEnd {
     pub ticket: u64,
     pub end: ShardEnd,

@@ -14,7 +14,7 @@ use std::alloc::{AllocError, Global};
 
 /// How an op ended: its snapshot is in the root, this delete took snapshots out of it, one of its units failed, with the op of
 /// a delete, or this delete aborted it.
-#[derive(Clone, Copy, Debug)]
+#[derive(Clone, Copy)]
 pub enum End {
     Made { uuid: Id },
     Deleted { op: u64 },
@@ -39,7 +39,7 @@ impl End {
 }
 
 /// The end of an op.
-#[derive(Clone, Copy, Debug)]
+#[derive(Clone, Copy)]
 pub struct OpEnd {
     pub op: u64,
     pub end: End,

@@ -17,7 +17,7 @@ use esr_names::{Id, IndexRef};
 use std::alloc::{AllocError, Global};
 
 /// How ops ended, to which tickets the shards of restores were given, and how the shards of tickets ended.
-#[derive(Debug, Drop)]
+#[derive(Drop)]
 pub struct ToldEnds {
     pub ops: Vec<OpEnd>,
     pub takes: Vec<ShardTake>,

@@ -12,7 +12,7 @@ use esr_seq::Seq;
 use std::alloc::{AllocError, Global};
 
 /// A shard whose generation goes: it gets an index of what is left of it, or nothing is left.
-#[derive(Clone, Copy, Debug, PartialEq, Eq)]
+#[derive(Clone, Copy, PartialEq, Eq)]
 pub struct PrunedShard {
     pub shard: ShardId,
     /// Its generation so far.

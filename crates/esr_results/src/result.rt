@@ -3,7 +3,7 @@ use esr_names::{Id, ShardId};
 use esr_seq::Seq;
 
 /// What a shard's unit reports: its new generation, how many files it has and the sum of their lengths in bytes.
-#[derive(Clone, Copy, Debug, PartialEq, Eq)]
+#[derive(Clone, Copy, PartialEq, Eq)]
 pub struct ShardResult {
     pub shard: ShardId,
     pub generation: Id,

@@ -10,7 +10,7 @@ use esr_shardidx::{FileEntry, PhysicalName, ShardIndex};
 use std::alloc::{AllocError, Global};
 
 /// A file of a shard that was read: its name where it was taken from, and its print.
-#[derive(Debug, Drop)]
+#[derive(Drop)]
 pub struct ReadFile {
     pub physical: PhysicalName,
     pub print: Print,
@@ -20,7 +20,7 @@ pub struct ReadFile {
 pub type ReadFiles = Seq<ReadFile>;
 
 /// A file of a shard with the entry of the base that it reuses, if there is one.
-#[derive(Debug, Drop)]
+#[derive(Drop)]
 pub struct Planned {
     pub physical: PhysicalName,
     pub print: Print,

@@ -1,12 +1,12 @@
 -- What a run over quiet objects ends with.
-use Rattle.std.proofs.Common.{◌≡◌, ◌⊎◌, ℕ, suc, ◌+◌, ◌^◌, ◌<◌, ◌≤◌, Bool, true, false, cond, nat_lt, List, [], ◌∷◌, ◌++◌, map, length, Option, Some, None, is_some, refl, sym, ap, ◌∙◌, subst, inl, inr, ⊎_elim, arith}
+use Rattle.std.proofs.Common.{◌≡◌, ◌⊎◌, ℕ, suc, ◌+◌, ◌^◌, ◌<◌, ◌≤◌, Bool, true, false, cond, nat_lt, List, [], ◌∷◌, ◌++◌, map, length, Option, Some, is_some, refl, sym, ap, ◌∙◌, subst, inl, inr, ⊎_elim, arith}
 use Rattle.std.specs.Prelude.{◌&&◌, ◌==◌, unwrap_or, if◌then◌else◌}
 use Rattle.std.proofs.lemmas.Bool.{ltb-true, ltb-false}
 use Rattle.std.proofs.lemmas.List.Sums.{sum_by-cons}
 use Rattle.esr_model.specs.Values.{Bytes, Has, Formats}
 use Rattle.esr_model.specs.Image.{Image}
 use Rattle.esr_core.specs.World.{World, Caller, Opened}
-use Rattle.esr_core.specs.Entry.{AskedIndex, CloneOf, Snapshot, Clone, Restore, Step, AskStep, ElectStep, Reply, Refused, DepotFault, DeposedAt, IdsSpent, GenerationsSpent, TermsSpent, Entry, Moment}
+use Rattle.esr_core.specs.Entry.{AskedIndex, Snapshot, Restore, Step, AskStep, ElectStep, Reply, Refused, DepotFault, DeposedAt, IdsSpent, GenerationsSpent, TermsSpent, Entry, Moment}
 use Rattle.esr_core.specs.Allowed as allowed
 use Rattle.esr_core.specs.Allowed.{Allows, Allowed}
 use Rattle.esr_core.specs.History.{world_from, IsLegal, AreTold}
@@ -28,9 +28,9 @@ use Rattle.esr_repo.specs.Counted.{is_fault, fault_entries}
 use Rattle.esr_repo.specs.Calm.{IsCalm}
 use Rattle.esr_repo.specs.Deposed.{FailedSwap, AreDeposedSo}
 use Rattle.esr_quiet.specs.Asked.{is_line_ask, is_asked, as_asked, asked_steps, AreSteady}
-use Rattle.esr_quiet.specs.Smooth.{IsSmooth, IsSpent, AreCalm, AreUnelected, NoCloneAsked, NoneFailed, NoneUndeleted, NoneUnrestored, NoneUnverified, NoneAsked}
+use Rattle.esr_quiet.specs.Smooth.{IsSmooth, IsSpent, AreCalm, AreUnelected, NoneFailed, NoneUndeleted, NoneUnrestored, NoneUnverified, NoneAsked}
 use Rattle.esr_quiet.specs.Refusals.{AreByRule}
-use Rattle.esr_complete.specs.Lines.{index_of_line, steps_of_item, steps_of, IsKnown, AreKnown, entries_of}
+use Rattle.esr_complete.specs.Lines.{index_of_line, steps_of_item, steps_of, AreKnown, entries_of}
 use Rattle.esr_complete.specs.InTurn.{IsInTurn, AreChecksInTurn}
 use Rattle.esr_complete.specs.Answers.{AreAnswered, EndsWell}
 use Rattle.esr_run.specs.Start.{Telling, formats_by, steady_by, start_of}
@@ -242,29 +242,6 @@ no_election moment items.Verify (inl e) = cc
 no_election moment items.Verify (inr h) = h
 no_election moment item h = h
 
--- each line asks for a command that is known
-known_line : (lines : List ScriptLine) (line : ScriptLine) → AreKnown lines → Has lines line → IsKnown line.item
-known_line [] line known h = absurd h
-known_line (x ∷ lines) line known (inl e) = subst (λ (l : ScriptLine). IsKnown l.item) e known.0
-known_line (x ∷ lines) line known (inr h) = known_line lines line known.1 h
-
--- none of these is a clone
-asks_no_clone : (moment : ℕ) (item : Item) (source name : Bytes) (names : List Bytes) (when : ℕ) (taken : Option CloneOf) → IsKnown item → Has (steps_of_item moment item) (AskStep (Clone source name names when taken)) → ⊥
-asks_no_clone moment (items.Snapshot called indices) source name names when taken known (inl e) = cc
-asks_no_clone moment (items.Snapshot called indices) source name names when taken known (inr h) = h
-asks_no_clone moment (items.Clone of called indices) source name names when taken known h = known
-asks_no_clone moment (items.Delete called) source name names when taken known (inl e) = cc
-asks_no_clone moment (items.Delete called) source name names when taken known (inr h) = h
-asks_no_clone moment (items.Restore called place) source name names when taken known (inl e) = cc
-asks_no_clone moment (items.Restore called place) source name names when taken known (inr h) = h
-asks_no_clone moment items.List source name names when taken known (inl e) = cc
-asks_no_clone moment items.List source name names when taken known (inr h) = h
-asks_no_clone moment items.Check source name names when taken known (inl e) = cc
-asks_no_clone moment items.Check source name names when taken known (inr h) = h
-asks_no_clone moment items.Verify source name names when taken known (inl e) = cc
-asks_no_clone moment items.Verify source name names when taken known (inr h) = h
-asks_no_clone moment item source name names when taken known h = h
-
 -- the indices of a snapshot that was asked are those of the line's
 record OfSnapshot (item : Item) (indices : List AskedIndex) : Type 0 where
   name : Bytes
@@ -384,12 +361,6 @@ module _ {S F H T : Type 0} (laws : QuietLaws S F H T) (count : Counts S F H T) 
         let from = wanted m h who (ap is_line_ask is) in
         no_election moment from.line.item (subst (λ (step : Step). Has (steps_of_item moment from.line.item) (as_asked step)) is from.step_is)
 
-    uncloned : NoCloneAsked log
-    uncloned m h source name names when taken is =
-        let who : m.entry.who ≡ 0 = subst (IsNobodys m.entry.who) is (nobody m h) in
-        let from = wanted m h who (ap is_line_ask is) in
-        asks_no_clone moment from.line.item source name names when None (known_line lines from.line quiet_for.known from.there) (subst (λ (step : Step). Has (steps_of_item moment from.line.item) (as_asked step)) is from.step_is)
-
     tells : s.tells ≡ true
     tells = ap is_some quiet_for.holds.told
 
@@ -411,7 +382,6 @@ module _ {S F H T : Type 0} (laws : QuietLaws S F H T) (count : Counts S F H T) 
       calm = calm_is s log history entries legal none_faults named;
       unspent = λ m h spent. unspent m.entry (subst (λ (l : List Entry). Has l m.entry) entries (has_entry log m h)) spent;
       unelected = unelected;
-      no_clone_asked = uncloned;
     }
 
     none_failed : NoneFailed log

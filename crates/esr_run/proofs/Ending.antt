@@ -1,6 +1,6 @@
 -- How a run ends.
 use Rattle.std.proofs.Common.{◌≡◌, ◌⊎◌, ℕ, zero, suc, ◌<◌, ◌≤◌, ◌^◌, Bool, true, false, List, [], ◌∷◌, ◌++◌, Option, Some, None, is_some, inl, inr, arith, refl, sym, ap, ◌∙◌, subst}
-use Rattle.std.specs.Prelude.{unwrap_or, ◌&&◌, ◌||◌}
+use Rattle.std.specs.Prelude.{unwrap_or, ◌&&◌, ◌||◌, if◌then◌else◌}
 use Rattle.esr_model.specs.Values.{Bytes}
 use Rattle.esr_core.specs.Entry.{Step, Entry, Moment}
 use Rattle.esr_core.specs.World.{World}
@@ -10,7 +10,7 @@ use Rattle.esr_depot.specs.Calls.{HasCause, Stays}
 use Rattle.esr_formats.specs.Clusters.{cluster_of}
 use Rattle.esr_formats.specs.Roots.{root_of}
 use Rattle.esr_desk.specs.Start.{Start}
-use Rattle.esr_desk.specs.Sources.{AreSources}
+use Rattle.esr_desk.specs.Sources.{TellSame, AreSources}
 use Rattle.esr_desk.specs.Once.{AreOnce, NoneTwice}
 use Rattle.esr_deleting.specs.Once.{AreRemovedOnce}
 use Rattle.esr_checking.specs.Tested.{AreTested}
@@ -23,7 +23,7 @@ use Rattle.esr_run.specs.Verified.{AreWhole}
 use Rattle.esr_run.specs.Waits.{TakesFew}
 use Rattle.esr_run.specs.Made.{MadeFirst, HasFallen, AreDone}
 use Rattle.std.specs.Io.KnownBytes.{Appends}
-use Rattle.esr_opening.specs.Opening.{Kept, IsFault, IsOpening, IsOpenRefused}
+use Rattle.esr_opening.specs.Opening.{Kept, known_blobs, IsFault, IsOpening, IsOpenRefused}
 use Rattle.esr_opening.specs.declared.refusal.OpenRefusal.{OpenRefusal}
 use Rattle.esr_opening.specs.declared.refusal.OpenRefusal.TheVariants as refusals
 use Rattle.esr_repo.specs.Past.{IsPast}
@@ -40,7 +40,10 @@ use Rattle.esr_run.specs.Laws.{Laws}
 use Rattle.esr_run.specs.Stops.{StoppedBy}
 use Rattle.esr_run.specs.Causes.{Given, IsScript, IsOpenedRun, IsUntouched, IsUnopened, IsRunOf, IsCauseOf, IsOpenCause, IsTextOf, IsVerdict, IsTold, exit_unprinted, IsPrinted, IsEndOf, end_of_refusal}
 use Rattle.esr_run.proofs.Worlds.{begun_world, start_is}
-use Rattle.esr_run.proofs.Keeping.{untouched_kept, refused_kept, every_image_kept, answers_stay}
+use Rattle.esr_run.proofs.Keeping.{untouched_kept, refused_kept, every_image_kept, end_kept, answers_stay}
+use Rattle.esr_run.proofs.Dooms.{untouched_tidy, refused_tidy, every_image_tidy, end_tidy, each_dooms_exactly}
+use Rattle.esr_run.proofs.Told.{stays_told}
+use Rattle.esr_run.proofs.Sourceless.{needs_no_source}
 
 -- ---- what is told at the start
 
@@ -50,8 +53,10 @@ are_sources files size quiet l w = record {
   steady = λ place name number e. both files.is_quiet (files.is_there place name number) e;
 }
   where
-    by : (o : Option (List (Bytes × Bytes))) (there : Option Bool) → (is_some o || is_absent there) ≡ true → (o ≡ Some (unwrap_or o [])) ⊎ (there ≡ Some false)
-    by (Some x) there e = inl refl
+    by : (o : Option (List (Bytes × Bytes))) (there : Option Bool) → (is_some o || is_absent there) ≡ true → TellSame o (if is_absent there then None else o) ⊎ (there ≡ Some false)
+    by (Some x) None e = inl (x, refl, refl)
+    by (Some x) (Some true) e = inl (x, refl, refl)
+    by (Some x) (Some false) e = inr refl
     by None None e = absurd cc
     by None (Some true) e = absurd cc
     by None (Some false) e = inr refl
@@ -70,7 +75,7 @@ pub untouched : {S F H T : Type 0} (files : Telling) (before after : Look) (hist
     → after ≡ before → ((i : Held) → before.since before.clock i → now before ≡ Some i) → history ≡ [] → faults ≡ [] → IsUntouched files before after history faults
 untouched files before after history faults same only empty none =
     subst (λ (l : Look). IsUntouched files before l history faults) (sym same)
-    (record { stays = stays before; every_image = untouched_kept (formats_by files) before only; empty = empty; none = none })
+    (record { stays = stays before; every_image = untouched_kept (formats_by files) before only; tidy = untouched_tidy (formats_by files) before only; empty = empty; none = none })
 
 -- the container is handed on
 pub refused_at : {F : Type 0} (count : F → ℕ) (before mid after : Look) (old_faults mid_faults new_faults : ℕ) (refusal : OpenRefusal F) → after ≡ mid → new_faults ≡ mid_faults
@@ -81,7 +86,7 @@ refused_at count before mid after old_faults mid_faults new_faults refusal same 
 pub unopened : {S F H T : Type 0} (laws : Laws) (count : Counts S F H T) (files : Telling) (before after : Look) (old_faults new_faults : ℕ) (history : List Entry) (faults : List (Fault S F H T)) (refusal : OpenRefusal F)
     → IsOpenRefused count.fetch before after old_faults new_faults refusal → history ≡ [] → faults ≡ listed (fetch_of refusal) → IsUnopened count files before after old_faults new_faults history faults
 unopened laws count files before after old_faults new_faults history faults refusal refused empty are =
-    record { refusal = refusal; refused = refused; every_image = refused_kept laws files count.fetch before after old_faults new_faults refusal refused; empty = empty; faults_are = are }
+    record { refusal = refusal; refused = refused; every_image = refused_kept laws files count.fetch before after old_faults new_faults refusal refused; tidy = refused_tidy files count.fetch before after old_faults new_faults refusal refused; empty = empty; faults_are = are }
 
 -- what is told of the history by the container alone, as the run tells it
 abbrev pub Begun : Telling → ℕ → Bool → Look → Kept → Start
@@ -96,6 +101,7 @@ opened_run {S} {F} {H} {T} laws count files size workers moment lines quiet befo
     let is = start_is files size quiet before mid k o in
     let run = subst (λ (s : Start). LegalRun s mid.clock after history) is legal in
     let was = subst (λ (s : Start). IsPast s mid.clock mid.since after history) is past in
+    let asked : asked_steps (log_of after mid.clock history) ++ made.rest ≡ steps_of moment lines = ap (λ (l : List Step). l ++ made.rest) (ap asked_steps made.grew.is ∙ made.grew.asked refl) ∙ made.is in
     record {
       world = _;
       clock = mid.clock;
@@ -109,8 +115,14 @@ opened_run {S} {F} {H} {T} laws count files size workers moment lines quiet befo
       finds = o.finds;
       order = o.order;
       legal = run;
+      told = stays_told files size quiet before after _ mid.clock mid.since history run was;
       every_image = every_image_kept laws files size quiet before mid after k history o run was;
+      end_kept = end_kept laws files size quiet before mid after k history o run was;
+      sourceless = needs_no_source laws (formats_by files) size moment lines made.rest (known_blobs (now before)) (cluster_of o.cluster) (root_of o.root) (log_of after mid.clock history) o.order.tracked run.legal asked;
       answered = answers_stay laws files size quiet before mid after k history o run was;
+      tidy = every_image_tidy laws files size quiet before mid after k history o run was;
+      end_tidy = end_tidy laws files size quiet before mid after k history o run was;
+      dooms = each_dooms_exactly laws files size quiet before mid after k history o run was;
       shown = subst (λ (s : Start). AreShown {S = S} {F = F} {H = H} {T = T} count s (log_of after mid.clock history) faults) is shown;
       once = subst (λ (s : Start). AreOnce s (log_of after mid.clock history)) is once;
       tested = subst (λ (s : Start). AreTested s (log_of after mid.clock history)) is tested;
@@ -119,7 +131,7 @@ opened_run {S} {F} {H} {T} laws count files size workers moment lines quiet befo
       calm = calm;
       verified = subst (λ (s : Start). AreWhole s workers (asks_check lines) (log_of after mid.clock history)) is verified;
       takes = takes;
-      asked = (made.rest, ap (λ (l : List Step). l ++ made.rest) (ap asked_steps made.grew.is ∙ made.grew.asked refl) ∙ made.is);
+      asked = (made.rest, asked);
     }
 
 -- ---- verdicts

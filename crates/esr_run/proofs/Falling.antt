@@ -50,18 +50,21 @@ elect_zero f size w who reply image (allowed.Electing im room same) = refl
 elect_zero f size w who reply image (allowed.ElectSpent im spent same) = refl
 elect_zero f size w who reply image (allowed.ElectFails im room same) = refl
 
-module _ (s : Start) (moment : ℕ) (lines : List ScriptLine) (alone : s.alone ≡ true) (log : List Moment) (legal : Legal s log) (made : MadeFirst s (steps_of moment lines) [] log) where
+-- what was asked is a front of what the lines ask for
+abbrev pub IsAskedFront : ℕ → List ScriptLine → List Moment → Type 0
+IsAskedFront moment lines log = (rest : List Step) × (asked_steps log ++ rest ≡ steps_of moment lines)
+
+module _ (s : Start) (moment : ℕ) (lines : List ScriptLine) (log : List Moment) (legal : Legal s log) (asked : IsAskedFront moment lines log) where
   elected_by : (front back : List Moment) (m : Moment) → log ≡ front ++ m ∷ back → m.entry.who ≡ 0 → m.entry.step ≡ ElectStep → ⊥
   elected_by front back m is who elects =
       let there : Has log m = subst (λ (l : List Moment). Has l m) (sym is) (in_middle front back m) in
-      let asked : asked_steps log ≡ made.first = ap asked_steps made.grew.is ∙ made.grew.asked alone in
       let asks : Step = as_asked m.entry.step in
-      let first : Has made.first asks = subst (λ (l : List Step). Has l asks) asked (in_asked log m there (asked_true m.entry who (ap is_line_ask elects))) in
-      let from = of_line moment lines asks (in_wanted made.first made.rest (steps_of moment lines) asks made.is first) in
+      let first : Has (asked_steps log) asks = in_asked log m there (asked_true m.entry who (ap is_line_ask elects)) in
+      let from = of_line moment lines asks (in_wanted (asked_steps log) asked.0 (steps_of moment lines) asks asked.1 first) in
       no_election moment from.line.item (subst (λ (step : Step). Has (steps_of_item moment from.line.item) (as_asked step)) elects from.step_is)
 
   -- in a front of the history whose last world isn't deposed
-  unelected : (front back : List Moment) → log ≡ front ++ back → (world_of s front).deposed ≡ false → AreUnelected front
+  pub unelected : (front back : List Moment) → log ≡ front ++ back → (world_of s front).deposed ≡ false → AreUnelected front
   unelected front back is alive m h elects = go (split_at front m h)
     where
       split_at : (l : List Moment) (x : Moment) → Has l x → (a : List Moment) × (b : List Moment) × (l ≡ a ++ x ∷ b)
@@ -92,6 +95,9 @@ none_elects : (own now : ℕ) → MayRefuse ElectStep (StaleTerm own now) → �
 none_elects own now may = elim may [ ]
 
 module _ (laws : Refusals) (s : Start) (moment : ℕ) (lines : List ScriptLine) (alone : s.alone ≡ true) (numbered : HasNoTickets s) (alive : s.world.deposed ≡ false) (log : List Moment) (legal : Legal s log) (made : MadeFirst s (steps_of moment lines) [] log) where
+  asked : IsAskedFront moment lines log
+  asked = (made.rest, ap (λ (l : List Step). l ++ made.rest) (ap asked_steps made.grew.is ∙ made.grew.asked alone) ∙ made.is)
+
   fell_before : (front back : List Moment) (m : Moment) (place : ℕ) → log ≡ front ++ m ∷ back → m.entry.reply ≡ Refused (DeposedAt place) → SwapFailed log
   fell_before front back m place is says =
       let here : Allowed (formats_of s) s.part_size (world_of s front) m = (legal_rest (formats_of s) s.part_size front (m ∷ back) s.world (subst (Legal s) is legal)).0 in
@@ -106,7 +112,7 @@ module _ (laws : Refusals) (s : Start) (moment : ℕ) (lines : List ScriptLine) 
       let mine : Legal s (front ++ m ∷ []) = legal_front (formats_of s) s.part_size (front ++ m ∷ []) back s.world (subst (Legal s) (is ∙ sym (append_assoc front (m ∷ []) back)) legal) in
       let here : Allowed (formats_of s) s.part_size (world_of s front) m = (legal_rest (formats_of s) s.part_size front (m ∷ []) s.world mine).0 in
       elim here.answered [
-        | inl a ↦ laws.stale s (front ++ m ∷ []) numbered mine (unelected_with front m (unelected s moment lines alone log legal made front (m ∷ back) is a.0) (λ elects. elects_stale front m own now here elects says)) m own now (in_middle front [] m) says
+        | inl a ↦ laws.stale s (front ++ m ∷ []) numbered mine (unelected_with front m (unelected s moment lines log legal asked front (m ∷ back) is a.0) (λ elects. elects_stale front m own now here elects says)) m own now (in_middle front [] m) says
         | inr dead ↦ not_deposed dead.place own now (sym dead.refused ∙ says)
       ]
     where

@@ -8,7 +8,8 @@ use Rattle.esr_core.specs.World.{World, record_of, Opened, OpenedEmpty, OpenedRe
 use Rattle.esr_core.specs.World as core
 use Rattle.esr_core.specs.Entry.{Entry, Moment}
 use Rattle.esr_core.specs.After.{after as world_after}
-use Rattle.esr_core.specs.History.{IsLegal, TellsHandedOut, AreTold, AreHonest, committed}
+use Rattle.esr_core.specs.History.{world_from, IsLegal, TellsHandedOut, AreTold, committed}
+use Rattle.esr_law.specs.Digests.{HonestUploads}
 use Rattle.esr_core.specs.Left.{Leaves, safe_of, safe_by, safe_in}
 use Rattle.esr_depot.specs.Image.{Image as Held}
 use Rattle.esr_depot.specs.Look.{Look, now}
@@ -25,6 +26,7 @@ use Rattle.esr_repo.specs.Grown.{world_step}
 use Rattle.esr_repo.specs.Past.{IsPast}
 use Rattle.esr_run.specs.Start.{Telling, known_by, told_by, formats_by, start_of, LegalRun}
 use Rattle.esr_run.specs.Images.{Holds, TellsWork, StaysKept, EveryImageKept, AnsweredStay}
+use Rattle.esr_run.specs.Told.{EndKept}
 use Rattle.esr_run.specs.Laws.{Laws}
 use Rattle.esr_run.proofs.Worlds.{opened_image}
 
@@ -43,7 +45,7 @@ as_before_kept : (f : Formats) (before after : Look) → IsAsBefore before after
 as_before_kept f before after same shelf h i left = kept_again f before shelf h i (same.left.each i left)
 
 -- the record of the opened world can be written
-back_of : (files : Telling) (w : World) → ReadsBack cluster_kind (record_of w) → ReadsBack (formats_by files).cluster (record_of w)
+pub back_of : (files : Telling) (w : World) → ReadsBack cluster_kind (record_of w) → ReadsBack (formats_by files).cluster (record_of w)
 unfolding formats
 back_of files w back = back
 
@@ -88,14 +90,14 @@ leaves_here f part_size w [] i e = e
 leaves_here f part_size w (m ∷ log) i e = inl e
 
 -- what holds of a history that began in the opened world of a kept image
-record Ran (f : Formats) (part_size : ℕ) (image : Image) (shelf : List Shelved) (w : World) (log : List Moment) : Type 0 where
-  known : TellsHandedOut f w log
-  kept : IsKept f image shelf
-  opened : Opened f image w
-  back : ReadsBack f.cluster (record_of w)
-  legal : IsLegal f part_size w log
-  told : AreTold log
-  honest : AreHonest f w log
+pub record Ran (f : Formats) (part_size : ℕ) (image : Image) (shelf : List Shelved) (w : World) (log : List Moment) : Type 0 where
+  pub known : TellsHandedOut f w log
+  pub kept : IsKept f image shelf
+  pub opened : Opened f image w
+  pub back : ReadsBack f.cluster (record_of w)
+  pub legal : IsLegal f part_size w log
+  pub told : AreTold log
+  pub honest : HonestUploads f w log
 
 left_kept : (laws : Laws) (f : Formats) (part_size : ℕ) (image : Image) (shelf : List Shelved) (w : World) (log : List Moment) → Ran f part_size image shelf w log → (i : Image) → Leaves f part_size w log i
     → IsKept f i (shelf_after shelf (committed f (safe_in f i) w log))
@@ -113,13 +115,13 @@ entry_kept laws f part_size image shelf w log r =
     subst (IsKept f image) (same ∙ ap (λ (n : ℕ). shelf_after shelf (committed f n w log)) safe) r.kept
 
 -- the world that was opened, and what was told at the start
-abbrev world_at : (before mid : Look) (k : Kept) → IsOpening before mid k → World
+abbrev pub world_at : (before mid : Look) (k : Kept) → IsOpening before mid k → World
 world_at before mid k o = world_in (now before) o.cluster o.root
 
-abbrev start_at : (files : Telling) (size : ℕ) (quiet : Bool) (before mid : Look) (k : Kept) → IsOpening before mid k → Start
+abbrev pub start_at : (files : Telling) (size : ℕ) (quiet : Bool) (before mid : Look) (k : Kept) → IsOpening before mid k → Start
 start_at files size quiet before mid k o = start_of files size quiet before (world_at before mid k o)
 
-ran : (files : Telling) (size : ℕ) (quiet : Bool) (before mid after : Look) (k : Kept) (history : List Entry) (o : IsOpening before mid k)
+pub ran : (files : Telling) (size : ℕ) (quiet : Bool) (before mid after : Look) (k : Kept) (history : List Entry) (o : IsOpening before mid k)
     → LegalRun (start_at files size quiet before mid k o) mid.clock after history → IsPast (start_at files size quiet before mid k o) mid.clock mid.since after history
     → (shelf : List Shelved) (h : Holds (formats_by files) before shelf) → TellsWork (formats_by files) (world_at before mid k o) (log_of after mid.clock history)
     → Ran (formats_by files) size (image_of h.image) shelf (world_at before mid k o) (log_of after mid.clock history)
@@ -158,6 +160,21 @@ every_image_kept laws files size quiet before mid after k history o run past she
 
     r : Ran f size (image_of h.image) shelf w log
     r = ran files size quiet before mid after k history o run past shelf h t
+
+-- ---- the image at the end
+
+pub leaves_last : (f : Formats) (part_size : ℕ) (w : World) (log : List Moment) → Leaves f part_size w log (core.image_of f (world_from f w log))
+leaves_last f part_size w [] = refl
+leaves_last f part_size w (m ∷ log) = inr (inr (leaves_last f part_size (world_after f w m) log))
+
+pub end_kept : (laws : Laws) (files : Telling) (size : ℕ) (quiet : Bool) (before mid after : Look) (k : Kept) (history : List Entry) (o : IsOpening before mid k)
+    → LegalRun (start_at files size quiet before mid k o) mid.clock after history → IsPast (start_at files size quiet before mid k o) mid.clock mid.since after history
+    → EndKept (formats_by files) (world_at before mid k o) (log_of after mid.clock history) before after
+end_kept laws files size quiet before mid after k history o run past shelf h t i now_is =
+    let f : Formats = formats_by files in
+    let w : World = world_at before mid k o in
+    let log : List Moment = log_of after mid.clock history in
+    left_kept laws f size (image_of h.image) shelf w log (ran files size quiet before mid after k history o run past shelf h t) (image_of i) (subst (Leaves f size w log) (sym (run.image i now_is)) (leaves_last f size w log))
 
 -- ---- settles that were answered
 

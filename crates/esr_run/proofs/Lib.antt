@@ -8,10 +8,13 @@ pub mod Scripts
 pub mod Numbering
 pub mod Worlds
 pub mod Keeping
+pub mod Dooms
+pub mod Told
 pub mod Ending
 pub mod Restoring
 pub mod Counting
 pub mod Completing
+pub mod Sourceless
 pub mod Smoothly
 pub mod Waiting
 pub mod Taking

@@ -5,7 +5,6 @@ use Rattle.esr_model.specs.Values.{Bytes}
 use Rattle.esr_core.specs.World.{World}
 use Rattle.esr_core.specs.Entry.{Entry}
 use Rattle.esr_depot.specs.Look.{Look, now}
-use Rattle.esr_depot.specs.Calls.{HasCause}
 use Rattle.esr_script.specs.Jobs.{job_of}
 use Rattle.esr_script.specs.Script.{script_of}
 use Rattle.esr_script.specs.declared.item.ScriptLine.{ScriptLine}
@@ -24,7 +23,7 @@ use Rattle.esr_repo.specs.Past.{IsPast}
 use Rattle.esr_repo.specs.Calm.{IsCalm}
 use Rattle.esr_repo.specs.Deposed.{AreDeposedSo}
 use Rattle.esr_complete.specs.Lines.{steps_of}
-use Rattle.esr_run.specs.Asked.{Wanted, ReadScript, OneCommand, NoCommand, NoRun, wanted_of, part_size_of, workers_of}
+use Rattle.esr_run.specs.Asked.{Wanted, ReadScript, OneCommand, NoCommand, NoRun, AsksScript, wanted_of, part_size_of, workers_of}
 use Rattle.esr_run.specs.Script.{AreBytes, first_bad, bad_line}
 use Rattle.esr_run.specs.Ends.{RunEnd, BadWords, Unreadable, BadScript, BadLine, OpenFault, Damaged, NoTerm, Carried}
 use Rattle.esr_run.specs.Start.{Telling, is_calm_by, start_of, LegalRun}
@@ -35,7 +34,7 @@ use Rattle.esr_run.specs.Verified.{AreClosed, AreWhole}
 use Rattle.esr_run.specs.Waits.{TakesFew}
 use Rattle.esr_run.specs.Made.{MadeFirst, HasFallen, AreDone}
 use Rattle.esr_run.specs.Stops.{StoppedBy}
-use Rattle.esr_run.specs.Causes.{Given, AreWanted, IsScriptFor, IsScript, IsStoppedFor, OpensWell, IsComplete, IsTold, IsPrinted, end_of_refusal}
+use Rattle.esr_run.specs.Causes.{Given, AreWanted, IsScriptFor, IsScript, IsStoppedFor, OpensWell, IsReadWell, IsComplete, IsTold, IsPrinted, end_of_refusal}
 use Rattle.esr_run.proofs.Worlds.{start_is}
 use Rattle.esr_run.proofs.Ending.{Begun, opened_run}
 use Rattle.esr_run.proofs.Completing.{completes}
@@ -133,19 +132,20 @@ bytes_one bytes (Some b) a told are = let same : b ≡ bytes = cc in are ∙ sam
 ok_one : {E : Type 0} (a b : List ScriptLine) (r : Result (List ScriptLine) E) → r ≡ Ok a → r ≡ Ok b → a ≡ b
 ok_one {E} a b r first second = let same : ◌≡◌ {A = Result (List ScriptLine) E} (Ok a) (Ok b) = sym first ∙ second in cc
 
-same_wanted : (wanted : Wanted) (script : Option Bytes) (bytes : Bytes) (a b : List ScriptLine) → script ≡ Some bytes → AreWanted wanted script a → AreWanted wanted script b → a ≡ b
-same_wanted (ReadScript size) script bytes a b told first second =
-    ok_one a b (script_of bytes)
-    (subst (λ (x : Bytes). script_of x ≡ Ok a) (bytes_one bytes script first.bytes told first.bytes_are) first.read)
-    (subst (λ (x : Bytes). script_of x ≡ Ok b) (bytes_one bytes script second.bytes told second.bytes_are) second.read)
-same_wanted (OneCommand size item) script bytes a b told first second = first ∙ sym second
-same_wanted NoCommand script bytes a b told first second = absurd first
-same_wanted NoRun script bytes a b told first second = absurd first
+same_wanted : (wanted : Wanted) (script : Option Bytes) (old new : ℕ) (a b : List ScriptLine) → (AsksScript wanted → IsReadWell script old new) → AreWanted wanted script a → AreWanted wanted script b → a ≡ b
+same_wanted (ReadScript size) script old new a b reads first second =
+    let r = reads tt in
+    ok_one a b (script_of r.bytes)
+    (subst (λ (x : Bytes). script_of x ≡ Ok a) (bytes_one r.bytes script first.bytes r.told first.bytes_are) first.read)
+    (subst (λ (x : Bytes). script_of x ≡ Ok b) (bytes_one r.bytes script second.bytes r.told second.bytes_are) second.read)
+same_wanted (OneCommand size item) script old new a b reads first second = first ∙ sym second
+same_wanted NoCommand script old new a b reads first second = absurd first
+same_wanted NoRun script old new a b reads first second = absurd first
 
 pub complete_opened : {S F H T : Type 0} (count : Counts S F H T) (given : Given) (files : Telling) (reader size workers : ℕ) (lines : List ScriptLine) (before after : Look) (old_out new_out : ℕ) (history : List Entry) (faults : List (Fault S F H T)) (status : ℕ)
     → part_size_of (wanted_of (job_of given.words)) ≡ Some size → workers_of (job_of given.words) ≡ Some workers → IsScript given lines → OpensWell count files size workers given.moment lines before after history faults status → IsComplete count given files reader before after old_out new_out history faults status
 complete_opened {S} {F} {H} {T} count given files reader size workers lines before after old_out new_out history faults status size_is workers_are script well asked smooth =
-    let same : asked ≡ lines = same_wanted (wanted_of (job_of given.words)) given.script smooth.bytes asked lines smooth.told smooth.script.are script.are in
+    let same : asked ≡ lines = same_wanted (wanted_of (job_of given.words)) given.script given.faults reader asked lines smooth.reads smooth.script.are script.are in
     ⊎_elim
     (λ (wanting : status ≡ 8). inl wanting)
     (λ rest. ⊎_elim
@@ -158,33 +158,35 @@ complete_opened {S} {F} {H} {T} count given files reader size workers lines befo
 no_bad : (lines : List ScriptLine) (number : ℕ) → first_bad lines ≡ None → first_bad lines ≡ Some number → ⊥
 no_bad lines number none some = let same : ◌≡◌ {A = Option ℕ} None (Some number) = sym none ∙ some in cc
 
-not_stopped : (wanted : Wanted) (script : Option Bytes) (bytes : Bytes) (old new : ℕ) (lines : List ScriptLine) (end : RunEnd) → script ≡ Some bytes → IsScriptFor wanted script lines → (HasCause old new true → ⊥) → IsStoppedFor wanted script old new end → ⊥
-not_stopped (ReadScript size) script bytes old new lines BadWords told is read stop = absurd cc
-not_stopped (ReadScript size) script bytes old new lines Unreadable told is read stop = read stop.1
-not_stopped (ReadScript size) script bytes old new lines BadScript told is read stop =
-    let first = subst (λ (x : Bytes). script_of x ≡ Ok lines) (bytes_one bytes script is.are.bytes told is.are.bytes_are) is.are.read in
-    let second = subst (λ (x : Bytes). script_of x ≡ Err _) (bytes_one bytes script stop.1.0 told stop.1.1) stop.1.2 in
+not_stopped : (wanted : Wanted) (script : Option Bytes) (old new : ℕ) (lines : List ScriptLine) (end : RunEnd) → (AsksScript wanted → IsReadWell script old new) → IsScriptFor wanted script lines → IsStoppedFor wanted script old new end → ⊥
+not_stopped (ReadScript size) script old new lines BadWords reads is stop = absurd cc
+not_stopped (ReadScript size) script old new lines Unreadable reads is stop = (reads tt).read stop.1
+not_stopped (ReadScript size) script old new lines BadScript reads is stop =
+    let r = reads tt in
+    let first = subst (λ (x : Bytes). script_of x ≡ Ok lines) (bytes_one r.bytes script is.are.bytes r.told is.are.bytes_are) is.are.read in
+    let second = subst (λ (x : Bytes). script_of x ≡ Err _) (bytes_one r.bytes script stop.1.0 r.told stop.1.1) stop.1.2 in
     let same = sym first ∙ second in cc
-not_stopped (ReadScript size) script bytes old new lines (BadLine number) told is read stop =
-    let first = subst (λ (x : Bytes). script_of x ≡ Ok lines) (bytes_one bytes script is.are.bytes told is.are.bytes_are) is.are.read in
-    let second = subst (λ (x : Bytes). bad_line (script_of x) ≡ Some number) (bytes_one bytes script stop.0 told stop.1) stop.2 in
+not_stopped (ReadScript size) script old new lines (BadLine number) reads is stop =
+    let r = reads tt in
+    let first = subst (λ (x : Bytes). script_of x ≡ Ok lines) (bytes_one r.bytes script is.are.bytes r.told is.are.bytes_are) is.are.read in
+    let second = subst (λ (x : Bytes). bad_line (script_of x) ≡ Some number) (bytes_one r.bytes script stop.0 r.told stop.1) stop.2 in
     no_bad lines number is.good (sym (ap bad_line first) ∙ second)
-not_stopped (OneCommand size item) script bytes old new lines BadWords told is read stop = absurd cc
-not_stopped (OneCommand size item) script bytes old new lines Unreadable told is read stop = stop.0
-not_stopped (OneCommand size item) script bytes old new lines BadScript told is read stop = stop.0
-not_stopped (OneCommand size item) script bytes old new lines (BadLine number) told is read stop = stop
-not_stopped NoCommand script bytes old new lines end told is read stop = is.are
-not_stopped NoRun script bytes old new lines end told is read stop = is.are
-not_stopped wanted script bytes old new lines OpenFault told is read stop = stop
-not_stopped wanted script bytes old new lines (Damaged name) told is read stop = stop
-not_stopped wanted script bytes old new lines NoTerm told is read stop = stop
-not_stopped wanted script bytes old new lines (Carried entries history) told is read stop = stop
+not_stopped (OneCommand size item) script old new lines BadWords reads is stop = absurd cc
+not_stopped (OneCommand size item) script old new lines Unreadable reads is stop = stop.0
+not_stopped (OneCommand size item) script old new lines BadScript reads is stop = stop.0
+not_stopped (OneCommand size item) script old new lines (BadLine number) reads is stop = stop
+not_stopped NoCommand script old new lines end reads is stop = is.are
+not_stopped NoRun script old new lines end reads is stop = is.are
+not_stopped wanted script old new lines OpenFault reads is stop = stop
+not_stopped wanted script old new lines (Damaged name) reads is stop = stop
+not_stopped wanted script old new lines NoTerm reads is stop = stop
+not_stopped wanted script old new lines (Carried entries history) reads is stop = stop
 
 pub complete_stopped : {S F H T : Type 0} (count : Counts S F H T) (given : Given) (files : Telling) (reader : ℕ) (before after : Look) (old_out new_out : ℕ) (history : List Entry) (faults : List (Fault S F H T)) (status : ℕ) (text : Bytes) (end : Option RunEnd)
     → IsTold status text end → StoppedBy (wanted_of (job_of given.words)) given.script given.faults reader end → IsComplete count given files reader before after old_out new_out history faults status
 complete_stopped count given files reader before after old_out new_out history faults status text None told stop lines smooth = inl (wanting_told status text told)
 complete_stopped count given files reader before after old_out new_out history faults status text (Some end) told stop lines smooth =
-    absurd (not_stopped (wanted_of (job_of given.words)) given.script smooth.bytes given.faults reader lines end smooth.told smooth.script smooth.read stop)
+    absurd (not_stopped (wanted_of (job_of given.words)) given.script given.faults reader lines end smooth.reads smooth.script stop)
 
 -- memory was wanting
 pub complete_wanting : {S F H T : Type 0} (count : Counts S F H T) (given : Given) (files : Telling) (reader : ℕ) (before after : Look) (old_out new_out : ℕ) (history : List Entry) (faults : List (Fault S F H T)) (status : ℕ) (text : Bytes)

@@ -1,9 +1,10 @@
 -- Why a run ended as it did.
-use Rattle.std.specs.Prelude.{◌≡◌, ◌⊎◌, ℕ, zero, suc, ◌^◌, ◌≤◌, Bool, true, List, [], ◌++◌, length, Option, Some, None, Ok, Err}
+use Rattle.std.specs.Prelude.{◌≡◌, ◌⊎◌, ℕ, zero, suc, ◌^◌, ◌≤◌, Bool, true, List, [], ◌++◌, length, Option, Some, None, is_some, Ok, Err}
 use Rattle.std.specs.Io.KnownBytes.{Appends, Consumes}
 use Rattle.esr_model.specs.Values.{Bytes}
 use Rattle.esr_core.specs.World.{World, Opened}
 use Rattle.esr_core.specs.Entry.{Step, Entry}
+use Rattle.esr_core.specs.History.{AreTold}
 use Rattle.esr_depot.specs.Image.{Image as Held}
 use Rattle.esr_depot.specs.Look.{Look, now}
 use Rattle.esr_depot.specs.Calls.{HasCause, Stays}
@@ -33,6 +34,9 @@ use Rattle.esr_run.specs.Ends.{RunEnd, BadWords, Unreadable, BadScript, BadLine,
 use Rattle.esr_run.specs.Faults.{listed, fetch_of, HasFetch}
 use Rattle.esr_run.specs.Start.{Telling, formats_by, start_of, LegalRun}
 use Rattle.esr_run.specs.Images.{StaysKept, EveryImageKept, AnsweredStay}
+use Rattle.esr_run.specs.Tidy.{StaysTidy, EveryImageTidy, EndTidy, EachDoomsExactly}
+use Rattle.esr_run.specs.Told.{StaysTold, EndKept}
+use Rattle.esr_run.specs.Sourceless.{NeedsNoSource}
 use Rattle.esr_run.specs.Checked.{asks_check}
 use Rattle.esr_run.specs.Verified.{AreWhole}
 use Rattle.esr_run.specs.Waits.{TakesFew}
@@ -120,6 +124,7 @@ IsStopped given faults end = IsStoppedFor (wanted_of (job_of given.words)) given
 pub record IsUntouched {S F H T : Type 0} (files : Telling) (before after : Look) (history : List Entry) (faults : List (Fault S F H T)) : Type 0 where
   pub stays : Stays before after
   pub every_image : StaysKept (formats_by files) before after
+  pub tidy : StaysTidy (formats_by files) before after
   pub empty : history ≡ []
   pub none : faults ≡ []
 
@@ -128,6 +133,7 @@ pub record IsUnopened {S F H T : Type 0} (count : Counts S F H T) (files : Telli
   pub refusal : OpenRefusal F
   pub refused : IsOpenRefused count.fetch before after old_faults new_faults refusal
   pub every_image : StaysKept (formats_by files) before after
+  pub tidy : StaysTidy (formats_by files) before after
   pub empty : history ≡ []
   -- the fetch of the opening whose reading failed, if one did
   pub faults_are : faults ≡ listed (fetch_of refusal)
@@ -148,8 +154,17 @@ pub record IsOpenedRun {S F H T : Type 0} (count : Counts S F H T) (files : Tell
   pub finds : (i : Held) → now before ≡ Some i → found i ≡ Ok (cluster, root)
   pub order : IsInOrder world
   pub legal : LegalRun (start_of files size quiet before world) clock after history
+  -- each moment is told where the entry is
+  pub told : StaysTold before clock history after
   pub every_image : EveryImageKept (formats_by files) world (log_of after clock history) before after
+  pub end_kept : EndKept (formats_by files) world (log_of after clock history) before after
+  -- where no line asks for a snapshot, whatever the sources and the digests are
+  pub sourceless : NeedsNoSource (formats_by files) world lines (log_of after clock history)
   pub answered : AnsweredStay (start_of files size quiet before world) clock history after
+  -- from a tidy image on each image since the entry is tidy, also that at the end, and each delete dooms exactly what it leaves
+  pub tidy : EveryImageTidy (formats_by files) world (log_of after clock history) before after
+  pub end_tidy : EndTidy (formats_by files) world (log_of after clock history) before after
+  pub dooms : EachDoomsExactly (formats_by files) world (log_of after clock history) before
   -- each failure of a unit that the history tells has its cause, and the objects that failed are listed
   pub shown : AreShown count (start_of files size quiet before world) (log_of after clock history) faults
   -- no blob is committed twice, but for the metadata of a finalization
@@ -304,14 +319,18 @@ OpensWell count files size workers moment lines before after history faults stat
     IsQuietFor files before lines
     → (status ≡ 8) ⊎ (IsLastTerm before ⊎ ((r : IsOpenedRun count files size workers moment lines before after history faults) × Completes files size moment lines before r.world r.clock after history status))
 
--- The words ask for these lines, each of which can be carried out, over quiet objects; and no call of the script or of the
--- output failed.
+-- the script is told, and no read of it failed
+pub record IsReadWell (script : Option Bytes) (old new : ℕ) : Type 0 where
+  pub bytes : Bytes
+  pub told : script ≡ Some bytes
+  pub read : HasCause old new true → ⊥
+
+-- The words ask for these lines, each of which can be carried out, over quiet objects; where they ask for a script, it is told and
+-- no read of it failed; and no call of the output failed.
 pub record IsSmoothFor (given : Given) (files : Telling) (before : Look) (reader old_out new_out : ℕ) (lines : List ScriptLine) : Type 0 where
   pub script : IsScript given lines
-  pub bytes : Bytes
-  pub told : given.script ≡ Some bytes
+  pub reads : AsksScript (wanted_of (job_of given.words)) → IsReadWell given.script given.faults reader
   pub quiet : IsQuietFor files before lines
-  pub read : HasCause given.faults reader true → ⊥
   pub printed : HasCause old_out new_out true → ⊥
 
 -- Completeness of a whole run: then memory was wanting, with status 8, or the last term had come, or each line was answered well,

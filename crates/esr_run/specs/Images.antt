@@ -7,6 +7,7 @@ use Rattle.esr_model.specs.Kept.{Kept}
 use Rattle.esr_core.specs.World.{World, Ticket}
 use Rattle.esr_core.specs.Entry.{Entry, SettlePruned, SettleStep, PruneStep, WasSettled, Moment}
 use Rattle.esr_core.specs.History.{AllKnown, TellsHandedOut, AreHonest, committed}
+use Rattle.esr_law.specs.Digests.{HonestUploads}
 use Rattle.esr_core.specs.Left.{safe_in}
 use Rattle.esr_depot.specs.Image.{Image as Held}
 use Rattle.esr_depot.specs.Look.{Look, now}
@@ -25,9 +26,15 @@ pub record TellsAll (f : Formats) (world : World) (log : List Moment) : Type 0 w
   pub known : AllKnown f
   pub honest : AreHonest f world log
 
--- the sources tell each shard that the run handed out, and what they tell and what stands in the container have equal bytes
--- where they have equal length and digest
+-- the sources tell each shard that the run handed out, and while one is out what they tell and what stands in the container have
+-- equal bytes where they have equal length and digest
 pub record TellsWork (f : Formats) (world : World) (log : List Moment) : Type 0 where
+  pub known : TellsHandedOut f world log
+  pub honest : HonestUploads f world log
+
+-- the sources tell each shard that the run handed out, and at each moment what they tell and what stands in the container have equal
+-- bytes where they have equal length and digest
+pub record HonestWork (f : Formats) (world : World) (log : List Moment) : Type 0 where
   pub known : TellsHandedOut f world log
   pub honest : AreHonest f world log
 

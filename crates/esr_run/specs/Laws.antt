@@ -8,7 +8,8 @@ use Rattle.esr_model.specs.Shelf.{Shelved, shelf_after}
 use Rattle.esr_core.specs.World.{World, Ticket, image_of, record_of, opened, Opened}
 use Rattle.esr_core.specs.Entry.{Asked, Read, AskStep, TakeStep, LookStep, ReadStep, Refusal, StaleTerm, Refused, Given, Gave, Moment, SettleStep, SettlePruned, PruneStep, WasSettled}
 use Rattle.esr_core.specs.After.{after}
-use Rattle.esr_core.specs.History.{world_from, IsLegal, TellsHandedOut, AreTold, AreHonest, committed}
+use Rattle.esr_core.specs.History.{world_from, IsLegal, TellsHandedOut, AreTold, committed}
+use Rattle.esr_law.specs.Digests.{HonestUploads, AskNoSnapshot, AreClones}
 use Rattle.esr_core.specs.Ids.{Law}
 use Rattle.esr_core.specs.Allowed.{Allowed}
 use Rattle.esr_core.specs.Tracked.{Tracked}
@@ -31,6 +32,7 @@ use Rattle.esr_quiet.specs.Refusals.{AreByRule}
 use Rattle.esr_complete.specs.Lines.{steps_of, AreKnown, entries_of}
 use Rattle.esr_complete.specs.InTurn.{IsInTurn, AreChecksInTurn}
 use Rattle.esr_complete.specs.Answers.{IsIdle, AreAnswered, EndsWell}
+use Rattle.esr_run.specs.Tidy.{TidyLaws}
 
 pub record Laws : Type 0 where
   pub read_tracked : (blobs : Blobs) (cluster : ClusterRecord) (root : RootData) → ReadTracked (opened blobs cluster root)
@@ -38,9 +40,13 @@ pub record Laws : Type 0 where
   pub kept : (f : Formats) (w : World) (shelf : List Shelved) → Law f w shelf → ReadsBack f.cluster (record_of w) → Kept f (image_of f w) shelf
   pub one_shelf : (f : Formats) (image : Image) (a b : List Shelved) → Kept f image a → Kept f image b → a ≡ b
   pub left : (f : Formats) (part_size : ℕ) (image : Image) (shelf : List Shelved) (w : World) (log : List Moment) (i : Image) → TellsHandedOut f w log → Kept f image shelf → Opened f image w → ReadsBack f.cluster (record_of w) → IsLegal f part_size w log
-      → AreTold log → AreHonest f w log → Leaves f part_size w log i → Kept f i (shelf_after shelf (committed f (safe_in f i) w log))
+      → AreTold log → HonestUploads f w log → Leaves f part_size w log i → Kept f i (shelf_after shelf (committed f (safe_in f i) w log))
   pub stays : (f : Formats) (part_size : ℕ) (w : World) (before rest : List Moment) (m : Moment) (t : Ticket) (n : ℕ) (i : Image) → Tracked w → Ranked w → IsLegal f part_size w (before ++ m ∷ rest) → (m.entry.step ≡ SettleStep) ⊎ (m.entry.step ≡ PruneStep SettlePruned)
       → m.entry.reply ≡ WasSettled → fin.get (world_from f w before).tickets m.entry.who ≡ Some t → t.raised ≡ Some n → Leaves f part_size (after f (world_from f w before) m) rest i → suc n ≤ safe_in f i
+  pub tidy : TidyLaws
+  -- what is asked of sources and digests, where no snapshot is asked
+  pub told : (f : Formats) (part_size : ℕ) (w : World) (log : List Moment) → Tracked w → AreClones w.ops → IsLegal f part_size w log → AskNoSnapshot log → TellsHandedOut f w log
+  pub honest : (f : Formats) (part_size : ℕ) (w : World) (log : List Moment) → Tracked w → AreClones w.ops → IsLegal f part_size w log → AskNoSnapshot log → HonestUploads f w log
 
 -- what steps leave of tickets
 pub record StepsStay : Type 0 where

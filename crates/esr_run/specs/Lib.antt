@@ -5,6 +5,9 @@ pub mod Faults
 pub mod Counts
 pub mod Start
 pub mod Images
+pub mod Tidy
+pub mod Told
+pub mod Sourceless
 pub mod Made
 pub mod Filled
 pub mod Complete

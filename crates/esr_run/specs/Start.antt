@@ -1,5 +1,5 @@
 -- The history of a run, from what was told at its start to what the container has at its end.
-use Rattle.std.specs.Prelude.{◌≡◌, ℕ, Bool, true, false, ◌&&◌, ◌||◌, not, nat_lt, ◌^◌, List, [], Option, Some, is_some, unwrap_or}
+use Rattle.std.specs.Prelude.{◌≡◌, ℕ, Bool, true, false, ◌&&◌, ◌||◌, not, nat_lt, ◌^◌, List, Option, Some, None, is_some, unwrap_or, if◌then◌else◌}
 use Rattle.esr_model.specs.Values.{Bytes, Formats}
 use Rattle.esr_core.specs.World.{World}
 use Rattle.esr_core.specs.World as core
@@ -24,12 +24,12 @@ abbrev pub is_absent : Option Bool → Bool
 is_absent (Some false) = true
 is_absent there = false
 
--- whether they tell the files, or that their place isn't there; and which they are
+-- whether they tell the files, or that their place isn't there; and which they are: none of a place that isn't there
 abbrev pub known_by : Telling → Bytes → Bytes → ℕ → Bool
 known_by telling = λ place name number. is_some (telling.files place name number) || is_absent (telling.is_there place name number)
 
-abbrev pub told_by : Telling → Bytes → Bytes → ℕ → List (Bytes × Bytes)
-told_by telling = λ place name number. unwrap_or (telling.files place name number) []
+abbrev pub told_by : Telling → Bytes → Bytes → ℕ → Option (List (Bytes × Bytes))
+told_by telling = λ place name number. if is_absent (telling.is_there place name number) then None else telling.files place name number
 
 -- the texts, with these files
 abbrev pub formats_by : Telling → Formats
@@ -60,8 +60,9 @@ start_of telling size quiet l world =
     }
 
 -- The history is legal from the start on, with the images of the container's moments, which are counted from a clock on; and
--- the image that the container has at the end is that of the world to which it leads.
+-- the image that the container has at the end is that of the world to which it leads, and is told where it was told at the start.
 pub record LegalRun (s : Start) (clock : ℕ) (l : Look) (entries : List Entry) : Type 0 where
   pub clock_is : l.clock ≡ ticks clock entries
   pub legal : Legal s (log_of l clock entries)
   pub image : (i : Held) → now l ≡ Some i → image_of i ≡ core.image_of (formats_of s) (world_of s (log_of l clock entries))
+  pub tells : s.tells ≡ true → is_some (now l) ≡ true

@@ -14,7 +14,7 @@ use esr_source::Lines;
 use std::alloc::{AllocError, Global};
 
 /// What a run is asked for: its lines, the greatest size of a part in bytes, and how many workers there are.
-#[derive(Debug, Drop)]
+#[derive(Drop)]
 pub(crate) struct Asked {
     pub workers: u32,
     pub part_size: u64,

@@ -3,8 +3,18 @@ ghost use Rattle.std.specs.Prelude.{◌≡◌, Some};
 ghost use Rattle.esr_depot.specs.Image.{Image};
 ghost use Rattle.esr_depot.specs.Look.{now};
 ghost use Rattle.esr_run.specs.Laws.{Laws, StepsStay, WorkLeaves, Refusals, QuietLaws};
+ghost use Rattle.esr_run.specs.Tidy.{TidyLaws};
 
 use esr_depot::Depot;
+
+/// The laws of the core on tidy images, and on what deletes doom.
+fn tidy_laws()
+    ensures { TidyLaws }
+{
+    esr_core::opened_worlds_are_tidy();
+    esr_core::each_left_image_is_tidy();
+    esr_core::each_delete_dooms_exactly_what_it_leaves();
+}
 
 /// The laws of the core.
 pub(crate) fn laws()
@@ -14,8 +24,10 @@ pub(crate) fn laws()
     esr_core::opening_is_lawful();
     esr_core::lawful_image_is_kept();
     esr_core::shelf_is_determined();
-    esr_core::each_left_image_is_kept();
+    esr_law::each_image_is_kept_by_honest_uploads();
+    esr_law::no_snapshot_asks_nothing_of_sources();
     esr_core::answered_settles_stay();
+    tidy_laws();
 }
 
 /// What steps leave of tickets.

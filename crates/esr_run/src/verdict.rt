@@ -18,7 +18,7 @@ use esr_source::Out;
 use std::alloc::{AllocError, Global};
 
 /// An exit status, and what is printed before.
-#[derive(Debug, Drop)]
+#[derive(Drop)]
 pub(crate) struct Verdict {
     pub status: u8,
     pub text: Bytes,

@@ -15,8 +15,7 @@ static VERBS: [&str; 10] = [
 ];
 
 fn bare<'a>(alloc: Global) -> Command<'a>
-    ensures app { app_of result ≡ bare }
-    ensures globals { (fields_of result).has_globals ≡ false }
+    ensures { app_of result ≡ bare }
 {
     Command::new(alloc, "esrepo")
         .no_binary_name(true)
@@ -28,9 +27,7 @@ fn with_option<'a>(
     command: Command<'a>,
     name: &'a str,
 ) -> Result<Command<'a>, AllocError>
-    requires { (fields_of command).has_globals ≡ false }
-    ensures app { IfOk result (λ c. app_of c ≡ with_option (app_of command.entry) name.entry.now) }
-    ensures globals { IfOk result (λ c. (fields_of c).has_globals ≡ false) }
+    ensures { IfOk result (λ c. app_of c ≡ with_option (app_of command.entry) name.entry.now) }
 {
     command.arg(Arg::new(alloc, name).long(name))
 }
@@ -47,9 +44,7 @@ fn with_verb<'a>(
     command: Command<'a>,
     verb: &'a str,
 ) -> Result<Command<'a>, AllocError>
-    requires { (fields_of command).has_globals ≡ false }
-    ensures app { IfOk result (λ c. app_of c ≡ with_verb (app_of command.entry) verb.entry.now) }
-    ensures globals { IfOk result (λ c. (fields_of c).has_globals ≡ false) }
+    ensures { IfOk result (λ c. app_of c ≡ with_verb (app_of command.entry) verb.entry.now) }
 {
     let sub = verb_command(alloc, verb)?;
     command.subcommand(sub)
@@ -60,9 +55,7 @@ fn with_options<'a>(
     command: Command<'a>,
     names: &[&'a str],
 ) -> Result<Command<'a>, AllocError>
-    requires { (fields_of command).has_globals ≡ false }
-    ensures app { IfOk result (λ c. app_of c ≡ fold with_option (app_of command.entry) (map (λ n. n.now) names.now)) }
-    ensures globals { IfOk result (λ c. (fields_of c).has_globals ≡ false) }
+    ensures { IfOk result (λ c. app_of c ≡ fold with_option (app_of command.entry) (map (λ n. n.now) names.now)) }
 {
     let mut command = command;
     for name in names {
@@ -76,9 +69,7 @@ fn with_verbs<'a>(
     command: Command<'a>,
     verbs: &[&'a str],
 ) -> Result<Command<'a>, AllocError>
-    requires { (fields_of command).has_globals ≡ false }
-    ensures app { IfOk result (λ c. app_of c ≡ fold with_verb (app_of command.entry) (map (λ v. v.now) verbs.now)) }
-    ensures globals { IfOk result (λ c. (fields_of c).has_globals ≡ false) }
+    ensures { IfOk result (λ c. app_of c ≡ fold with_verb (app_of command.entry) (map (λ v. v.now) verbs.now)) }
 {
     let mut command = command;
     for verb in verbs {

@@ -122,9 +122,11 @@ impl<D: Depot, K: Told, H: Shard, T: Target> DeleteDesk for Solo<D, K, H, T> {
     {
         self.repo.is_legal();
         if self.left == 0 {
+            drop(by);
             return Err(StepRefusal::TurnsSpent);
         }
         if self.faults.reserve(1).is_err() {
+            drop(by);
             return Err(StepRefusal::Memory);
         }
         let place = TURNS - self.left;

@@ -1,17 +1,17 @@
 //! The file system for tests, of whose calls one fails.
 use std::alloc::Allocator;
-use std::cell::Cell;
 use std::fmt::Display;
 use std::fs::{File, Metadata, OpenOptions};
 use std::io::{self, ErrorKind};
 use std::rt::Files;
+use std::sync::atomic::{AtomicU64, Ordering};
 
 /// The file system, whose call after the next `left` ones fails, and no other. Where it is full, the files of stages
 /// take no byte.
 #[derive(Drop)]
 pub(crate) struct Failing<'a> {
     rt: &'a HostRuntime,
-    left: Cell<u64>,
+    left: AtomicU64,
     is_full: bool,
 }
 
@@ -19,15 +19,13 @@ impl<'a> Failing<'a> {
     pub fn new(rt: &'a HostRuntime, left: u64, is_full: bool) -> Failing<'a> {
         Failing {
             rt,
-            left: Cell::new(left),
+            left: AtomicU64::new(left),
             is_full,
         }
     }
 
     fn turn(&self) -> io::Result<()> {
-        let left = self.left.get();
-        self.left.set(left.wrapping_sub(1));
-        if left == 0 {
+        if self.left.fetch_sub(1, Ordering::SeqCst) == 0 {
             return Err(ErrorKind::StorageFull.into());
         }
         Ok(())

@@ -1,10 +1,11 @@
 //! Sources and targets in folders, as a subject.
 use crate::address::{file_of, words_of};
+use crate::failing::Failing;
 use crate::outside::{say_change, write_file};
 use crate::shards::say_open_shard;
 use crate::targets::say_target;
 use esr_dirsource::{DirSources, DirTargets};
-use esr_scenes::{Scene, Subject, Tally, cut, say};
+use esr_scenes::{Scene, Subject, Tally, cut, say, say_number};
 use esr_source::{Sources, Targets};
 use std::alloc::{AllocError, Global};
 use std::{fs, io};
@@ -13,7 +14,8 @@ use std::{fs, io};
 pub(crate) const FOLDER: &str = "files";
 
 /// Sources and targets in that folder, and the shard that was opened last. The calls are those of sources and targets in
-/// memory, but for failures, and `outside: ..`, which changes the folder.
+/// memory, but for failures; `outside: ..`, which changes the folder; and `each-failure PLACE INDEX NUMBER NAME`, which makes
+/// a file in an empty folder, and so anew for each call of the file system, of which that one fails.
 #[derive(Drop)]
 struct FolderFiles<'a, S: Sources, T> {
     rt: &'a HostRuntime,
@@ -57,6 +59,35 @@ pub(crate) fn say_new_target<T: Targets>(
     Ok(())
 }
 
+/// Makes a file in the folder, which is made anew, where that call of the file system fails.
+fn fill_at(rt: &HostRuntime, call: &str, nth: u64, line: &mut String) -> io::Result<()> {
+    clear(rt)?;
+    let files = Failing::new(rt, nth, false);
+    say_new_target(rt.alloc(), &DirTargets::new(&files), "fill", call, line)
+}
+
+/// Says how many calls of the file system there are, and that each one but the first fails one call of the target, which
+/// counts it, and none when it is made again; or at which one this isn't so.
+fn say_each_failure(rt: &HostRuntime, call: &str, line: &mut String) -> io::Result<()> {
+    // The call before these is to make the folder of scenes. Its failure is passed over, since that folder is there.
+    for nth in 1..1000 {
+        let mut answer = String::new(rt.alloc());
+        fill_at(rt, call, nth, &mut answer)?;
+        let answer = answer.as_str();
+        // The calls end before that one.
+        if nth > 11 && answer.ends_with("ok faults 0") {
+            say(line, "one and then none, at each of more than 10");
+            return Ok(());
+        }
+        if !answer.ends_with("ok faults 1") {
+            say_number(line, nth);
+            say(line, " fails otherwise");
+            return Ok(());
+        }
+    }
+    Ok(())
+}
+
 impl<'a, S: Sources, T: Targets> FolderFiles<'a, S, T> {
     fn new(rt: &'a HostRuntime, sources: S, targets: T) -> FolderFiles<'a, S, T> {
         FolderFiles {
@@ -83,6 +114,7 @@ impl<'a, S: Sources, T: Targets> FolderFiles<'a, S, T> {
         match verb {
             "source" => write_files(self.rt, rest)?,
             "shard" => self.open(alloc, rest)?,
+            "each-failure" => say_each_failure(self.rt, rest, line)?,
             _ => say_new_target(alloc, &self.targets, verb, rest, line)?,
         }
         Ok(())

@@ -121,11 +121,12 @@ module _ (s : Start) (told : Option (List (Bytes × Bytes))) (listed : Option (L
   new_based : s.tells ≡ true → Based (formats_of s) new at.index.number at.number new.base (shard_index_of base)
   new_based tells = subst (λ (b : Option ℕ). Based (formats_of s) new at.index.number at.number b (shard_index_of base)) (sym new_base) (based_on (formats_of s) old new at.index.number at.number old.base (shard_index_of base) new_read (drawn.based tells))
 
-  told_files : s.known new.place new.name at.number ≡ true → stored.files ≡ s.told new.place new.name at.number
+  told_files : s.known new.place new.name at.number ≡ true → s.told new.place new.name at.number ≡ Some stored.files
   told_files known =
       let known_old = subst (λ (n : Bytes). s.known old.place n at.number ≡ true) new_name (subst (λ (p : Bytes). s.known p new.name at.number ≡ true) new_place known) in
-      let is : stored.files ≡ s.told old.place old.name at.number = tells_some told (s.told old.place old.name at.number) stored.files (drawn.tells known_old) stored.tells in
-      is ∙ ap (λ (n : Bytes). s.told old.place n at.number) (sym new_name) ∙ ap (λ (p : Bytes). s.told p new.name at.number) (sym new_place)
+      let same = drawn.tells known_old in
+      let is : stored.files ≡ same.0 = tells_some told same.0 stored.files same.1 stored.tells in
+      ap (λ (n : Bytes). s.told new.place n at.number) new_name ∙ ap (λ (p : Bytes). s.told p old.name at.number) new_place ∙ same.2 ∙ ap (λ (l : List (Bytes × Bytes)). Some l) (sym is)
 
   made_is : entries_from (formats_of s) size (shard_index_of base) first stored.files ≡ map entry_of es
   made_is = made s at uuid base ps size first es stored.files stored.named drawn.planned.each stored.entries drawn.whole drawn.unlisted

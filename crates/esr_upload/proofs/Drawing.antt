@@ -2,7 +2,7 @@
 use Rattle.std.proofs.Common.{◌≡◌, inl, inr, ℕ, suc, ◌+◌, ◌≤◌, length, Bool, true, false, List, Option, Some, None, option_map, Result, Ok, Err, IfErr, OnOk, refl, sym, ap, ◌∙◌, subst, arith}
 use Rattle.esr_names.specs.declared.ids.Id.{Id}
 use Rattle.esr_names.specs.declared.blob.ShardId.{ShardId}
-use Rattle.esr_model.specs.Values.{Bytes}
+use Rattle.esr_model.specs.Values.{Bytes, or_no_files}
 use Rattle.esr_core.specs.World.{Ticket, Shard, Deleting}
 use Rattle.esr_core.specs.Ready.{IsShard}
 use Rattle.esr_core.specs.Steps.{MostDrawn}
@@ -25,7 +25,7 @@ use Rattle.esr_desk.specs.Start.{Start, formats_of, ticket_of}
 use Rattle.esr_desk.specs.Conditions.{CanDraw, CanFail}
 use Rattle.esr_desk.specs.Taken.{TookWork}
 use Rattle.esr_desk.specs.Grew.{GrewBy}
-use Rattle.esr_desk.specs.Sources.{AreSources}
+use Rattle.esr_desk.specs.Sources.{TellSame, AreSources}
 use Rattle.esr_desk.specs.Shown.{IsOf}
 use Rattle.esr_upload.specs.Surveyed.{TellsAll}
 use Rattle.esr_upload.specs.Stored.{IsAt}
@@ -54,22 +54,25 @@ module _ (s : Start) (told : Option (List (Bytes × Bytes))) (is_there : Option 
   is_at : IsAt read index number
   is_at = read_at s old read index number (shard_index_of base) has.has_base unit.at
 
-  told_is : s.known read.place read.name number ≡ true → told ≡ Some (s.told read.place read.name number)
+  told_is : s.known read.place read.name number ≡ true → TellSame told (s.told read.place read.name number)
   told_is known =
       let known_old = subst (λ (n : Bytes). s.known old.place n number ≡ true) read_name (subst (λ (p : Bytes). s.known p read.name number ≡ true) read_place known) in
       elim (unit.tells known_old) [
-        | inl is ↦ is ∙ ap (λ (n : Bytes). Some (s.told old.place n number)) (sym read_name) ∙ ap (λ (p : Bytes). Some (s.told p read.name number)) (sym read_place)
+        | inl same ↦ (same.0, same.1, ap (λ (n : Bytes). s.told read.place n number) read_name ∙ ap (λ (p : Bytes). s.told p old.name number) read_place ∙ same.2)
         | inr absent ↦ absurd (there absent)
       ]
 
   many : length ps ≡ length planned.files
   many = as_many ps planned.files planned.named
 
-  most_at : (k : ℕ) → k ≡ number → s.known read.place read.name k ≡ true → new_count ps + 1 ≤ suc (length (s.told read.place read.name k))
+  most_at : (k : ℕ) → k ≡ number → s.known read.place read.name k ≡ true → new_count ps + 1 ≤ suc (length (or_no_files (s.told read.place read.name k)))
   most_at k same known =
       let own = subst (λ (n : ℕ). s.known read.place read.name n ≡ true) same known in
-      let files = tells_some told (s.told read.place read.name number) planned.files (told_is own) planned.tells in
-      let len : length planned.files ≡ length (s.told read.place read.name k) = ap (λ (l : List (Bytes × Bytes)). length l) files ∙ ap (λ (n : ℕ). length (s.told read.place read.name n)) (sym same) in
+      let tell = told_is own in
+      let files = tells_some told tell.0 planned.files tell.1 planned.tells in
+      let len : length planned.files ≡ length (or_no_files (s.told read.place read.name k)) =
+      ap (λ (l : List (Bytes × Bytes)). length l) files ∙ ap (λ (o : Option (List (Bytes × Bytes))). length (or_no_files o)) (sym tell.2)
+      ∙ ap (λ (n : ℕ). length (or_no_files (s.told read.place read.name n))) (sym same) in
       let few = count_le ps in
       let all = many in
       omega (arith, few, all, len)
@@ -154,7 +157,7 @@ took_unit s files is_there is_quiet work root op copy t uuid at name place sourc
       base_is = refl;
       source_is = refl;
       tells = λ known. elim (sources.told place name at.number known) [
-        | inl is ↦ inl (told_is ∙ is)
+        | inl same ↦ inl (same.0, told_is ∙ same.1, same.2)
         | inr absent ↦ inr (there_is ∙ absent)
       ];
     })
@@ -167,6 +170,7 @@ took_of work root op copy t uuid at name place is took a made =
     subst (λ (b : Address). IsOf t b) (sym made) (record {
       index = at.index.number;
       work = ap (λ (x : Ticket). x.work) took_it.1;
+      source = ap (λ (x : Ticket). x.source) took_it.1;
       place = ap (λ (x : Ticket). x.place) took_it.1;
       name = ap (λ (x : Ticket). x.name) took_it.1;
     })

@@ -323,6 +323,7 @@ of_on : (old new : Ticket) (address : Address) → Worked old new → IsOf old a
 of_on old new address worked of = record {
   index = of.index;
   work = ap (λ (t : Ticket). t.work) worked.is ∙ of.work;
+  source = ap (λ (t : Ticket). t.source) worked.is ∙ of.source;
   place = ap (λ (t : Ticket). t.place) worked.is ∙ of.place;
   name = ap (λ (t : Ticket). t.name) worked.is ∙ of.name;
 }

@@ -8,6 +8,7 @@ use Rattle.esr_core.specs.Entry.{Moment}
 use Rattle.esr_source.specs.declared.files.ListedFile.{ListedFile}
 use Rattle.esr_shardidx.specs.Indices.{IndexValue}
 use Rattle.esr_reuse.specs.declared.reuse.Planned.{Planned}
+use Rattle.esr_desk.specs.Sources.{TellSame}
 use Rattle.esr_desk.specs.Start.{Start, ticket_of}
 use Rattle.esr_desk.specs.Shown.{IsUntold}
 use Rattle.esr_upload.specs.declared.trouble.Trouble.{Trouble}
@@ -42,7 +43,7 @@ read_once faults s t (troubles.Changed first second) h = absurd h
 read_once faults s t (troubles.Base flaw) h = tt
 
 untold_at : (s : Start) (told : Option (List (Bytes × Bytes))) (old new : Ticket) (index number : ℕ) → Worked old new → old.work ≡ Shard index number
-    → (s.known old.place old.name number ≡ true → told ≡ Some (s.told old.place old.name number)) → told ≡ None → IsUntold s new
+    → (s.known old.place old.name number ≡ true → TellSame told (s.told old.place old.name number)) → told ≡ None → IsUntold s new
 untold_at s told old new index number worked work tells none =
     let place : new.place ≡ old.place = ap (λ (t : Ticket). t.place) worked.is in
     let name : new.name ≡ old.name = ap (λ (t : Ticket). t.name) worked.is in (
@@ -53,7 +54,7 @@ untold_at s told old new index number worked work tells none =
         | inl known ↦
             let of_place : s.known old.place new.name number ≡ true = subst (λ (p : Bytes). s.known p new.name number ≡ true) place known in
             let of_name : s.known old.place old.name number ≡ true = subst (λ (n : Bytes). s.known old.place n number ≡ true) name of_place in
-            absurd (some_none (s.told old.place old.name number) (sym (tells of_name) ∙ none))
+            let same = tells of_name in absurd (some_none same.0 (sym same.1 ∙ none))
         | inr unknown ↦ unknown
       ],
     )

@@ -18,6 +18,7 @@ use Rattle.esr_reuse.specs.declared.reuse.Planned.{Planned}
 use Rattle.esr_reuse.specs.Plans.{file_planned, Reuses}
 use Rattle.esr_desk.specs.declared.refusal.StepRefusal.TheVariants as steps
 use Rattle.esr_desk.specs.Start.{Start, formats_of}
+use Rattle.esr_desk.specs.Sources.{TellSame}
 use Rattle.esr_upload.specs.declared.trouble.Trouble.{Trouble}
 use Rattle.esr_upload.specs.declared.trouble.Trouble.TheVariants as troubles
 use Rattle.esr_upload.specs.Base.{HasBase}
@@ -34,7 +35,7 @@ pub record IsUnit (s : Start) (told : Option (List (Bytes × Bytes))) (is_there 
   pub uuid_is : t.uuid ≡ uuid
   pub base_is : t.base ≡ base
   pub source_is : t.source ≡ None
-  pub tells : s.known t.place t.name number ≡ true → (told ≡ Some (s.told t.place t.name number)) ⊎ (is_there ≡ Some false)
+  pub tells : s.known t.place t.name number ≡ true → TellSame told (s.told t.place t.name number) ⊎ (is_there ≡ Some false)
 
 -- the files were read and planned
 pub record IsPlanned (told : Option (List (Bytes × Bytes))) (listed : Option (List ListedFile)) (base : IndexValue) (ps : List Planned) : Type 0 where
@@ -89,7 +90,7 @@ pub record HasDrawn (s : Start) (told : Option (List (Bytes × Bytes))) (listed 
   pub whole : IsShardIndex base
   pub unlisted : find (has_uuid uuid) base.snapshots ≡ None
   pub planned : IsPlanned told listed base ps
-  pub tells : s.known t.place t.name number ≡ true → told ≡ Some (s.told t.place t.name number)
+  pub tells : s.known t.place t.name number ≡ true → TellSame told (s.told t.place t.name number)
 
 -- the sum of the lengths, at most 2^64 - 1
 abbrev pub sum_planned : List Planned → ℕ

@@ -14,5 +14,5 @@ returns c = λ s log smooth.
           (_, laws.lawful (formats_of s) s.part_size h.image h.shelf s.world front (all_handed_out (formats_of s) s.world front h.known) h.kept h.opened h.legal h.told h.honest);
       free = λ front back is.
           let h = smooth_front s log smooth front back is in
-          histories_free laws (formats_of s) s.part_size h.image h.shelf s.world front h.known h.kept h.opened h.legal h.told h.honest h.calm h.no_clone_asked;
+          histories_free laws (formats_of s) s.part_size h.image h.shelf s.world front h.known h.kept h.opened h.legal h.told h.honest h.calm;
     }

@@ -1,5 +1,6 @@
 use Rattle.std.proofs.Common.{◌≡◌, ◌⊎◌, List, [], sym, subst}
 use Rattle.esr_core.specs.Entry.{Moment}
+use Rattle.esr_depot.specs.Look.{now}
 use Rattle.esr_desk.specs.Once.{AreOnce, NoneTwice}
 use Rattle.esr_deleting.specs.Once.{AreRemovedOnce}
 use Rattle.esr_checking.specs.Tested.{AreTested}
@@ -10,6 +11,7 @@ use Rattle.esr_run.specs.Made.{HasFallen, AreDone}
 use Rattle.esr_run.proofs.Making.{done_or}
 use Rattle.esr_repo.specs.Log.{image_at, log_of}
 use Rattle.esr_run.proofs.Ending.{logged}
+use Rattle.esr_run.proofs.Told.{told_now}
 use Rattle.esr_run.proofs.Completing.{entries_are}
 use Rattle.esr_run.proofs.Restoring.{by_lines}
 use Rattle.esr_run.proofs.whole.run_told.Goals as goal
@@ -45,7 +47,7 @@ returns-clause-restored g c =
 pub returns-clause-legal : goal.returns-clause-legal
 returns-clause-legal g c =
     let is = c.into_parts-depot.ensures.repo.2 in
-    record { clock_is = is.clock_is; legal = is.steady.legal; image = is.steady.image }
+    record { clock_is = is.clock_is; legal = is.steady.legal; image = is.steady.image; tells = told_now (now (g.D.Depot.look c.into_parts-depot.result.0)) g.K.Told.start.tells is.tells.untold }
 
 pub returns-clause-verified : goal.returns-clause-verified
 returns-clause-verified g c = subst (AreWhole g.K.Told.start c.args.asked.now.workers (asks_check c.args.asked.now.script)) (sym c.into_parts-depot.ensures.log) c.carry_on-worked.ensures.whole

@@ -10,29 +10,29 @@ use Rattle.esr_repo.proofs.Failing.{failed_so, same_faults, unfailed_faults, fai
 use Rattle.esr_repo.proofs.Calms.{calm_goes, calm_failed, calm_wanting, sure_now}
 use Rattle.esr_repo.proofs.repo.Repo.call_begin.Goals as goal
 
-pub invariant_of-self-in-Ok : goal.invariant_of-self-in-Ok
-invariant_of-self-in-Ok g c =
+pub invariant_of-self-in-Ok-begin : goal.invariant_of-self-in-Ok-begin
+invariant_of-self-in-Ok-begin g c =
     let k : Kept = record { cluster = c.self.inside.cluster; root = c.self.inside.root; infos = c.self.inside.infos.items; plan = c.self.inside.progress; next = c.self.inside.next.number } in
     let b : Before (g.D.Depot.look c.self.inside.depot) g.K.Told.start g.K.Told.clock c.self.inside.history.items k c.self.inside.deposed c.args.self.now =
     record { laws = c.laws.ensures; repo = c.self.invariant.0.repo; view = c.self.view_is; live = c.requires.live } in
     let e : Entry = record { who = c.args.who; step = step_of c.args.step; reply = WasBegun } in
     let p : Pushed c.self.inside.history.items c.reserve.new.self.items c.push_reserved.new.self.items e = record { reserved = c.reserve.ensures.items; pushed = c.push_reserved.ensures.items } in (
       made_whole b g.K.Told.past c.self.invariant.0.past (g.met.D.Depot.only_now c.begin.new.self)
-          (begin_ok b (g.D.Depot.look c.begin.new.self) c.args.who (step_of c.args.step) (name_of c.args.name) c.requires.may c.write_name.ensures.reads c.in-Ok.stage c.in-Ok.ensures.call c.reserve.new.self.items c.push_reserved.new.self.items p),
-      unfailed_faults c.self.invariant.1 p (g.D.Counted.faults c.begin.new.self) refl c.in-Ok.ensures.cause.later,
-      calm_goes (g.D.Depot.look c.self.inside.depot).sure c.self.invariant.2 p (g.D.Depot.look c.begin.new.self).sure refl c.in-Ok.ensures.sure.spent,
+          (begin_ok b (g.D.Depot.look c.begin.new.self) c.args.who (step_of c.args.step) (name_of c.args.name) c.requires.may c.write_name.ensures.reads c.in-Ok-begin.stage c.in-Ok-begin.ensures.call c.reserve.new.self.items c.push_reserved.new.self.items p),
+      unfailed_faults c.self.invariant.1 p (g.D.Counted.faults c.begin.new.self) refl c.in-Ok-begin.ensures.cause.later,
+      calm_goes (g.D.Depot.look c.self.inside.depot).sure c.self.invariant.2 p (g.D.Depot.look c.begin.new.self).sure refl c.in-Ok-begin.ensures.sure.spent,
     )
 
-pub returns-in-Ok-clause-step : goal.returns-in-Ok-clause-step
-returns-in-Ok-clause-step g c =
+pub returns-in-Ok-begin-clause-step : goal.returns-in-Ok-begin-clause-step
+returns-in-Ok-begin-clause-step g c =
     let k : Kept = record { cluster = c.self.inside.cluster; root = c.self.inside.root; infos = c.self.inside.infos.items; plan = c.self.inside.progress; next = c.self.inside.next.number } in
     let b : Before (g.D.Depot.look c.self.inside.depot) g.K.Told.start g.K.Told.clock c.self.inside.history.items k c.self.inside.deposed c.args.self.now =
     record { laws = c.laws.ensures; repo = c.self.invariant.0.repo; view = c.self.view_is; live = c.requires.live } in
-    (begin_ok b (g.D.Depot.look c.begin.new.self) c.args.who (step_of c.args.step) (name_of c.args.name) c.requires.may c.write_name.ensures.reads c.in-Ok.stage c.in-Ok.ensures.call c.reserve.new.self.items c.push_reserved.new.self.items
+    (begin_ok b (g.D.Depot.look c.begin.new.self) c.args.who (step_of c.args.step) (name_of c.args.name) c.requires.may c.write_name.ensures.reads c.in-Ok-begin.stage c.in-Ok-begin.ensures.call c.reserve.new.self.items c.push_reserved.new.self.items
     (record { reserved = c.reserve.ensures.items; pushed = c.push_reserved.ensures.items })).added
 
-pub returns-in-Ok-clause-sure : goal.returns-in-Ok-clause-sure
-returns-in-Ok-clause-sure g c = λ quiet below. c.in-Ok.ensures.sure_stage (sure_now g.K.Told.start.quiet (g.D.Depot.look c.self.inside.depot) g.K.Told.clock c.self.inside.history.items c.args.self.now c.self.invariant.2 c.self.view_is quiet below)
+pub returns-in-Ok-begin-clause-sure : goal.returns-in-Ok-begin-clause-sure
+returns-in-Ok-begin-clause-sure g c = λ quiet below. c.in-Ok-begin.ensures.sure_stage (sure_now g.K.Told.start.quiet (g.D.Depot.look c.self.inside.depot) g.K.Told.clock c.self.inside.history.items c.args.self.now c.self.invariant.2 c.self.view_is quiet below)
 
 pub invariant_of-self-in-Err-Memory : goal.invariant_of-self-in-Err-Memory
 invariant_of-self-in-Err-Memory g c =

@@ -14,7 +14,7 @@ restore_refusal-requires g c = (g.K.Told.start, c.check.new.self, c.args.name.no
 
 pub refuse-requires-clause-may : goal.refuse-requires-clause-may
 refuse-requires-clause-may g c =
-    subst (λ (step : Step). MayRefuse g.K.Told.start c.check.new.self 0 step (refusal_of c.restore_refusal.result)) (sym c.in_ok-step.ensures)
+    subst (λ (step : Step). MayRefuse g.K.Told.start c.check.new.self 0 step (refusal_of c.restore_refusal.result)) (sym c.in_ok-refused-in-Err.ensures)
     (c.restore_refusal.ensures g.K.Told.start c.check.new.self c.args.name.now c.args.place.now (c.in-Err.ensures (world_of g.K.Told.start c.check.new.self) c.plan.ensures (sym c.safe_root.ensures)))
 
 pub note-requires-clause-may : goal.note-requires-clause-may

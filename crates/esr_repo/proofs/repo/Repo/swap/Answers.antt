@@ -1,7 +1,5 @@
-use Rattle.std.proofs.Common.{rules, ◌≡◌, List, length, refl, sym, ap, ◌∙◌, subst}
-use Rattle.esr_core.specs.Entry.{Entry, Moment, Refused, DepotFault}
-use Rattle.esr_repo.specs.Log.{log_of}
-use Rattle.esr_repo.specs.Next.{Added}
+use Rattle.std.proofs.Common.{List, length, refl, ap, ◌∙◌}
+use Rattle.esr_core.specs.Entry.{Entry, Refused, DepotFault}
 use Rattle.esr_repo.specs.May.{infos_after}
 use Rattle.esr_depot.specs.Changes.{Swapped, SwapMay}
 use Rattle.esr_formats.specs.Clusters.{cluster_of, cluster_kind}
@@ -53,99 +51,17 @@ invariant_of-self-in-Err-Memory g c =
       calm_wanting c.self.invariant.2 (g.D.Depot.look c.put_record.new.depot) c.put_record.new.history.items c.in-Err-Memory.ensures.entries (λ _. Swapped (cluster_kind.text (cluster_of c.args.renewed.cluster))) (SwapMay (cluster_kind.text (cluster_of c.args.renewed.cluster))) c.in-Err-Memory.field-0 c.in-Err-Memory.field-0-is c.in-Err-Memory.ensures.call,
     )
 
-pub invariant_of-self-in-Err-Memory-2 : goal.invariant_of-self-in-Err-Memory-2
-invariant_of-self-in-Err-Memory-2 g c =
-    let k : Kept = record { cluster = c.self.inside.cluster; root = c.self.inside.root; infos = c.self.inside.infos.items; plan = c.self.inside.progress; next = c.self.inside.next.number } in
-    let b : Before (g.D.Depot.look c.self.inside.depot) g.K.Told.start g.K.Told.clock c.self.inside.history.items k c.self.inside.deposed c.args.self.now =
-    record { laws = c.laws.ensures; repo = c.self.invariant.0.repo; view = c.self.view_is; live = c.requires.live } in (
-      same_infos k c.put_record.new.infos.items c.in-Err-Memory.ensures.infos (wanting_whole b g.K.Told.past c.self.invariant.0.past (g.D.Depot.look c.put_record.new.depot) c.put_record.new.history.items c.in-Err-Memory.ensures.entries
-          (λ _. Swapped (cluster_kind.text (cluster_of c.args.renewed.cluster))) (SwapMay (cluster_kind.text (cluster_of c.args.renewed.cluster)))
-          c.in-Err-Memory.field-0 c.in-Err-Memory.field-0-is c.in-Err-Memory.ensures.call),
-      same_faults c.put_record.new.history.items (g.D.Counted.faults c.put_record.new.depot) c.self.invariant.1 c.in-Err-Memory.ensures.cause.later c.in-Err-Memory.ensures.entries,
-      calm_wanting c.self.invariant.2 (g.D.Depot.look c.put_record.new.depot) c.put_record.new.history.items c.in-Err-Memory.ensures.entries (λ _. Swapped (cluster_kind.text (cluster_of c.args.renewed.cluster))) (SwapMay (cluster_kind.text (cluster_of c.args.renewed.cluster))) c.in-Err-Memory.field-0 c.in-Err-Memory.field-0-is c.in-Err-Memory.ensures.call,
-    )
-
-pub invariant_of-self-in-Err-Memory-4 : goal.invariant_of-self-in-Err-Memory-4
-invariant_of-self-in-Err-Memory-4 g c =
-    let k : Kept = record { cluster = c.self.inside.cluster; root = c.self.inside.root; infos = c.self.inside.infos.items; plan = c.self.inside.progress; next = c.self.inside.next.number } in
-    let b : Before (g.D.Depot.look c.self.inside.depot) g.K.Told.start g.K.Told.clock c.self.inside.history.items k c.self.inside.deposed c.args.self.now =
-    record { laws = c.laws.ensures; repo = c.self.invariant.0.repo; view = c.self.view_is; live = c.requires.live } in (
-      same_infos k c.put_record.new.infos.items c.in-Err-Memory.ensures.infos (wanting_whole b g.K.Told.past c.self.invariant.0.past (g.D.Depot.look c.put_record.new.depot) c.put_record.new.history.items c.in-Err-Memory.ensures.entries
-          (λ _. Swapped (cluster_kind.text (cluster_of c.args.renewed.cluster))) (SwapMay (cluster_kind.text (cluster_of c.args.renewed.cluster)))
-          c.in-Err-Memory.field-0 c.in-Err-Memory.field-0-is c.in-Err-Memory.ensures.call),
-      same_faults c.put_record.new.history.items (g.D.Counted.faults c.put_record.new.depot) c.self.invariant.1 c.in-Err-Memory.ensures.cause.later c.in-Err-Memory.ensures.entries,
-      calm_wanting c.self.invariant.2 (g.D.Depot.look c.put_record.new.depot) c.put_record.new.history.items c.in-Err-Memory.ensures.entries (λ _. Swapped (cluster_kind.text (cluster_of c.args.renewed.cluster))) (SwapMay (cluster_kind.text (cluster_of c.args.renewed.cluster))) c.in-Err-Memory.field-0 c.in-Err-Memory.field-0-is c.in-Err-Memory.ensures.call,
-    )
-
 pub returns-in-Err-Memory-clause-step : goal.returns-in-Err-Memory-clause-step
 returns-in-Err-Memory-clause-step g c =
     let k : Kept = record { cluster = c.self.inside.cluster; root = c.self.inside.root; infos = c.self.inside.infos.items; plan = c.self.inside.progress; next = c.self.inside.next.number } in
     let b : Before (g.D.Depot.look c.self.inside.depot) g.K.Told.start g.K.Told.clock c.self.inside.history.items k c.self.inside.deposed c.args.self.now =
     record { laws = c.laws.ensures; repo = c.self.invariant.0.repo; view = c.self.view_is; live = c.requires.live } in
-    let same =
     (wanting b (g.D.Depot.look c.put_record.new.depot) c.put_record.new.history.items c.in-Err-Memory.ensures.entries
     (λ _. Swapped (cluster_kind.text (cluster_of c.args.renewed.cluster))) (SwapMay (cluster_kind.text (cluster_of c.args.renewed.cluster)))
-    c.in-Err-Memory.field-0 c.in-Err-Memory.field-0-is c.in-Err-Memory.ensures.call).0 in
-    search (rules, same)
+    c.in-Err-Memory.field-0 c.in-Err-Memory.field-0-is c.in-Err-Memory.ensures.call).0
 
 pub invariant_of-self-in-Err-Failed : goal.invariant_of-self-in-Err-Failed
 invariant_of-self-in-Err-Failed g c =
-    let k : Kept = record { cluster = c.self.inside.cluster; root = c.self.inside.root; infos = c.self.inside.infos.items; plan = c.self.inside.progress; next = c.self.inside.next.number } in
-    let b : Before (g.D.Depot.look c.self.inside.depot) g.K.Told.start g.K.Told.clock c.self.inside.history.items k c.self.inside.deposed c.args.self.now =
-    record { laws = c.laws.ensures; repo = c.self.invariant.0.repo; view = c.self.view_is; live = c.requires.live } in
-    let e : Entry = record { who = c.args.who; step = step_of c.args.step; reply = Refused DepotFault } in
-    let p : Pushed c.self.inside.history.items c.put_record.new.history.items c.push_reserved-in-Err-Failed.new.self.items e = record { reserved = c.in-Err-Failed.ensures.entries; pushed = c.push_reserved-in-Err-Failed.ensures.items } in (
-      same_infos k c.put_record.new.infos.items c.in-Err-Failed.ensures.infos (made_whole b g.K.Told.past c.self.invariant.0.past (g.met.D.Depot.only_now c.put_record.new.depot)
-          (swap_fault b (g.D.Depot.look c.put_record.new.depot) c.args.who (step_of c.args.step) (answer_of c.args.answer) c.args.renewed.cluster c.args.renewed.root c.args.renewed.left c.args.renewed.info c.args.renewed.progress c.args.renewed.next.number c.requires.may (cluster_kind.text (cluster_of c.args.renewed.cluster)) refl c.in-Err-Failed.ensures.reads
-          c.in-Err-Failed.field-0 c.in-Err-Failed.field-0-is c.in-Err-Failed.ensures.call c.put_record.new.history.items c.push_reserved-in-Err-Failed.new.self.items p c.len-place.result)),
-      fallen_faults c.self.invariant.1 p (g.D.Counted.faults c.put_record.new.depot) _ c.len-place.result c.in-Err-Failed.ensures.cause (failed_so c.in-Err-Failed.field-0 c.in-Err-Failed.field-0-is) (c.len-place.ensures ∙ c.put_record.new.history.ok.0 ∙ ap (λ (l : List Entry). length l) c.in-Err-Failed.ensures.entries) c.requires.may.swaps refl,
-      calm_failed (g.D.Depot.look c.self.inside.depot).sure c.self.invariant.2 p (g.D.Depot.look c.put_record.new.depot).sure _ c.in-Err-Failed.ensures.sure (failed_so c.in-Err-Failed.field-0 c.in-Err-Failed.field-0-is),
-    )
-
-pub invariant_of-self-in-Err-Failed-2 : goal.invariant_of-self-in-Err-Failed-2
-invariant_of-self-in-Err-Failed-2 g c =
-    let k : Kept = record { cluster = c.self.inside.cluster; root = c.self.inside.root; infos = c.self.inside.infos.items; plan = c.self.inside.progress; next = c.self.inside.next.number } in
-    let b : Before (g.D.Depot.look c.self.inside.depot) g.K.Told.start g.K.Told.clock c.self.inside.history.items k c.self.inside.deposed c.args.self.now =
-    record { laws = c.laws.ensures; repo = c.self.invariant.0.repo; view = c.self.view_is; live = c.requires.live } in
-    let e : Entry = record { who = c.args.who; step = step_of c.args.step; reply = Refused DepotFault } in
-    let p : Pushed c.self.inside.history.items c.put_record.new.history.items c.push_reserved-in-Err-Failed.new.self.items e = record { reserved = c.in-Err-Failed.ensures.entries; pushed = c.push_reserved-in-Err-Failed.ensures.items } in (
-      same_infos k c.put_record.new.infos.items c.in-Err-Failed.ensures.infos (made_whole b g.K.Told.past c.self.invariant.0.past (g.met.D.Depot.only_now c.put_record.new.depot)
-          (swap_fault b (g.D.Depot.look c.put_record.new.depot) c.args.who (step_of c.args.step) (answer_of c.args.answer) c.args.renewed.cluster c.args.renewed.root c.args.renewed.left c.args.renewed.info c.args.renewed.progress c.args.renewed.next.number c.requires.may (cluster_kind.text (cluster_of c.args.renewed.cluster)) refl c.in-Err-Failed.ensures.reads
-          c.in-Err-Failed.field-0 c.in-Err-Failed.field-0-is c.in-Err-Failed.ensures.call c.put_record.new.history.items c.push_reserved-in-Err-Failed.new.self.items p c.len-place.result)),
-      fallen_faults c.self.invariant.1 p (g.D.Counted.faults c.put_record.new.depot) _ c.len-place.result c.in-Err-Failed.ensures.cause (failed_so c.in-Err-Failed.field-0 c.in-Err-Failed.field-0-is) (c.len-place.ensures ∙ c.put_record.new.history.ok.0 ∙ ap (λ (l : List Entry). length l) c.in-Err-Failed.ensures.entries) c.requires.may.swaps refl,
-      calm_failed (g.D.Depot.look c.self.inside.depot).sure c.self.invariant.2 p (g.D.Depot.look c.put_record.new.depot).sure _ c.in-Err-Failed.ensures.sure (failed_so c.in-Err-Failed.field-0 c.in-Err-Failed.field-0-is),
-    )
-
-pub invariant_of-self-in-Err-Failed-3 : goal.invariant_of-self-in-Err-Failed-3
-invariant_of-self-in-Err-Failed-3 g c =
-    let k : Kept = record { cluster = c.self.inside.cluster; root = c.self.inside.root; infos = c.self.inside.infos.items; plan = c.self.inside.progress; next = c.self.inside.next.number } in
-    let b : Before (g.D.Depot.look c.self.inside.depot) g.K.Told.start g.K.Told.clock c.self.inside.history.items k c.self.inside.deposed c.args.self.now =
-    record { laws = c.laws.ensures; repo = c.self.invariant.0.repo; view = c.self.view_is; live = c.requires.live } in
-    let e : Entry = record { who = c.args.who; step = step_of c.args.step; reply = Refused DepotFault } in
-    let p : Pushed c.self.inside.history.items c.put_record.new.history.items c.push_reserved-in-Err-Failed.new.self.items e = record { reserved = c.in-Err-Failed.ensures.entries; pushed = c.push_reserved-in-Err-Failed.ensures.items } in (
-      same_infos k c.put_record.new.infos.items c.in-Err-Failed.ensures.infos (made_whole b g.K.Told.past c.self.invariant.0.past (g.met.D.Depot.only_now c.put_record.new.depot)
-          (swap_fault b (g.D.Depot.look c.put_record.new.depot) c.args.who (step_of c.args.step) (answer_of c.args.answer) c.args.renewed.cluster c.args.renewed.root c.args.renewed.left c.args.renewed.info c.args.renewed.progress c.args.renewed.next.number c.requires.may (cluster_kind.text (cluster_of c.args.renewed.cluster)) refl c.in-Err-Failed.ensures.reads
-          c.in-Err-Failed.field-0 c.in-Err-Failed.field-0-is c.in-Err-Failed.ensures.call c.put_record.new.history.items c.push_reserved-in-Err-Failed.new.self.items p c.len-place.result)),
-      fallen_faults c.self.invariant.1 p (g.D.Counted.faults c.put_record.new.depot) _ c.len-place.result c.in-Err-Failed.ensures.cause (failed_so c.in-Err-Failed.field-0 c.in-Err-Failed.field-0-is) (c.len-place.ensures ∙ c.put_record.new.history.ok.0 ∙ ap (λ (l : List Entry). length l) c.in-Err-Failed.ensures.entries) c.requires.may.swaps refl,
-      calm_failed (g.D.Depot.look c.self.inside.depot).sure c.self.invariant.2 p (g.D.Depot.look c.put_record.new.depot).sure _ c.in-Err-Failed.ensures.sure (failed_so c.in-Err-Failed.field-0 c.in-Err-Failed.field-0-is),
-    )
-
-pub invariant_of-self-in-Err-Failed-4 : goal.invariant_of-self-in-Err-Failed-4
-invariant_of-self-in-Err-Failed-4 g c =
-    let k : Kept = record { cluster = c.self.inside.cluster; root = c.self.inside.root; infos = c.self.inside.infos.items; plan = c.self.inside.progress; next = c.self.inside.next.number } in
-    let b : Before (g.D.Depot.look c.self.inside.depot) g.K.Told.start g.K.Told.clock c.self.inside.history.items k c.self.inside.deposed c.args.self.now =
-    record { laws = c.laws.ensures; repo = c.self.invariant.0.repo; view = c.self.view_is; live = c.requires.live } in
-    let e : Entry = record { who = c.args.who; step = step_of c.args.step; reply = Refused DepotFault } in
-    let p : Pushed c.self.inside.history.items c.put_record.new.history.items c.push_reserved-in-Err-Failed.new.self.items e = record { reserved = c.in-Err-Failed.ensures.entries; pushed = c.push_reserved-in-Err-Failed.ensures.items } in (
-      same_infos k c.put_record.new.infos.items c.in-Err-Failed.ensures.infos (made_whole b g.K.Told.past c.self.invariant.0.past (g.met.D.Depot.only_now c.put_record.new.depot)
-          (swap_fault b (g.D.Depot.look c.put_record.new.depot) c.args.who (step_of c.args.step) (answer_of c.args.answer) c.args.renewed.cluster c.args.renewed.root c.args.renewed.left c.args.renewed.info c.args.renewed.progress c.args.renewed.next.number c.requires.may (cluster_kind.text (cluster_of c.args.renewed.cluster)) refl c.in-Err-Failed.ensures.reads
-          c.in-Err-Failed.field-0 c.in-Err-Failed.field-0-is c.in-Err-Failed.ensures.call c.put_record.new.history.items c.push_reserved-in-Err-Failed.new.self.items p c.len-place.result)),
-      fallen_faults c.self.invariant.1 p (g.D.Counted.faults c.put_record.new.depot) _ c.len-place.result c.in-Err-Failed.ensures.cause (failed_so c.in-Err-Failed.field-0 c.in-Err-Failed.field-0-is) (c.len-place.ensures ∙ c.put_record.new.history.ok.0 ∙ ap (λ (l : List Entry). length l) c.in-Err-Failed.ensures.entries) c.requires.may.swaps refl,
-      calm_failed (g.D.Depot.look c.self.inside.depot).sure c.self.invariant.2 p (g.D.Depot.look c.put_record.new.depot).sure _ c.in-Err-Failed.ensures.sure (failed_so c.in-Err-Failed.field-0 c.in-Err-Failed.field-0-is),
-    )
-
-pub invariant_of-self-in-Err-Failed-5 : goal.invariant_of-self-in-Err-Failed-5
-invariant_of-self-in-Err-Failed-5 g c =
     let k : Kept = record { cluster = c.self.inside.cluster; root = c.self.inside.root; infos = c.self.inside.infos.items; plan = c.self.inside.progress; next = c.self.inside.next.number } in
     let b : Before (g.D.Depot.look c.self.inside.depot) g.K.Told.start g.K.Told.clock c.self.inside.history.items k c.self.inside.deposed c.args.self.now =
     record { laws = c.laws.ensures; repo = c.self.invariant.0.repo; view = c.self.view_is; live = c.requires.live } in
@@ -163,107 +79,6 @@ returns-in-Err-Failed-clause-step g c =
     let k : Kept = record { cluster = c.self.inside.cluster; root = c.self.inside.root; infos = c.self.inside.infos.items; plan = c.self.inside.progress; next = c.self.inside.next.number } in
     let b : Before (g.D.Depot.look c.self.inside.depot) g.K.Told.start g.K.Told.clock c.self.inside.history.items k c.self.inside.deposed c.args.self.now =
     record { laws = c.laws.ensures; repo = c.self.invariant.0.repo; view = c.self.view_is; live = c.requires.live } in
-    let more =
     (swap_fault b (g.D.Depot.look c.put_record.new.depot) c.args.who (step_of c.args.step) (answer_of c.args.answer) c.args.renewed.cluster c.args.renewed.root c.args.renewed.left c.args.renewed.info c.args.renewed.progress c.args.renewed.next.number c.requires.may (cluster_kind.text (cluster_of c.args.renewed.cluster)) refl c.in-Err-Failed.ensures.reads
     c.in-Err-Failed.field-0 c.in-Err-Failed.field-0-is c.in-Err-Failed.ensures.call c.put_record.new.history.items c.push_reserved-in-Err-Failed.new.self.items
-    (record { reserved = c.in-Err-Failed.ensures.entries; pushed = c.push_reserved-in-Err-Failed.ensures.items }) c.len-place.result).added in
-    let view : c.match-answer-3.self ≡ log_of (g.D.Depot.look c.put_record.new.depot) g.K.Told.clock c.push_reserved-in-Err-Failed.new.self.items = search rules in
-    subst (λ (log : List Moment). Added g.K.Told.start c.args.self.now log c.args.who (step_of c.args.step) (Refused DepotFault)) (sym view) more
-
-pub invariant_of-self-in-Err-Memory-3 : goal.invariant_of-self-in-Err-Memory-3
-invariant_of-self-in-Err-Memory-3 g c =
-    let k : Kept = record { cluster = c.self.inside.cluster; root = c.self.inside.root; infos = c.self.inside.infos.items; plan = c.self.inside.progress; next = c.self.inside.next.number } in
-    let b : Before (g.D.Depot.look c.self.inside.depot) g.K.Told.start g.K.Told.clock c.self.inside.history.items k c.self.inside.deposed c.args.self.now =
-    record { laws = c.laws.ensures; repo = c.self.invariant.0.repo; view = c.self.view_is; live = c.requires.live } in (
-      same_infos k c.put_record.new.infos.items c.in-Err-Memory.ensures.infos (wanting_whole b g.K.Told.past c.self.invariant.0.past (g.D.Depot.look c.put_record.new.depot) c.put_record.new.history.items c.in-Err-Memory.ensures.entries
-          (λ _. Swapped (cluster_kind.text (cluster_of c.args.renewed.cluster))) (SwapMay (cluster_kind.text (cluster_of c.args.renewed.cluster)))
-          c.in-Err-Memory.field-0 c.in-Err-Memory.field-0-is c.in-Err-Memory.ensures.call),
-      same_faults c.put_record.new.history.items (g.D.Counted.faults c.put_record.new.depot) c.self.invariant.1 c.in-Err-Memory.ensures.cause.later c.in-Err-Memory.ensures.entries,
-      calm_wanting c.self.invariant.2 (g.D.Depot.look c.put_record.new.depot) c.put_record.new.history.items c.in-Err-Memory.ensures.entries (λ _. Swapped (cluster_kind.text (cluster_of c.args.renewed.cluster))) (SwapMay (cluster_kind.text (cluster_of c.args.renewed.cluster))) c.in-Err-Memory.field-0 c.in-Err-Memory.field-0-is c.in-Err-Memory.ensures.call,
-    )
-
-pub invariant_of-self-in-Err-Memory-5 : goal.invariant_of-self-in-Err-Memory-5
-invariant_of-self-in-Err-Memory-5 g c =
-    let k : Kept = record { cluster = c.self.inside.cluster; root = c.self.inside.root; infos = c.self.inside.infos.items; plan = c.self.inside.progress; next = c.self.inside.next.number } in
-    let b : Before (g.D.Depot.look c.self.inside.depot) g.K.Told.start g.K.Told.clock c.self.inside.history.items k c.self.inside.deposed c.args.self.now =
-    record { laws = c.laws.ensures; repo = c.self.invariant.0.repo; view = c.self.view_is; live = c.requires.live } in (
-      same_infos k c.put_record.new.infos.items c.in-Err-Memory.ensures.infos (wanting_whole b g.K.Told.past c.self.invariant.0.past (g.D.Depot.look c.put_record.new.depot) c.put_record.new.history.items c.in-Err-Memory.ensures.entries
-          (λ _. Swapped (cluster_kind.text (cluster_of c.args.renewed.cluster))) (SwapMay (cluster_kind.text (cluster_of c.args.renewed.cluster)))
-          c.in-Err-Memory.field-0 c.in-Err-Memory.field-0-is c.in-Err-Memory.ensures.call),
-      same_faults c.put_record.new.history.items (g.D.Counted.faults c.put_record.new.depot) c.self.invariant.1 c.in-Err-Memory.ensures.cause.later c.in-Err-Memory.ensures.entries,
-      calm_wanting c.self.invariant.2 (g.D.Depot.look c.put_record.new.depot) c.put_record.new.history.items c.in-Err-Memory.ensures.entries (λ _. Swapped (cluster_kind.text (cluster_of c.args.renewed.cluster))) (SwapMay (cluster_kind.text (cluster_of c.args.renewed.cluster))) c.in-Err-Memory.field-0 c.in-Err-Memory.field-0-is c.in-Err-Memory.ensures.call,
-    )
-
-pub invariant_of-self-in-Err-Memory-8 : goal.invariant_of-self-in-Err-Memory-8
-invariant_of-self-in-Err-Memory-8 g c =
-    let k : Kept = record { cluster = c.self.inside.cluster; root = c.self.inside.root; infos = c.self.inside.infos.items; plan = c.self.inside.progress; next = c.self.inside.next.number } in
-    let b : Before (g.D.Depot.look c.self.inside.depot) g.K.Told.start g.K.Told.clock c.self.inside.history.items k c.self.inside.deposed c.args.self.now =
-    record { laws = c.laws.ensures; repo = c.self.invariant.0.repo; view = c.self.view_is; live = c.requires.live } in (
-      same_infos k c.put_record.new.infos.items c.in-Err-Memory.ensures.infos (wanting_whole b g.K.Told.past c.self.invariant.0.past (g.D.Depot.look c.put_record.new.depot) c.put_record.new.history.items c.in-Err-Memory.ensures.entries
-          (λ _. Swapped (cluster_kind.text (cluster_of c.args.renewed.cluster))) (SwapMay (cluster_kind.text (cluster_of c.args.renewed.cluster)))
-          c.in-Err-Memory.field-0 c.in-Err-Memory.field-0-is c.in-Err-Memory.ensures.call),
-      same_faults c.put_record.new.history.items (g.D.Counted.faults c.put_record.new.depot) c.self.invariant.1 c.in-Err-Memory.ensures.cause.later c.in-Err-Memory.ensures.entries,
-      calm_wanting c.self.invariant.2 (g.D.Depot.look c.put_record.new.depot) c.put_record.new.history.items c.in-Err-Memory.ensures.entries (λ _. Swapped (cluster_kind.text (cluster_of c.args.renewed.cluster))) (SwapMay (cluster_kind.text (cluster_of c.args.renewed.cluster))) c.in-Err-Memory.field-0 c.in-Err-Memory.field-0-is c.in-Err-Memory.ensures.call,
-    )
-
-pub invariant_of-self-in-Err-Memory-10 : goal.invariant_of-self-in-Err-Memory-10
-invariant_of-self-in-Err-Memory-10 g c =
-    let k : Kept = record { cluster = c.self.inside.cluster; root = c.self.inside.root; infos = c.self.inside.infos.items; plan = c.self.inside.progress; next = c.self.inside.next.number } in
-    let b : Before (g.D.Depot.look c.self.inside.depot) g.K.Told.start g.K.Told.clock c.self.inside.history.items k c.self.inside.deposed c.args.self.now =
-    record { laws = c.laws.ensures; repo = c.self.invariant.0.repo; view = c.self.view_is; live = c.requires.live } in (
-      same_infos k c.put_record.new.infos.items c.in-Err-Memory.ensures.infos (wanting_whole b g.K.Told.past c.self.invariant.0.past (g.D.Depot.look c.put_record.new.depot) c.put_record.new.history.items c.in-Err-Memory.ensures.entries
-          (λ _. Swapped (cluster_kind.text (cluster_of c.args.renewed.cluster))) (SwapMay (cluster_kind.text (cluster_of c.args.renewed.cluster)))
-          c.in-Err-Memory.field-0 c.in-Err-Memory.field-0-is c.in-Err-Memory.ensures.call),
-      same_faults c.put_record.new.history.items (g.D.Counted.faults c.put_record.new.depot) c.self.invariant.1 c.in-Err-Memory.ensures.cause.later c.in-Err-Memory.ensures.entries,
-      calm_wanting c.self.invariant.2 (g.D.Depot.look c.put_record.new.depot) c.put_record.new.history.items c.in-Err-Memory.ensures.entries (λ _. Swapped (cluster_kind.text (cluster_of c.args.renewed.cluster))) (SwapMay (cluster_kind.text (cluster_of c.args.renewed.cluster))) c.in-Err-Memory.field-0 c.in-Err-Memory.field-0-is c.in-Err-Memory.ensures.call,
-    )
-
-pub invariant_of-self-in-Err-Memory-11 : goal.invariant_of-self-in-Err-Memory-11
-invariant_of-self-in-Err-Memory-11 g c =
-    let k : Kept = record { cluster = c.self.inside.cluster; root = c.self.inside.root; infos = c.self.inside.infos.items; plan = c.self.inside.progress; next = c.self.inside.next.number } in
-    let b : Before (g.D.Depot.look c.self.inside.depot) g.K.Told.start g.K.Told.clock c.self.inside.history.items k c.self.inside.deposed c.args.self.now =
-    record { laws = c.laws.ensures; repo = c.self.invariant.0.repo; view = c.self.view_is; live = c.requires.live } in (
-      same_infos k c.put_record.new.infos.items c.in-Err-Memory.ensures.infos (wanting_whole b g.K.Told.past c.self.invariant.0.past (g.D.Depot.look c.put_record.new.depot) c.put_record.new.history.items c.in-Err-Memory.ensures.entries
-          (λ _. Swapped (cluster_kind.text (cluster_of c.args.renewed.cluster))) (SwapMay (cluster_kind.text (cluster_of c.args.renewed.cluster)))
-          c.in-Err-Memory.field-0 c.in-Err-Memory.field-0-is c.in-Err-Memory.ensures.call),
-      same_faults c.put_record.new.history.items (g.D.Counted.faults c.put_record.new.depot) c.self.invariant.1 c.in-Err-Memory.ensures.cause.later c.in-Err-Memory.ensures.entries,
-      calm_wanting c.self.invariant.2 (g.D.Depot.look c.put_record.new.depot) c.put_record.new.history.items c.in-Err-Memory.ensures.entries (λ _. Swapped (cluster_kind.text (cluster_of c.args.renewed.cluster))) (SwapMay (cluster_kind.text (cluster_of c.args.renewed.cluster))) c.in-Err-Memory.field-0 c.in-Err-Memory.field-0-is c.in-Err-Memory.ensures.call,
-    )
-
-pub invariant_of-self-in-Err-Failed-6 : goal.invariant_of-self-in-Err-Failed-6
-invariant_of-self-in-Err-Failed-6 g c =
-    let k : Kept = record { cluster = c.self.inside.cluster; root = c.self.inside.root; infos = c.self.inside.infos.items; plan = c.self.inside.progress; next = c.self.inside.next.number } in
-    let b : Before (g.D.Depot.look c.self.inside.depot) g.K.Told.start g.K.Told.clock c.self.inside.history.items k c.self.inside.deposed c.args.self.now =
-    record { laws = c.laws.ensures; repo = c.self.invariant.0.repo; view = c.self.view_is; live = c.requires.live } in
-    let e : Entry = record { who = c.args.who; step = step_of c.args.step; reply = Refused DepotFault } in
-    let p : Pushed c.self.inside.history.items c.put_record.new.history.items c.push_reserved-in-Err-Failed.new.self.items e = record { reserved = c.in-Err-Failed.ensures.entries; pushed = c.push_reserved-in-Err-Failed.ensures.items } in (
-      same_infos k c.put_record.new.infos.items c.in-Err-Failed.ensures.infos (made_whole b g.K.Told.past c.self.invariant.0.past (g.met.D.Depot.only_now c.put_record.new.depot)
-          (swap_fault b (g.D.Depot.look c.put_record.new.depot) c.args.who (step_of c.args.step) (answer_of c.args.answer) c.args.renewed.cluster c.args.renewed.root c.args.renewed.left c.args.renewed.info c.args.renewed.progress c.args.renewed.next.number c.requires.may (cluster_kind.text (cluster_of c.args.renewed.cluster)) refl c.in-Err-Failed.ensures.reads
-          c.in-Err-Failed.field-0 c.in-Err-Failed.field-0-is c.in-Err-Failed.ensures.call c.put_record.new.history.items c.push_reserved-in-Err-Failed.new.self.items p c.len-place.result)),
-      fallen_faults c.self.invariant.1 p (g.D.Counted.faults c.put_record.new.depot) _ c.len-place.result c.in-Err-Failed.ensures.cause (failed_so c.in-Err-Failed.field-0 c.in-Err-Failed.field-0-is) (c.len-place.ensures ∙ c.put_record.new.history.ok.0 ∙ ap (λ (l : List Entry). length l) c.in-Err-Failed.ensures.entries) c.requires.may.swaps refl,
-      calm_failed (g.D.Depot.look c.self.inside.depot).sure c.self.invariant.2 p (g.D.Depot.look c.put_record.new.depot).sure _ c.in-Err-Failed.ensures.sure (failed_so c.in-Err-Failed.field-0 c.in-Err-Failed.field-0-is),
-    )
-
-pub invariant_of-self-in-Err-Memory-6 : goal.invariant_of-self-in-Err-Memory-6
-invariant_of-self-in-Err-Memory-6 g c =
-    let k : Kept = record { cluster = c.self.inside.cluster; root = c.self.inside.root; infos = c.self.inside.infos.items; plan = c.self.inside.progress; next = c.self.inside.next.number } in
-    let b : Before (g.D.Depot.look c.self.inside.depot) g.K.Told.start g.K.Told.clock c.self.inside.history.items k c.self.inside.deposed c.args.self.now =
-    record { laws = c.laws.ensures; repo = c.self.invariant.0.repo; view = c.self.view_is; live = c.requires.live } in (
-      same_infos k c.put_record.new.infos.items c.in-Err-Memory.ensures.infos (wanting_whole b g.K.Told.past c.self.invariant.0.past (g.D.Depot.look c.put_record.new.depot) c.put_record.new.history.items c.in-Err-Memory.ensures.entries
-          (λ _. Swapped (cluster_kind.text (cluster_of c.args.renewed.cluster))) (SwapMay (cluster_kind.text (cluster_of c.args.renewed.cluster)))
-          c.in-Err-Memory.field-0 c.in-Err-Memory.field-0-is c.in-Err-Memory.ensures.call),
-      same_faults c.put_record.new.history.items (g.D.Counted.faults c.put_record.new.depot) c.self.invariant.1 c.in-Err-Memory.ensures.cause.later c.in-Err-Memory.ensures.entries,
-      calm_wanting c.self.invariant.2 (g.D.Depot.look c.put_record.new.depot) c.put_record.new.history.items c.in-Err-Memory.ensures.entries (λ _. Swapped (cluster_kind.text (cluster_of c.args.renewed.cluster))) (SwapMay (cluster_kind.text (cluster_of c.args.renewed.cluster))) c.in-Err-Memory.field-0 c.in-Err-Memory.field-0-is c.in-Err-Memory.ensures.call,
-    )
-
-pub invariant_of-self-in-Err-Memory-12 : goal.invariant_of-self-in-Err-Memory-12
-invariant_of-self-in-Err-Memory-12 g c =
-    let k : Kept = record { cluster = c.self.inside.cluster; root = c.self.inside.root; infos = c.self.inside.infos.items; plan = c.self.inside.progress; next = c.self.inside.next.number } in
-    let b : Before (g.D.Depot.look c.self.inside.depot) g.K.Told.start g.K.Told.clock c.self.inside.history.items k c.self.inside.deposed c.args.self.now =
-    record { laws = c.laws.ensures; repo = c.self.invariant.0.repo; view = c.self.view_is; live = c.requires.live } in (
-      same_infos k c.put_record.new.infos.items c.in-Err-Memory.ensures.infos (wanting_whole b g.K.Told.past c.self.invariant.0.past (g.D.Depot.look c.put_record.new.depot) c.put_record.new.history.items c.in-Err-Memory.ensures.entries
-          (λ _. Swapped (cluster_kind.text (cluster_of c.args.renewed.cluster))) (SwapMay (cluster_kind.text (cluster_of c.args.renewed.cluster)))
-          c.in-Err-Memory.field-0 c.in-Err-Memory.field-0-is c.in-Err-Memory.ensures.call),
-      same_faults c.put_record.new.history.items (g.D.Counted.faults c.put_record.new.depot) c.self.invariant.1 c.in-Err-Memory.ensures.cause.later c.in-Err-Memory.ensures.entries,
-      calm_wanting c.self.invariant.2 (g.D.Depot.look c.put_record.new.depot) c.put_record.new.history.items c.in-Err-Memory.ensures.entries (λ _. Swapped (cluster_kind.text (cluster_of c.args.renewed.cluster))) (SwapMay (cluster_kind.text (cluster_of c.args.renewed.cluster))) c.in-Err-Memory.field-0 c.in-Err-Memory.field-0-is c.in-Err-Memory.ensures.call,
-    )
+    (record { reserved = c.in-Err-Failed.ensures.entries; pushed = c.push_reserved-in-Err-Failed.ensures.items }) c.len-place.result).added

@@ -1,0 +1,181 @@
+-- Over a legal history from a tidy image the world stays tidy, and so do the images; so each delete dooms exactly what it leaves behind.
+use Rattle.std.proofs.Common.{◌≡◌, ℕ, zero, suc, ◌<◌, true, true≢false, List, [], ◌∷◌, ◌++◌, Option, Some, None, refl, sym, ap, ◌∙◌, subst, inl, inr, arith}
+use Rattle.std.specs.FinMap as fin
+use Rattle.esr_model.specs.Names.{BlobName, Root}
+use Rattle.esr_model.specs.Values.{Bytes, RootData, SnapInfo, ClusterRecord, ShardResult, ReadsBack, Formats}
+use Rattle.esr_model.specs.Shelf.{Shelved, Command, Delete, shelf_after}
+use Rattle.esr_model.specs.Kept.{Kept}
+use Rattle.esr_model.specs.Image.{Blobs, Image, Has, At, IsOne, RootIs}
+use Rattle.esr_core.specs.World.{World, Finalize, Deleting, Ticket, Swap, HeldIn, record_of, image_of, Opened, OpenedEmpty, OpenedRecord}
+use Rattle.esr_core.specs.Ready.{IsMaster}
+use Rattle.esr_core.specs.Steps.{MaySettle}
+use Rattle.esr_core.specs.Pruning.{dooms}
+use Rattle.esr_core.specs.Ids.{Law}
+use Rattle.esr_core.specs.Entry.{SettleStep, SettlePruned, PruneStep, Reply, Moment}
+use Rattle.esr_core.specs.After.{swaps_record, after}
+use Rattle.esr_core.specs.Allowed as allowed
+use Rattle.esr_core.specs.Allowed.{Settles, SettlesDeletion, PruneAllows, Allows, Allowed}
+use Rattle.esr_core.specs.History.{world_from, IsLegal, TellsHandedOut, AreTold, AreHonest, committed, counts}
+use Rattle.esr_core.specs.Left.{cut_off, Leaves}
+use Rattle.esr_core.specs.Tidy.{TidyRoot, TidyIn, AreDeletes, TidyImage, DoomsExactly}
+use Rattle.esr_core.proofs.Reading.{some_same, none_some, reads_one, held_one}
+use Rattle.esr_core.proofs.Grows.{root_is_kept}
+use Rattle.esr_core.proofs.Opening.{nothing}
+use Rattle.esr_core.proofs.Lists.{opening_law}
+use Rattle.esr_core.proofs.Settling.{swap_master}
+use Rattle.esr_core.proofs.Moments.{moment}
+use Rattle.esr_core.proofs.Histories.{Stepped, step_law, legal_law, image_is, deposed_stays, legal_parts, told_parts, honest_parts, known_parts}
+use Rattle.esr_core.proofs.Left.{which, allows_pruned}
+use Rattle.esr_core.proofs.SafeRoots.{by_record}
+use Rattle.esr_core.proofs.PruneTurns.{was_reached, is_left}
+use Rattle.esr_core.proofs.DoomsAll.{dooms_all, dooms_root}
+use Rattle.esr_core.proofs.TidyTurns.{listed_kept, root_less, turn_tidy}
+
+-- ---- a step that raises the safe root settles no cleanup
+
+final_delete : (info : SnapInfo) (results : List ShardResult) (made : Command) (uuids : List ℕ) (plan : Option Swap) → Finalize info results made ≡ Deleting uuids plan → ⊥
+final_delete info results made uuids plan e = cc
+
+same_plan : (us vs : List ℕ) (p q : Swap) → Deleting us (Some p) ≡ Deleting vs (Some q) → (us ≡ vs) × (p ≡ q)
+same_plan us vs p q e = (cc, cc)
+
+module _ (f : Formats) (w : World) (shelf : List Shelved) (l : Law f w shelf) where
+  -- the ticket that settles is the one that can
+  one_settles : (k n : ℕ) (t : Ticket) (s : Swap) → MaySettle f w k n t s → t.term ≡ w.term → ((uuids : List ℕ) (x : Swap) → t.work ≡ Deleting uuids (Some x) → x.commands ≡ Delete uuids ∷ []) → AreDeletes w
+  one_settles k n t s may present told = λ j u uuids x there out uns pres work.
+      let one : j ≡ k = l.lawful.queue.one_swap j k (record { t = u; there = there; out = out; unsettled = uns; present = pres; swaps = subst IsMaster (sym work) tt })
+      (record { t = t; there = may.out.there; out = may.out.out; unsettled = may.unsettled; present = present; swaps = swap_master f t.work t.root s may.is }) in
+      let same : t ≡ u = some_same t u (sym may.out.there ∙ ap (fin.get w.tickets) (sym one) ∙ there) in
+      told uuids x (ap (λ (y : Ticket). y.work) same ∙ work)
+
+  final_settles : (k : ℕ) → Settles f w k → AreDeletes w
+  final_settles k s = one_settles k s.n s.t s.s s.may s.present (λ uuids x work. absurd (final_delete s.info s.results s.made uuids (Some x) (sym s.work ∙ work)))
+
+  delete_settles : (k : ℕ) (s : SettlesDeletion f w k) → s.t.term ≡ w.term → AreDeletes w
+  delete_settles k s present = one_settles k s.n s.t s.s s.may present (λ uuids x work.
+      let same = same_plan s.uuids uuids s.s x (sym s.deleting.work ∙ work) in
+      ap (λ (y : Swap). y.commands) (sym same.1) ∙ s.commands ∙ ap (λ (us : List ℕ). Delete us ∷ []) same.0)
+
+  by_settle : (size who : ℕ) (reply : Reply) (image : Option Image) → Allows f size w who SettleStep reply image → w.safe < (after f w (moment who SettleStep reply image)).safe → AreDeletes w
+  by_settle size who reply image (allowed.Settling k im s same) rises = final_settles k s
+  by_settle size who reply image (allowed.SettleStale k n t s im may apart same) rises = let b : w.safe < w.safe = rises in absurd (omega (arith, b))
+  by_settle size who reply image (allowed.SettleFails k im s same) rises = final_settles k s
+
+  by_prune : (who : ℕ) (reply : Reply) (image : Option Image) → PruneAllows f w who SettlePruned reply image → w.safe < (after f w (moment who (PruneStep SettlePruned) reply image)).safe → AreDeletes w
+  by_prune who reply image (allowed.SettlingDelete k im s present same) rises = delete_settles k s present
+  by_prune who reply image (allowed.SettleDeleteStale k im s apart same) rises = let b : w.safe < w.safe = rises in absurd (omega (arith, b))
+  by_prune who reply image (allowed.SettleDeleteFails k im s present same) rises = delete_settles k s present
+
+  are_deletes : (size : ℕ) (m : Moment) → Allowed f size w m → w.safe < (after f w m).safe → AreDeletes w
+  are_deletes size m a rises = elim a.answered [
+    | inl alive ↦ elim (which m.entry.step) [
+      | inl e ↦
+          by_settle size m.entry.who m.entry.reply m.image (subst (λ x. Allows f size w m.entry.who x m.entry.reply m.image) e alive.1)
+          (subst (λ x. w.safe < (after f w (moment m.entry.who x m.entry.reply m.image)).safe) e rises)
+      | inr (inl e) ↦
+          by_prune m.entry.who m.entry.reply m.image (allows_pruned (subst (λ x. Allows f size w m.entry.who x m.entry.reply m.image) e alive.1))
+          (subst (λ x. w.safe < (after f w (moment m.entry.who x m.entry.reply m.image)).safe) e rises)
+      | inr (inr e) ↦ let same : (after f w m).safe ≡ w.safe = by_record f w m (swaps_record m.entry.step) refl e in absurd (omega (arith, same, rises))
+    ]
+    | inr dead ↦ let same : (after f w m).safe ≡ w.safe = ap (λ (x : World). x.safe) (deposed_stays f w m dead) in absurd (omega (arith, same, rises))
+  ]
+
+  step_tidy : (size : ℕ) → TidyIn f w → (m : Moment) → Allowed f size w m → Stepped f w shelf m (after f w m) → TidyIn f (after f w m)
+  step_tidy size tidy m a s = elim s.made [
+    | inl h ↦ turn_tidy f w (after f w m) shelf l (are_deletes size m a) tidy h.1.0
+    | inr h ↦ subst (TidyIn f) (sym h.0) tidy
+  ]
+
+pub legal_tidy : (f : Formats) (size : ℕ) (log : List Moment) (w : World) (shelf : List Shelved) → TellsHandedOut f w log → Law f w shelf → TidyIn f w → IsLegal f size w log → AreTold log → AreHonest f w log → TidyIn f (world_from f w log)
+legal_tidy f size [] w shelf known l tidy legal told honest = tidy
+legal_tidy f size (m ∷ log) w shelf known l tidy legal told honest =
+    let s = step_law f size w shelf known.0 l honest.0 m told.0.0 told.0.1 legal.0 in
+    legal_tidy f size log (after f w m) (shelf_after shelf s.commands) known.1 s.law (step_tidy f w shelf l size tidy m legal.0 s) legal.1 told.1 honest.1
+
+-- ---- images
+
+pub empty_tidy : (f : Formats) (image : Image) → image.text ≡ None → TidyImage f image
+empty_tidy f image none = λ text cluster root there. absurd (none_some text (sym none ∙ there))
+
+pub opened_tidy : (f : Formats) (image : Image) (w : World) → TidyImage f image → Opened f image w → TidyIn f w
+opened_tidy f image w tidy (OpenedEmpty e) = record {
+  rooted = record { used = λ x m. absurd m; lists = λ i k g gen. absurd (none_some g gen) };
+  done = λ u i k g a. absurd (nothing a.number a.op a.there);
+  bases = λ k t e. absurd (nothing k t e);
+}
+opened_tidy f image w tidy (OpenedRecord cluster text root there reads is) = record {
+  rooted = root_less f (At f image.blobs) (HeldIn f w) (λ name bytes h. h.0) root (tidy text cluster root there reads is);
+  done = λ u i k g a. absurd (nothing a.number a.op a.there);
+  bases = λ k t e. absurd (nothing k t e);
+}
+
+at_one : (f : Formats) (blobs : Blobs) → IsOne (At f blobs)
+at_one f blobs name a b p q = some_same a b (sym p.0 ∙ q.0)
+
+-- the safe root is one
+root_one : (f : Formats) (has : BlobName → Bytes → Type 0) → IsOne has → (safe : ℕ) (a b : RootData) → RootIs f has safe a → RootIs f has safe b → a ≡ b
+root_one f has func zero a b p q = p ∙ sym q
+root_one f has func (suc n) a b p q = reads_one has func (Root n) f.root a b p q
+
+-- what is doomed is there still, but no index that the safe root reaches
+image_tidy : (f : Formats) (w : World) (shelf : List Shelved) → Law f w shelf → TidyIn f w → ReadsBack f.cluster (record_of w) → TidyImage f (image_of f w)
+image_tidy f w shelf l tidy back = λ text cluster root there reads is.
+    let same_text : f.cluster.text (record_of w) ≡ text = some_same (f.cluster.text (record_of w)) text there in
+    let same : record_of w ≡ cluster = some_same (record_of w) cluster (sym back ∙ ap f.cluster.read same_text ∙ reads) in
+    let own : RootIs f (At f w.blobs) w.safe w.root = root_is_kept f (HeldIn f w) (At f w.blobs) (at_one f w.blobs) (held_one f w) (λ name bytes h. h.0) w.safe w.root l.lawful.sound.carried.root_is in
+    let told : RootIs f (At f w.blobs) w.safe root = subst (λ (c : ClusterRecord). RootIs f (At f w.blobs) c.ledger.safe root) (sym same) is in
+    subst (λ (r : RootData). TidyRoot f (At f w.blobs) r) (root_one f (At f w.blobs) (at_one f w.blobs) w.safe w.root root own told) (record {
+      used = tidy.rooted.used;
+      lists = λ i k g gen. listed_kept f (HeldIn f w) (At f w.blobs) (at_one f w.blobs) (λ name bytes h. h.0) w.root i k g (l.lawful.sound.carried.carries i k g (inl gen)).stands (tidy.rooted.lists i k g gen);
+    })
+
+now_tidy : (f : Formats) (w : World) (shelf : List Shelved) (i : Image) → Law f w shelf → TidyIn f w → ReadsBack f.cluster (record_of w) → i ≡ image_of f w → TidyImage f i
+now_tidy f w shelf i l tidy back now = subst (TidyImage f) (sym now) (image_tidy f w shelf l tidy back)
+
+pub left_tidy_image : (f : Formats) (size : ℕ) (log : List Moment) (w : World) (shelf : List Shelved) (i : Image) → TellsHandedOut f w log → Law f w shelf → TidyIn f w → ReadsBack f.cluster (record_of w) → IsLegal f size w log → AreTold log
+    → AreHonest f w log → Leaves f size w log i → TidyImage f i
+left_tidy_image f size [] w shelf i known l tidy back legal told honest now = now_tidy f w shelf i l tidy back now
+left_tidy_image f size (m ∷ log) w shelf i known l tidy back legal told honest (inl now) = now_tidy f w shelf i l tidy back now
+left_tidy_image f size (m ∷ log) w shelf i known l tidy back legal told honest (inr (inl cut)) =
+    let s = step_law f size w shelf known.0 l honest.0 (cut_off m i) i refl cut in
+    now_tidy f (after f w (cut_off m i)) (shelf_after shelf s.commands) i s.law (step_tidy f w shelf l size tidy (cut_off m i) cut s) cut.record_back (image_is f size w (cut_off m i) i refl cut)
+left_tidy_image f size (m ∷ log) w shelf i known l tidy back legal told honest (inr (inr later)) =
+    let s = step_law f size w shelf known.0 l honest.0 m told.0.0 told.0.1 legal.0 in
+    left_tidy_image f size log (after f w m) (shelf_after shelf s.commands) i known.1 s.law (step_tidy f w shelf l size tidy m legal.0 s) legal.0.record_back legal.1 told.1 honest.1 later
+
+-- ---- deletes
+
+exact : (f : Formats) (w : World) (shelf : List Shelved) (k : ℕ) (s : SettlesDeletion f w k) → Law f w shelf → s.t.term ≡ w.term → TidyRoot f (HeldIn f w) w.root → DoomsExactly f w k s
+exact f w shelf k s l present tidy = record {
+  all = λ name of_safe unreached. elim of_safe [
+    | inl reached ↦ dooms_all f w shelf l k s present tidy name reached unreached
+    | inr h ↦ subst (Has (dooms f s.t)) (sym h.1) (dooms_root f w shelf l k s present h.0 h.2)
+  ];
+  was = was_reached f w shelf l k s present;
+  left = is_left f w shelf l k s present;
+}
+
+pub exact_over : (f : Formats) (size : ℕ) (image : Image) (shelf : List Shelved) (w : World) (log : List Moment) (k : ℕ) → TellsHandedOut f w log → Kept f image shelf → TidyImage f image → Opened f image w → IsLegal f size w log → AreTold log → AreHonest f w log
+    → (s : SettlesDeletion f (world_from f w log) k) → s.t.term ≡ (world_from f w log).term → DoomsExactly f (world_from f w log) k s
+exact_over f size image shelf w log k known kept tidy opened legal told honest s present =
+    let l : Law f w shelf = opening_law f image shelf w kept opened in
+    let last : World = world_from f w log in
+    exact f (world_from f w log) (shelf_after shelf (committed f last.safe w log)) k s (legal_law f size log w shelf known l legal told honest) present (legal_tidy f size log w shelf known l (opened_tidy f image w tidy opened) legal told honest).rooted
+
+settles_delete : {f : Formats} {w : World} {who : ℕ} {reply : Reply} {image : Option Image} → PruneAllows f w who SettlePruned reply image → counts reply ≡ true → (s : SettlesDeletion f w who) × (s.t.term ≡ w.term)
+settles_delete (allowed.SettlingDelete k im s present same) e = (s, present)
+settles_delete (allowed.SettleDeleteStale k im s apart same) e = absurd (true≢false (sym e))
+settles_delete (allowed.SettleDeleteFails k im s present same) e = (s, present)
+
+pub settled_exact : (f : Formats) (size : ℕ) (image : Image) (shelf : List Shelved) (w : World) (before rest : List Moment) (m : Moment) → TellsHandedOut f w (before ++ m ∷ rest) → Kept f image shelf → TidyImage f image → Opened f image w
+    → IsLegal f size w (before ++ m ∷ rest) → AreTold (before ++ m ∷ rest) → AreHonest f w (before ++ m ∷ rest) → m.entry.step ≡ PruneStep SettlePruned → counts m.entry.reply ≡ true
+    → (s : SettlesDeletion f (world_from f w before) m.entry.who) × DoomsExactly f (world_from f w before) m.entry.who s
+settled_exact f size image shelf w before rest m known kept tidy opened legal told honest step counted =
+    let here : World = world_from f w before in
+    let legals = legal_parts f size before (m ∷ rest) w legal in
+    let allows : Allows f size here m.entry.who m.entry.step m.entry.reply m.image = elim legals.1.0.answered [
+      | inl alive ↦ alive.1
+      | inr dead ↦ absurd (true≢false (sym counted ∙ ap counts dead.refused))
+    ] in
+    let (s, present) = settles_delete (allows_pruned (subst (λ x. Allows f size (world_from f w before) m.entry.who x m.entry.reply m.image) step allows)) counted in
+    (s, exact_over f size image shelf w before m.entry.who (known_parts f before (m ∷ rest) w known).0 kept tidy opened legals.0 (told_parts before (m ∷ rest) told).0 (honest_parts f before (m ∷ rest) w honest).0 s present)

@@ -1,0 +1,5 @@
+use Rattle.esr_core.proofs.DoomsAll.{dooms_all, dooms_root}
+use Rattle.esr_core.proofs.a_delete_dooms_all_that_it_leaves.Goals as goal
+
+pub returns : goal.returns
+returns c = record { reached = λ f w shelf k s l present tidy. dooms_all f w shelf l k s present tidy; root = λ f w shelf k s l present. dooms_root f w shelf l k s present }

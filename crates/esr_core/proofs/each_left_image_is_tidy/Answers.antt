@@ -1,0 +1,5 @@
+use Rattle.esr_core.proofs.TidyHistories.{left_tidy_image}
+use Rattle.esr_core.proofs.each_left_image_is_tidy.Goals as goal
+
+pub returns : goal.returns
+returns c = λ f size shelf w log i known l tidy back legal told honest left. left_tidy_image f size log w shelf i known l tidy back legal told honest left

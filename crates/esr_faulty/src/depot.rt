@@ -1,0 +1,326 @@
+//! A container of which a call fails, or each from one on.
+ghost use Rattle.std.specs.Prelude.{◌≡◌, ◌≤◌};
+ghost use Rattle.esr_depot.specs.Calls.{up};
+ghost use Rattle.esr_depot.specs.Untold.{untold};
+
+use crate::faults::{Fault, Kind, Turn};
+use crate::pieces::{FaultyFetch, FaultyStage};
+use esr_depot::{CallError, Commit, Counted, Depot, Failed, Listing, Names};
+use esr_seq::{Bytes, Text};
+use std::alloc::Global;
+
+/// A container that makes the calls of another one, but for that of the fault and, where it is stopped, the later ones. A swap to
+/// the text `last` stops it; with no text none does.
+#[derive(Drop)]
+pub struct Faulty<D> {
+    pub depot: D,
+    alloc: Global,
+    fault: Fault,
+    last: Text,
+    /// Whether the call of the fault, or the swap to `last`, was reached.
+    pub was_hit: bool,
+    is_stopped: bool,
+    clock: u64,
+    faults: u64,
+}
+
+impl<D> Faulty<D> {
+    /// A container of which no call was made yet.
+    pub fn new(alloc: Global, depot: D, fault: Fault, last: Text) -> Faulty<D> {
+        Faulty {
+            depot,
+            alloc,
+            fault,
+            last,
+            was_hit: false,
+            is_stopped: false,
+            clock: 0,
+            faults: 0,
+        }
+    }
+
+    /// A call answers.
+    fn pass(&mut self)
+        ensures clock { self.new.clock ≡ up self.old.clock }
+        ensures later { self.old.clock ≤ self.new.clock }
+        ensures faults { self.new.faults ≡ self.old.faults }
+    {
+        self.clock = self.clock.saturating_add(1);
+    }
+
+    /// A call fails.
+    fn fail(&mut self)
+        ensures clock { self.new.clock ≡ up self.old.clock }
+        ensures later { self.old.clock ≤ self.new.clock }
+        ensures faults { self.new.faults ≡ up self.old.faults }
+        ensures more { self.old.faults ≤ self.new.faults }
+    {
+        self.pass();
+        self.faults = self.faults.saturating_add(1);
+    }
+
+    /// How the next call goes, which is of that kind.
+    fn next_turn(&mut self, kind: Kind) -> Turn
+        ensures clock { self.new.clock ≡ self.old.clock }
+        ensures faults { self.new.faults ≡ self.old.faults }
+    {
+        if self.is_stopped {
+            return Turn::Unmade;
+        }
+        if self.fault.nth == 0 || !self.fault.kind.has(kind) {
+            return Turn::Made;
+        }
+        self.fault.nth -= 1;
+        if self.fault.nth > 0 {
+            return Turn::Made;
+        }
+        self.was_hit = true;
+        self.is_stopped = self.fault.stops;
+        self.fault.turn
+    }
+
+    /// Whether the next call, which is of that kind, is made.
+    fn is_made(&mut self, kind: Kind) -> bool
+        ensures clock { self.new.clock ≡ self.old.clock }
+        ensures faults { self.new.faults ≡ self.old.faults }
+    {
+        self.next_turn(kind) == Turn::Made
+    }
+
+    /// Stops it where that is the last text.
+    fn note(&mut self, text: &[u8])
+        ensures clock { self.new.clock ≡ self.old.clock }
+        ensures faults { self.new.faults ≡ self.old.faults }
+    {
+        if !self.is_stopped && !text.is_empty() && self.last.as_str().as_bytes() == text {
+            self.was_hit = true;
+            self.is_stopped = true;
+        }
+    }
+}
+
+/// Takes the blob of that name away.
+fn remove_one<D: Depot>(alloc: Global, depot: &mut D, name: &str) -> Result<(), CallError> {
+    let mut names = Names::new(alloc);
+    names.push(Text::from_str(alloc, name)?)?;
+    depot.remove(&names)?;
+    Ok(())
+}
+
+/// Takes the blobs of the first so many names away.
+fn remove_first<D: Depot>(alloc: Global, depot: &mut D, names: &Names, count: u64) {
+    for name in names.as_slice().iter().take(count as usize) {
+        let _ = remove_one(alloc, depot, name.as_str());
+    }
+}
+
+impl<D: Counted> Counted for Faulty<D> {
+    ghost faults = { λ d. d.faults };
+
+    fn fault_count(&self) -> u64 {
+        self.faults
+    }
+}
+
+#[tactic(auto, using(esr_depot::specs::Untold::untold_called))]
+impl<D: Depot> Depot for Faulty<D> {
+    type Stage = FaultyStage<D::Stage>;
+
+    type Fetch = FaultyFetch<D::Fetch>;
+
+    ghost look = { λ d. untold d.clock };
+
+    ghost counts_now = { λ d t i le is. absurd Prim.cc };
+
+    ghost only_now = { λ d i left. absurd left };
+
+    fn begin(
+        &mut self,
+        alloc: Global,
+        name: &str,
+        room: usize,
+    ) -> Result<FaultyStage<D::Stage>, CallError> {
+        let turn = self.next_turn(Kind::Begin);
+        if turn != Turn::Made && turn != Turn::Broken {
+            self.fail();
+            return Err(CallError::Failed);
+        }
+        match self.depot.begin(alloc, name, room) {
+            Ok(stage) => {
+                self.pass();
+                Ok(FaultyStage {
+                    stage,
+                    is_broken: turn == Turn::Broken,
+                    faults: 0,
+                })
+            }
+            Err(CallError::Memory) => Err(CallError::Memory),
+            Err(CallError::Failed) => {
+                self.fail();
+                Err(CallError::Failed)
+            }
+        }
+    }
+
+    fn commit(&mut self, alloc: Global, stage: FaultyStage<D::Stage>) -> Result<Commit, CallError> {
+        let turn = self.next_turn(Kind::Commit);
+        if turn != Turn::Made && turn != Turn::Lost {
+            self.fail();
+            return Err(CallError::Failed);
+        }
+        match self.depot.commit(alloc, stage.stage) {
+            Ok(answer) => {
+                if turn == Turn::Lost {
+                    self.fail();
+                    return Err(CallError::Failed);
+                }
+                self.pass();
+                Ok(answer)
+            }
+            Err(CallError::Memory) => Err(CallError::Memory),
+            Err(CallError::Failed) => {
+                self.fail();
+                Err(CallError::Failed)
+            }
+        }
+    }
+
+    fn replace(&mut self, alloc: Global, stage: FaultyStage<D::Stage>) -> Result<(), CallError> {
+        let turn = self.next_turn(Kind::Replace);
+        if turn != Turn::Made && turn != Turn::Lost {
+            self.fail();
+            return Err(CallError::Failed);
+        }
+        match self.depot.replace(alloc, stage.stage) {
+            Ok(()) => {
+                if turn == Turn::Lost {
+                    self.fail();
+                    return Err(CallError::Failed);
+                }
+                self.pass();
+                Ok(())
+            }
+            Err(CallError::Memory) => Err(CallError::Memory),
+            Err(CallError::Failed) => {
+                self.fail();
+                Err(CallError::Failed)
+            }
+        }
+    }
+
+    fn fetch(
+        &mut self,
+        alloc: Global,
+        name: &str,
+    ) -> Result<Option<FaultyFetch<D::Fetch>>, CallError> {
+        let turn = self.next_turn(Kind::Fetch);
+        if turn != Turn::Made && turn != Turn::Broken {
+            self.fail();
+            return Err(CallError::Failed);
+        }
+        match self.depot.fetch(alloc, name) {
+            Ok(Some(fetch)) => {
+                self.pass();
+                Ok(Some(FaultyFetch {
+                    fetch,
+                    is_broken: turn == Turn::Broken,
+                    faults: 0,
+                }))
+            }
+            Ok(None) => {
+                self.pass();
+                Ok(None)
+            }
+            Err(CallError::Memory) => Err(CallError::Memory),
+            Err(CallError::Failed) => {
+                self.fail();
+                Err(CallError::Failed)
+            }
+        }
+    }
+
+    fn list(&mut self, alloc: Global) -> Result<Listing, CallError> {
+        if !self.is_made(Kind::List) {
+            self.fail();
+            return Err(CallError::Failed);
+        }
+        match self.depot.list(alloc) {
+            Ok(listing) => {
+                self.pass();
+                Ok(listing)
+            }
+            Err(CallError::Memory) => Err(CallError::Memory),
+            Err(CallError::Failed) => {
+                self.fail();
+                Err(CallError::Failed)
+            }
+        }
+    }
+
+    fn remove(&mut self, names: &Names) -> Result<(), Failed> {
+        let turn = self.next_turn(Kind::Remove);
+        if let Turn::First(count) = turn {
+            remove_first(self.alloc, &mut self.depot, names, count);
+        }
+        if turn != Turn::Made && turn != Turn::Lost {
+            self.fail();
+            return Err(Failed);
+        }
+        match self.depot.remove(names) {
+            Ok(()) => {
+                if turn == Turn::Lost {
+                    self.fail();
+                    return Err(Failed);
+                }
+                self.pass();
+                Ok(())
+            }
+            Err(Failed) => {
+                self.fail();
+                Err(Failed)
+            }
+        }
+    }
+
+    fn read_record(&mut self, alloc: Global) -> Result<Option<Bytes>, CallError> {
+        if !self.is_made(Kind::ReadRecord) {
+            self.fail();
+            return Err(CallError::Failed);
+        }
+        match self.depot.read_record(alloc) {
+            Ok(text) => {
+                self.pass();
+                Ok(text)
+            }
+            Err(CallError::Memory) => Err(CallError::Memory),
+            Err(CallError::Failed) => {
+                self.fail();
+                Err(CallError::Failed)
+            }
+        }
+    }
+
+    fn swap_record(&mut self, alloc: Global, text: &[u8]) -> Result<(), CallError> {
+        self.note(text);
+        let turn = self.next_turn(Kind::SwapRecord);
+        if turn != Turn::Made && turn != Turn::Lost {
+            self.fail();
+            return Err(CallError::Failed);
+        }
+        match self.depot.swap_record(alloc, text) {
+            Ok(()) => {
+                if turn == Turn::Lost {
+                    self.fail();
+                    return Err(CallError::Failed);
+                }
+                self.pass();
+                Ok(())
+            }
+            Err(CallError::Memory) => Err(CallError::Memory),
+            Err(CallError::Failed) => {
+                self.fail();
+                Err(CallError::Failed)
+            }
+        }
+    }
+}

@@ -1,0 +1,55 @@
+-- What the images of a history ask of the sources and of digests, and where.
+use Rattle.std.specs.Prelude.{◌≡◌, ◌≢◌, ℕ, Bool, true, List, [], ◌∷◌, Option, Some, None}
+use Rattle.std.specs.Ordering.{nat_cmp}
+use Rattle.std.specs.FinMap.{FinMap}
+use Rattle.std.specs.FinMap as fin
+use Rattle.esr_model.specs.Values.{Bytes, Has, Formats}
+use Rattle.esr_model.specs.Image.{Image}
+use Rattle.esr_core.specs.World.{World, Op, Ticket, Shard}
+use Rattle.esr_core.specs.Entry.{AskedIndex, Snapshot, Step, AskStep, Moment}
+use Rattle.esr_core.specs.After.{after}
+use Rattle.esr_core.specs.Allowed.{IsWhole}
+use Rattle.esr_core.specs.History.{IsHonest, AreHonest}
+use Rattle.esr_core.specs.Left.{safe_in}
+
+-- a ticket is out for a shard whose files come from a source
+pub record HasUpload (w : World) : Type 0 where
+  pub number : ℕ
+  pub ticket : Ticket
+  pub index : ℕ
+  pub shard : ℕ
+  pub there : fin.get w.tickets number ≡ Some ticket
+  pub out : ticket.out ≡ true
+  pub work : ticket.work ≡ Shard index shard
+  pub uploads : ticket.source ≡ None
+
+-- digests are honest in each world from which a step is made while such a ticket is out
+abbrev pub HonestUploads : Formats → World → List Moment → Type 0
+HonestUploads f w [] = Unit {0}
+HonestUploads f w (m ∷ log) = (HasUpload w → IsHonest f w.blobs) × HonestUploads f (after f w m) log
+
+-- so it is where they are honest in each world
+pub honest_uploads : (f : Formats) (w : World) (log : List Moment) → AreHonest f w log → HonestUploads f w log
+honest_uploads f w [] honest = tt
+honest_uploads f w (m ∷ log) honest = (λ upload. honest.0, honest_uploads f (after f w m) log honest.1)
+
+-- it asks for no snapshot
+abbrev pub AsksNoSnapshot : Step → Type 0
+AsksNoSnapshot step = (name : Bytes) (indices : List AskedIndex) (moment : ℕ) → step ≢ AskStep (Snapshot name indices moment)
+
+-- no step of the caller does
+abbrev pub AskNoSnapshot : List Moment → Type 0
+AskNoSnapshot log = (m : Moment) → Has log m → m.entry.who ≡ 0 → AsksNoSnapshot m.entry.step
+
+-- each of these ops copies a snapshot
+abbrev pub AreClones : FinMap nat_cmp Op → Type 0
+AreClones ops = (o : ℕ) (op : Op) → fin.get ops o ≡ Some op → op.source ≡ None → ⊥
+
+-- The safe root of the image is whole by its digests: it is there with all that it reaches, no two of these blobs disagree, and the
+-- parts of each file have the length and the digest that its entry states.
+abbrev pub IsWholeByDigests : Formats → Image → Type 0
+IsWholeByDigests f i = IsWhole f i.blobs (safe_in f i)
+
+-- the same texts and digests, of sources that tell these files
+abbrev pub retold : Formats → (Bytes → Bytes → ℕ → Bool) → (Bytes → Bytes → ℕ → Option (List (Bytes × Bytes))) → Formats
+retold f known told = record f { known = known; told = told }

@@ -1,0 +1,5 @@
+use Rattle.esr_test_lists.proofs.Boards.{ending}
+use Rattle.esr_test_lists.proofs.board.Board.ended.Goals as goal
+
+pub invariant_of-self : goal.invariant_of-self
+invariant_of-self c = ending c.self.invariant c.in_ok-list.list c.args.ticket c.in_ok-list.ensures

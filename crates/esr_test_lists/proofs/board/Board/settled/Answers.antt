@@ -1,0 +1,9 @@
+use Rattle.std.proofs.Common.{Some, option_map, sym, ap, ◌∙◌}
+use Rattle.esr_progress.specs.Plan.{seat_of_code, kind_of_code}
+use Rattle.esr_test_lists.proofs.Boards.{settling, of_finalize}
+use Rattle.esr_test_lists.proofs.board.Board.settled.Goals as goal
+
+pub invariant_of-self : goal.invariant_of-self
+invariant_of-self c =
+    settling c.self.invariant c.in_ok-list.list c.args.ticket (seat_of_code c.in-Some.seat) c.in-Some-raised._generation c.in-Some.ensures c.in-Some-raised.is
+    (of_finalize (kind_of_code c.in-Some.seat.kind) c.is_unfinal.result c.is_unfinal.ensures c.if-is_unfinal.false) c.in_ok-list.ensures

@@ -1,0 +1,5 @@
+use Rattle.esr_test_lists.proofs.Boards.{failed}
+use Rattle.esr_test_lists.proofs.board.Board.unit_failed.Goals as goal
+
+pub invariant_of-self : goal.invariant_of-self
+invariant_of-self c = failed c.self.invariant c.in_ok-list.list c.args.ticket c.in_ok-list.ensures

@@ -1,0 +1,245 @@
+//! Where a scene is played: in memory, or in folders of the folder that the program runs in.
+use crate::errors::Trouble;
+use crate::setting::{Job, Mishaps, failing_at, plan_of, run_on, source_line, sources_of};
+use crate::shown::{Shown, Shows, push_restored, shown_by};
+use esr_dirdepot::DirDepot;
+use esr_dirsource::{DirShard, DirSources, DirTarget, DirTargets};
+use esr_faulty::Faulty;
+use esr_memdepot::{Leaves, MemDepot};
+use esr_run::Ended;
+use esr_seq::Seq;
+use esr_source::{Call, MemOut, MemShard, MemTarget, MemTargets, Shard, Sources};
+use std::alloc::{AllocError, Global};
+use std::fs;
+use std::sync::Wait;
+
+/// The folder of the container.
+pub const REPO: &str = "played";
+
+/// Where a scene is played.
+#[derive(Drop)]
+pub enum Ground<'a> {
+    /// A container, sources and targets in memory.
+    Memory { depot: MemDepot },
+    /// All of them in folders, of which `made` has the names of those that this scene makes, a line each.
+    Folders { rt: &'a HostRuntime, made: String },
+}
+
+/// An empty place in memory.
+pub fn in_memory<'a>(alloc: Global) -> Ground<'a> {
+    Ground::Memory {
+        depot: MemDepot::new(alloc, Seq::new(alloc)),
+    }
+}
+
+/// An empty place in folders.
+pub fn in_folders(rt: &HostRuntime) -> Result<Ground<'_>, Trouble> {
+    let mut made = String::new(rt.alloc());
+    claim(rt, &mut made, REPO)?;
+    Ok(Ground::Folders { rt, made })
+}
+
+/// Whether a text has that line.
+pub fn has_line(text: &str, line: &str) -> bool {
+    for other in text.lines() {
+        if other == line {
+            return true;
+        }
+    }
+    false
+}
+
+/// Takes the name of a folder for this scene, unless it has it. One that was there before is left alone.
+fn claim(rt: &HostRuntime, made: &mut String, place: &str) -> Result<(), Trouble> {
+    if has_line(made.as_str(), place) {
+        return Ok(());
+    }
+    if fs::exists(rt, place)? {
+        return Err(Trouble("a folder of that name was there before"));
+    }
+    made.push_str(place)?;
+    made.push_str("\n")?;
+    Ok(())
+}
+
+/// Removes the folders that this scene made.
+pub fn clear(ground: &Ground) {
+    if let Ground::Folders { rt, made } = ground {
+        for place in made.as_str().lines() {
+            let _ = fs::remove_dir_all(*rt, place);
+        }
+    }
+}
+
+/// Makes the folder of a source, with its files.
+fn make_source(rt: &HostRuntime, made: &mut String, line: &str) -> Result<(), Trouble> {
+    let told = source_line(line);
+    claim(rt, made, told.place)?;
+    let folder = format!(in rt.alloc(); "{}/{}", told.place, told.shard)?;
+    fs::create_dir_all(rt, folder.as_str())?;
+    for file in told.files.split_whitespace() {
+        let (name, text) = file.split_once('=').unwrap_or((file, ""));
+        let path = format!(in rt.alloc(); "{}/{name}", folder.as_str())?;
+        fs::write(rt, path.as_str(), text)?;
+    }
+    Ok(())
+}
+
+/// Adds a source where it isn't in memory. Those in memory are made with each run.
+pub fn add_source(ground: &mut Ground, line: &str) -> Result<(), Trouble> {
+    match ground {
+        Ground::Memory { .. } => Ok(()),
+        Ground::Folders { rt, made } => make_source(*rt, made, line),
+    }
+}
+
+/// What a run in memory leaves.
+type LeftInMemory = Ended<Faulty<MemDepot>, MemShard, MemTarget>;
+
+/// What a run in memory shows.
+fn shown_in_memory(alloc: Global, report: &[u8], left: &LeftInMemory) -> Result<Shown, AllocError> {
+    let mut shown = shown_by(alloc, report, left)?;
+    for restored in left.targets.as_slice() {
+        push_restored(&mut shown.text, restored)?;
+        restored.target.push_files(&mut shown.text)?;
+        shown.text.push_str("\n")?;
+    }
+    write!(shown.text, "exit {}\n", left.status)?;
+    Ok(shown)
+}
+
+/// The output of a run.
+fn output_of(alloc: Global, mishaps: &Mishaps) -> Result<MemOut, AllocError> {
+    MemOut::new(
+        alloc,
+        mishaps.room,
+        plan_of(alloc, Call::Write, mishaps.write)?,
+    )
+}
+
+/// A run in memory, and what it shows.
+fn run_in_memory(
+    waits: &impl Wait,
+    alloc: Global,
+    depot: &mut MemDepot,
+    job: &Job,
+) -> Result<Shown, AllocError> {
+    let sources = sources_of(alloc, job.sources, job.mishaps.source)?;
+    let targets = MemTargets::new(failing_at(alloc, "out", job.mishaps.target)?);
+    let mut out = output_of(alloc, &job.mishaps)?;
+    let copy = depot.cut(alloc, u64::MAX, Leaves::Old)?;
+    let left = run_on(waits, alloc, job, copy, &sources, &targets, &mut out)?;
+    let shown = shown_in_memory(alloc, out.as_slice(), &left);
+    *depot = left.depot.depot;
+    shown
+}
+
+/// The line of that number of what a run is asked.
+fn asked_line<'a>(job: &Job<'a>, number: u32) -> &'a str {
+    if !job.words.ends_with("run") {
+        return job.words;
+    }
+    for (place, line) in job.script.lines().enumerate() {
+        if (place as u64).saturating_add(1) == number as u64 {
+            return line;
+        }
+    }
+    ""
+}
+
+/// The last word of a line, which is the place of a line that restores.
+fn last_word(line: &str) -> &str {
+    match line.rsplit_once(' ') {
+        Some((_, word)) => word,
+        None => line,
+    }
+}
+
+/// Takes the names of the folders for this scene into which a run restores.
+fn claim_targets(rt: &HostRuntime, made: &mut String, job: &Job) -> Result<(), Trouble> {
+    for line in job.script.lines() {
+        if line.starts_with("restore ") {
+            claim(rt, made, last_word(line))?;
+        }
+    }
+    if job.words.contains("restore ") {
+        claim(rt, made, last_word(job.words))?;
+    }
+    Ok(())
+}
+
+/// Adds the names and texts of the files in a folder of a place. An absent folder has none.
+fn push_folder(
+    rt: &HostRuntime,
+    text: &mut String,
+    place: &str,
+    number: u32,
+) -> Result<(), Trouble> {
+    let alloc = rt.alloc();
+    let mut shard = DirSources::new(rt).shard(alloc, place, "", number)?;
+    let Ok(files) = shard.list(alloc) else {
+        return Ok(());
+    };
+    for file in files.as_slice() {
+        let name = file.name.as_str();
+        let path = format!(in alloc; "{place}/{number}/{name}")?;
+        let bytes = fs::read_to_string(rt, path.as_str())?;
+        write!(text, " {name}={}", bytes.as_str())?;
+    }
+    Ok(())
+}
+
+/// What a run in folders leaves.
+type LeftInFolders<'a> = Ended<
+    Faulty<DirDepot<'a, HostRuntime>>,
+    DirShard<'a, HostRuntime>,
+    DirTarget<'a, HostRuntime>,
+>;
+
+/// What a run in folders shows.
+fn shown_in_folders(
+    rt: &HostRuntime,
+    job: &Job,
+    report: &[u8],
+    left: &LeftInFolders,
+) -> Result<Shown, Trouble> {
+    let mut shown = shown_by(rt.alloc(), report, left)?;
+    for restored in left.targets.as_slice() {
+        push_restored(&mut shown.text, restored)?;
+        let place = last_word(asked_line(job, restored.line));
+        let folder = format!(in rt.alloc(); "{place}/{}", restored.index.as_str())?;
+        push_folder(rt, &mut shown.text, folder.as_str(), restored.shard)?;
+        shown.text.push_str("\n")?;
+    }
+    write!(shown.text, "exit {}\n", left.status)?;
+    Ok(shown)
+}
+
+/// A run in folders, and what it shows.
+fn run_in_folders(
+    waits: &impl Wait,
+    rt: &HostRuntime,
+    made: &mut String,
+    job: &Job,
+) -> Result<Shown, Trouble> {
+    let alloc = rt.alloc();
+    claim_targets(rt, made, job)?;
+    let mut out = output_of(alloc, &job.mishaps)?;
+    let depot = DirDepot::new(rt, alloc, REPO)?;
+    let (sources, targets) = (DirSources::new(rt), DirTargets::new(rt));
+    let left = run_on(waits, alloc, job, depot, &sources, &targets, &mut out)?;
+    shown_in_folders(rt, job, out.as_slice(), &left)
+}
+
+/// A run, and what it shows.
+pub fn run_there(
+    waits: &impl Wait,
+    alloc: Global,
+    ground: &mut Ground,
+    job: &Job,
+) -> Result<Shown, Trouble> {
+    match ground {
+        Ground::Memory { depot } => Ok(run_in_memory(waits, alloc, depot, job)?),
+        Ground::Folders { rt, made } => run_in_folders(waits, *rt, made, job),
+    }
+}

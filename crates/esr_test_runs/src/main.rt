@@ -1,0 +1,50 @@
+//! Plays scenes of whole runs, and says what was found: each argument names a file of scenes.
+#![tactic(auto)]
+
+mod ask;
+mod errors;
+mod faults;
+mod ground;
+mod play;
+mod scene;
+mod setting;
+mod shown;
+mod text;
+
+use crate::errors::Trouble;
+use crate::play::play_file;
+use std::env;
+use std::process::ExitCode;
+use std::sync::Wait;
+
+/// Plays a file, prints what was found, and tells how many scenes failed.
+fn tell_file(rt: &HostRuntime, waits: &impl Wait, path: &str) -> Result<u64, Trouble> {
+    let played = play_file(rt, waits, path)?;
+    print!(rt; "{}", played.complaints.as_str())?;
+    println!(rt;
+        "{path}: {} scenes over memory, {} over folders, {} runs, {} lines held",
+        played.in_memory, played.in_folders, played.runs, played.held
+    )?;
+    Ok(played.failed)
+}
+
+/// Plays each file that an argument names, and tells how many scenes failed.
+fn tell_all(rt: &HostRuntime, waits: &impl Wait) -> Result<u64, Trouble> {
+    let mut failed = 0u64;
+    for path in env::args(rt)?.skip(1) {
+        failed = failed.saturating_add(tell_file(rt, waits, path.as_str())?);
+    }
+    println!(rt; "{failed} scenes failed")?;
+    Ok(failed)
+}
+
+fn main(rt: HostRuntime) -> ExitCode {
+    match tell_all(&rt, &rt) {
+        Ok(0) => ExitCode::SUCCESS,
+        Ok(_) => ExitCode::FAILURE,
+        Err(Trouble(why)) => {
+            let _ = eprintln!(rt; "{why}");
+            ExitCode::FAILURE
+        }
+    }
+}

@@ -1,0 +1,275 @@
+//! The scenes of a file, each of them over memory and over folders, with each of its rows and rounds.
+use crate::errors::Trouble;
+use crate::faults::{Way, way_of};
+use crate::ground::{clear, in_folders, in_memory};
+use crate::scene::{Scene, begun};
+use crate::text::line_behind;
+use std::fs;
+use std::sync::Wait;
+
+/// More rounds than a scene has.
+const ROUNDS: u64 = 10_000;
+
+/// The lines of a scene, and those that stand before each scene of its file, each with the number of the first one.
+#[derive(Clone, Copy)]
+struct Lines<'a> {
+    title: &'a str,
+    front: &'a str,
+    front_at: u64,
+    text: &'a str,
+    at: u64,
+}
+
+/// What was played of a file.
+#[derive(Drop)]
+pub struct Played {
+    pub in_memory: u64,
+    pub in_folders: u64,
+    pub runs: u64,
+    pub held: u64,
+    pub failed: u64,
+    /// The differences that were found.
+    pub complaints: String,
+}
+
+/// Over what a scene is played, with which row, and in which way, by its name too.
+#[derive(Clone, Copy)]
+struct Turn<'a> {
+    rt: &'a HostRuntime,
+    is_memory: bool,
+    row: &'a str,
+    way: Way,
+    name: &'a str,
+}
+
+/// How a scene has gone in one round or more.
+#[derive(Clone, Copy)]
+struct Went {
+    was_hit: bool,
+    fails: bool,
+    met: u64,
+    blocks: u64,
+}
+
+/// Plays these lines, the first of which has that number.
+fn play_lines(
+    waits: &impl Wait,
+    scene: &mut Scene,
+    text: &str,
+    at: u64,
+    row: &str,
+) -> Result<(), Trouble> {
+    for (place, line) in text.lines().enumerate() {
+        if scene.is_over || !scene.complaint.is_empty() {
+            return Ok(());
+        }
+        scene.number = at.saturating_add(place as u64);
+        let line = line.replace(scene.alloc, "<row>", row)?;
+        if let Err(Trouble(why)) = scene.step(waits, line.as_str()) {
+            scene.complain("a line that can be played", why)?;
+        }
+    }
+    Ok(())
+}
+
+/// Adds what a round came to, and tells how it went.
+fn note(played: &mut Played, lines: &Lines, turn: &Turn, scene: &Scene) -> Result<Went, Trouble> {
+    played.runs = played.runs.saturating_add(scene.runs);
+    played.held = played.held.saturating_add(scene.held);
+    let fails = !scene.complaint.is_empty();
+    if fails {
+        let place = if turn.is_memory { "memory" } else { "folders" };
+        let (title, row, way, nth) = (lines.title, turn.row, turn.name, scene.nth);
+        let complaint = scene.complaint.as_str();
+        write!(
+            played.complaints,
+            "FAILED over {place}: {title}\n{way} {nth} {row}\n{complaint}"
+        )?;
+    }
+    Ok(Went {
+        was_hit: scene.was_hit,
+        fails,
+        met: scene.met,
+        blocks: scene.block.saturating_sub(1),
+    })
+}
+
+/// Plays the lines that stand before a scene, and its own.
+fn play_whole(
+    waits: &impl Wait,
+    scene: &mut Scene,
+    lines: &Lines,
+    row: &str,
+) -> Result<(), Trouble> {
+    play_lines(waits, scene, lines.front, lines.front_at, row)?;
+    play_lines(waits, scene, lines.text, lines.at, row)?;
+    if !scene.is_over && scene.complaint.is_empty() {
+        scene.end_shown()?;
+    }
+    Ok(())
+}
+
+/// Plays a round of a scene.
+fn play_round(
+    waits: &impl Wait,
+    played: &mut Played,
+    lines: &Lines,
+    turn: &Turn,
+    nth: u64,
+) -> Result<Went, Trouble> {
+    let ground = if turn.is_memory {
+        in_memory(turn.rt.alloc())
+    } else {
+        in_folders(turn.rt)?
+    };
+    let mut scene = begun(turn.rt.alloc(), ground, turn.way, nth);
+    let ended = play_whole(waits, &mut scene, lines, turn.row);
+    clear(&scene.ground);
+    match ended {
+        Ok(()) => note(played, lines, turn, &scene),
+        Err(trouble) => Err(trouble),
+    }
+}
+
+/// Plays the rounds of a scene in one way, up to the first in which nothing goes wrong.
+fn play_rounds(
+    waits: &impl Wait,
+    played: &mut Played,
+    lines: &Lines,
+    turn: &Turn,
+) -> Result<Went, Trouble> {
+    let mut met = 0;
+    for nth in 1..ROUNDS {
+        let went = play_round(waits, played, lines, turn, nth)?;
+        met |= went.met;
+        if went.fails || !went.was_hit {
+            return Ok(Went { met, ..went });
+        }
+    }
+    Err(Trouble("a scene has no last round"))
+}
+
+/// Plays a scene with a row in each of its ways, and tells whether it fails.
+fn play_ways(
+    waits: &impl Wait,
+    played: &mut Played,
+    lines: &Lines,
+    turn: &Turn,
+) -> Result<bool, Trouble> {
+    let Some(names) = line_behind(lines.text, "each ") else {
+        let went = play_round(waits, played, lines, turn, 0)?;
+        return Ok(went.fails);
+    };
+    let mut met = 0;
+    let mut blocks = 0;
+    for name in names.split_whitespace() {
+        let way = way_of(name)?;
+        let went = play_rounds(waits, played, lines, &Turn { way, name, ..*turn })?;
+        if went.fails {
+            return Ok(true);
+        }
+        met |= went.met;
+        blocks |= went.blocks;
+    }
+    if met == blocks {
+        return Ok(false);
+    }
+    let title = lines.title;
+    write!(
+        played.complaints,
+        "FAILED: {title}\n  wanted: each block is played in a round\n  came:   one is in none\n"
+    )?;
+    Ok(true)
+}
+
+/// Plays a scene with each of its rows, and tells whether it fails.
+fn play_rows(
+    waits: &impl Wait,
+    played: &mut Played,
+    lines: &Lines,
+    turn: &Turn,
+) -> Result<bool, Trouble> {
+    let mut has_rows = false;
+    let mut fails = false;
+    for line in lines.text.lines() {
+        if let Some(row) = line.strip_prefix("row ") {
+            has_rows = true;
+            fails |= play_ways(waits, played, lines, &Turn { row, ..*turn })?;
+        }
+    }
+    if !has_rows {
+        fails = play_ways(waits, played, lines, turn)?;
+    }
+    Ok(fails)
+}
+
+/// Whether a scene holds there. One that doesn't has a line that says over what alone it does.
+fn holds_over(lines: &Lines, place: &str) -> bool {
+    match line_behind(lines.text, "only ") {
+        Some(rest) => rest.starts_with(place),
+        None => true,
+    }
+}
+
+/// Plays a scene over memory and over folders.
+fn play_scene(
+    rt: &HostRuntime,
+    waits: &impl Wait,
+    played: &mut Played,
+    lines: &Lines,
+) -> Result<(), Trouble> {
+    for is_memory in [true, false] {
+        let place = if is_memory { "memory" } else { "folders" };
+        if !holds_over(lines, place) {
+            continue;
+        }
+        let turn = Turn {
+            rt,
+            is_memory,
+            row: "",
+            way: Way::Once,
+            name: "once",
+        };
+        let fails = play_rows(waits, played, lines, &turn)?;
+        played.failed = played.failed.saturating_add(fails as u64);
+        played.in_memory = played.in_memory.saturating_add(is_memory as u64);
+        played.in_folders = played.in_folders.saturating_add(!is_memory as u64);
+    }
+    Ok(())
+}
+
+/// Plays the scenes of a file. They stand apart by empty lines. One whose title is `front` has the lines that stand before each
+/// scene after it, and one whose title begins with `#` is a remark.
+pub fn play_file(rt: &HostRuntime, waits: &impl Wait, path: &str) -> Result<Played, Trouble> {
+    let text = fs::read_to_string(rt, path)?;
+    let mut played = Played {
+        in_memory: 0,
+        in_folders: 0,
+        runs: 0,
+        held: 0,
+        failed: 0,
+        complaints: String::new(rt.alloc()),
+    };
+    let mut at = 1u64;
+    let mut front = String::new(rt.alloc());
+    let mut front_at = 1u64;
+    for scene in text.as_str().split("\n\n") {
+        let (title, text) = scene.split_once('\n').unwrap_or((scene, ""));
+        let below = at.saturating_add(1);
+        if title == "front" {
+            front = String::from_str(rt.alloc(), text)?;
+            front_at = below;
+        } else if !title.starts_with('#') {
+            let lines = Lines {
+                title,
+                front: front.as_str(),
+                front_at,
+                text,
+                at: below,
+            };
+            play_scene(rt, waits, &mut played, &lines)?;
+        }
+        at = below.saturating_add(scene.lines().count() as u64);
+    }
+    Ok(played)
+}

@@ -1,0 +1,375 @@
+//! A scene that is being played, line by line.
+use crate::ask::{answer_there, change_there, file_there, write_file_there};
+use crate::errors::Trouble;
+use crate::faults::{Way, set_mishap, set_round};
+use crate::ground::{Ground, add_source, has_line, run_there};
+use crate::setting::{Job, Mishaps, calm};
+use crate::shown::Shown;
+use crate::text::{front_of, plain};
+use std::alloc::{AllocError, Global};
+use std::sync::Wait;
+
+/// What a scene has come to.
+#[derive(Drop)]
+pub struct Scene<'a> {
+    pub ground: Ground<'a>,
+    pub alloc: Global,
+    /// In which way something goes wrong in this round of it, and the number of the round.
+    pub way: Way,
+    pub nth: u64,
+    /// The lines that tell sources, the script so far, and what goes wrong in the next run.
+    pub sources: String,
+    pub script: String,
+    pub mishaps: Mishaps,
+    /// The text of the record whose swap stops the next run.
+    pub last: String,
+    /// What was shown, and how many bytes of it were compared.
+    pub shown: String,
+    pub at: usize,
+    /// What the last run tells that isn't shown.
+    pub faults: u64,
+    pub told: u64,
+    pub settles: u64,
+    pub misprints: String,
+    /// Whether the next run is the one in which the round lets something go wrong.
+    pub is_armed: bool,
+    /// Whether something went wrong there, what that run showed, and the record after it.
+    pub was_hit: bool,
+    pub hit: String,
+    pub record: String,
+    /// The number of the next block as a power of two, and those that were played.
+    pub block: u64,
+    pub met: u64,
+    /// Whether a block of these was played, and whether the lines belong to another one.
+    pub is_chosen: bool,
+    pub skips: bool,
+    /// Whether the rest of the scene doesn't count.
+    pub is_over: bool,
+    /// The number of the line, how many runs there were, and how many lines held.
+    pub number: u64,
+    pub runs: u64,
+    pub held: u64,
+    /// The first difference that was found.
+    pub complaint: String,
+}
+
+/// A scene at its beginning.
+pub fn begun(alloc: Global, ground: Ground<'_>, way: Way, nth: u64) -> Scene<'_> {
+    Scene {
+        ground,
+        alloc,
+        way,
+        nth,
+        sources: String::new(alloc),
+        script: String::new(alloc),
+        mishaps: calm(),
+        last: String::new(alloc),
+        shown: String::new(alloc),
+        at: 0,
+        faults: 0,
+        told: 0,
+        settles: 0,
+        misprints: String::new(alloc),
+        is_armed: false,
+        was_hit: false,
+        hit: String::new(alloc),
+        record: String::new(alloc),
+        block: 1,
+        met: 0,
+        is_chosen: false,
+        skips: false,
+        is_over: false,
+        number: 0,
+        runs: 0,
+        held: 0,
+        complaint: String::new(alloc),
+    }
+}
+
+impl Scene<'_> {
+    /// What was shown and not compared yet.
+    fn rest(&self) -> &str {
+        match self.shown.as_str().split_at_checked(self.at) {
+            Some((_, rest)) => rest,
+            None => "",
+        }
+    }
+
+    /// The next line of that.
+    fn next_line(&self) -> &str {
+        self.rest().lines().next().unwrap_or("nothing")
+    }
+
+    /// Notes a difference, unless there was one.
+    pub fn complain(&mut self, wanted: &str, came: &str) -> Result<(), AllocError> {
+        if self.complaint.is_empty() {
+            let number = self.number;
+            write!(
+                self.complaint,
+                "line {number}\n  wanted: {wanted}\n  came:   {came}\n"
+            )?;
+        }
+        Ok(())
+    }
+
+    /// Notes that a line holds, or what came in its place.
+    fn judge(&mut self, holds: bool, wanted: &str, came: &str) -> Result<(), AllocError> {
+        if holds {
+            self.held = self.held.saturating_add(1);
+            return Ok(());
+        }
+        self.complain(wanted, came)
+    }
+
+    /// Notes a difference where more was shown than was compared.
+    pub fn end_shown(&mut self) -> Result<(), AllocError> {
+        if self.rest().is_empty() {
+            return Ok(());
+        }
+        let came = String::from_str(self.alloc, self.next_line())?;
+        self.complain("nothing more", came.as_str())
+    }
+
+    /// How many bytes of a line of the report the output took, in a round that leaves too little room.
+    fn length_taken(&self, line: &str) -> usize {
+        let whole = line.len().saturating_add(1);
+        if !matches!(self.way, Way::Room) || line.starts_with("exit ") {
+            return whole;
+        }
+        whole.min(self.mishaps.room.saturating_sub(self.at))
+    }
+
+    /// Compares a line with what was shown next.
+    fn want(&mut self, line: &str) -> Result<(), AllocError> {
+        let whole = format!(in self.alloc; "{line}\n")?;
+        let wanted = front_of(whole.as_str(), self.length_taken(line));
+        let came = String::from_str(self.alloc, self.next_line())?;
+        let holds = self.rest().starts_with(wanted);
+        self.at = self.at.saturating_add(wanted.len());
+        self.judge(holds, line, came.as_str())
+    }
+
+    /// Goes past so many lines of what was shown.
+    fn pass_lines(&mut self, count: u64) -> Result<(), AllocError> {
+        for _ in 0..count {
+            let Some((line, _)) = self.rest().split_once('\n') else {
+                return self.complain("more lines", "nothing");
+            };
+            let length = line.len().saturating_add(1);
+            self.at = self.at.saturating_add(length);
+        }
+        self.judge(true, "", "")
+    }
+
+    /// Whether the run in which something went wrong showed one of these lines.
+    fn want_told(&mut self, lines: &str) -> Result<(), AllocError> {
+        let hit = self.hit.as_str();
+        let mut holds = false;
+        for line in lines.split(" | ") {
+            holds = holds || has_line(hit, line);
+        }
+        let came = String::from_str(self.alloc, hit)?;
+        self.judge(holds, lines, came.as_str())
+    }
+
+    /// Whether the run in which something went wrong showed no line that begins so.
+    fn want_untold(&mut self, front: &str) -> Result<(), AllocError> {
+        let mut holds = true;
+        for line in self.hit.as_str().lines() {
+            holds = holds && !line.starts_with(front);
+        }
+        let came = String::from_str(self.alloc, self.hit.as_str())?;
+        self.judge(holds, "no such line", came.as_str())
+    }
+
+    /// Begins a block, which counts where the record has this piece and no block before it did.
+    fn choose(&mut self, piece: &str) {
+        self.skips = self.is_chosen || !self.record.as_str().contains(piece);
+        if !self.skips {
+            self.is_chosen = true;
+            self.met |= self.block;
+        }
+        self.block = self.block.saturating_mul(2);
+    }
+
+    /// Adds a text to the script so many times, each with its number from 0 on and with that end.
+    fn write_times(&mut self, text: &str, end: &str, count: u64) -> Result<(), AllocError> {
+        for number in 0..count {
+            let number = format!(in self.alloc; "{number}")?;
+            let text = text.replace(self.alloc, "<n>", number.as_str())?;
+            self.script.push_str(text.as_str())?;
+            self.script.push_str(end)?;
+        }
+        Ok(())
+    }
+
+    /// Adds to the script: a line, a last text, or one of them so many times.
+    fn write(&mut self, mark: &str, rest: &str) -> Result<(), Trouble> {
+        let (count, repeated) = match mark {
+            "*" | "+" => rest.split_once(' ').unwrap_or((rest, "")),
+            _ => ("1", rest),
+        };
+        let end = match mark {
+            ">" | "*" => "\n",
+            _ => "",
+        };
+        let count = count.parse::<u64>()?;
+        let text = plain(self.alloc, repeated)?;
+        Ok(self.write_times(text.as_str(), end, count)?)
+    }
+
+    /// Adds a source.
+    fn add_source(&mut self, line: &str) -> Result<(), Trouble> {
+        self.sources.push_str(line)?;
+        self.sources.push_str("\n")?;
+        add_source(&mut self.ground, line)
+    }
+
+    /// Runs the script by these words.
+    fn run_words(&mut self, waits: &impl Wait, words: &str) -> Result<Shown, Trouble> {
+        if self.is_armed {
+            set_round(&mut self.mishaps, self.way, self.nth);
+        }
+        let job = Job {
+            words,
+            script: self.script.as_str(),
+            sources: self.sources.as_str(),
+            mishaps: self.mishaps,
+            last: self.last.as_str(),
+        };
+        let shown = run_there(waits, self.alloc, &mut self.ground, &job)?;
+        self.runs = self.runs.saturating_add(1);
+        self.script.clear();
+        self.last.clear();
+        Ok(shown)
+    }
+
+    /// Keeps what a run in which the round lets something go wrong showed. One that had room for all ends the scene.
+    fn keep_hit(&mut self, mut text: String, was_hit: bool) -> Result<(), Trouble> {
+        if matches!(self.way, Way::Room) {
+            self.was_hit = text.as_str().ends_with("exit 5\n");
+            self.is_over = !self.was_hit;
+            self.shown = text;
+            return Ok(());
+        }
+        self.was_hit = was_hit;
+        write!(text, "settles {}\n", self.settles)?;
+        self.record = answer_there(self.alloc, &mut self.ground, "record", "")?;
+        self.hit = text;
+        Ok(())
+    }
+
+    /// Keeps what a run tells, and what it showed: to be compared, or unseen of a run that is to be stopped.
+    fn keep(&mut self, mark: &str, shown: Shown) -> Result<(), Trouble> {
+        self.faults = shown.faults;
+        self.told = shown.told;
+        self.settles = shown.settles;
+        self.misprints = shown.misprints;
+        let was_hit = shown.was_hit;
+        let text = shown.text;
+        self.shown.clear();
+        self.at = 0;
+        if self.is_armed {
+            return self.keep_hit(text, was_hit);
+        }
+        if mark == "~" {
+            self.judge(was_hit, "a run that is stopped", text.as_str())?;
+            return Ok(());
+        }
+        self.shown = text;
+        Ok(())
+    }
+
+    /// Runs, and lets nothing go wrong in the next run. A run that tells more failures of the container than it had is a difference.
+    fn run(&mut self, waits: &impl Wait, mark: &str, words: &str) -> Result<(), Trouble> {
+        self.end_shown()?;
+        let words = plain(self.alloc, words)?;
+        let shown = self.run_words(waits, words.as_str())?;
+        self.keep(mark, shown)?;
+        if self.told > self.faults {
+            self.complain("no more failures than the container had", "more")?;
+        }
+        self.is_armed = false;
+        let room = self.mishaps.room;
+        self.mishaps = calm();
+        self.mishaps.room = room;
+        Ok(())
+    }
+
+    /// Changes the container, or what goes wrong in the next run.
+    fn set(&mut self, line: &str) -> Result<(), Trouble> {
+        let (what, value) = line.split_once(' ').unwrap_or((line, ""));
+        match what {
+            "put" | "remove" | "shorten" | "record" => {
+                change_there(self.alloc, &mut self.ground, what, value)
+            }
+            "file" => write_file_there(self.alloc, &self.ground, value),
+            "stop-at" => {
+                self.last.clear();
+                Ok(self.last.push_str(value)?)
+            }
+            _ => set_mishap(&mut self.mishaps, what, value),
+        }
+    }
+
+    /// The answer to a question of the last run, or of the container there.
+    fn answer(&mut self, question: &str) -> Result<String, Trouble> {
+        let (what, name) = question.split_once(' ').unwrap_or((question, ""));
+        match what {
+            "faults" => Ok(format!(in self.alloc; "{}", self.faults)?),
+            "misprints" => Ok(String::from_str(self.alloc, self.misprints.as_str().trim_start())?),
+            "file" => file_there(self.alloc, &self.ground, name),
+            _ => answer_there(self.alloc, &mut self.ground, what, name),
+        }
+    }
+
+    /// Asks for what stands before the `=` of a line, and wants what stands behind it.
+    fn ask(&mut self, line: &str) -> Result<(), Trouble> {
+        let (question, wanted) = line.split_once('=').unwrap_or((line, ""));
+        let answer = self.answer(question)?;
+        let holds = answer.as_str() == wanted;
+        Ok(self.judge(holds, line, answer.as_str())?)
+    }
+
+    /// Plays a line that isn't of a block that doesn't count.
+    fn act(
+        &mut self,
+        waits: &impl Wait,
+        mark: &str,
+        rest: &str,
+        line: &str,
+    ) -> Result<(), Trouble> {
+        match mark {
+            "$" | "~" => return self.run(waits, mark, rest),
+            "!" => return self.set(rest),
+            "?" => return self.ask(rest),
+            "=" => return self.add_source(rest),
+            ">" | "|" | "*" | "+" => return self.write(mark, rest),
+            "each" => self.is_armed = true,
+            "#" | "only" | "row" | "then" => {}
+            ".." => self.pass_lines(rest.parse()?)?,
+            "told" => self.want_told(rest)?,
+            "untold" => self.want_untold(rest)?,
+            _ => self.want(line)?,
+        }
+        Ok(())
+    }
+
+    /// Plays a line.
+    pub fn step(&mut self, waits: &impl Wait, line: &str) -> Result<(), Trouble> {
+        let (mark, rest) = line.split_once(' ').unwrap_or((line, ""));
+        match mark {
+            "when" => {
+                self.choose(rest);
+                Ok(())
+            }
+            "end" => {
+                self.skips = false;
+                self.is_chosen = false;
+                Ok(())
+            }
+            _ if self.skips => Ok(()),
+            _ => self.act(waits, mark, rest, line),
+        }
+    }
+}

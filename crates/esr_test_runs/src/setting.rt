@@ -1,0 +1,169 @@
+//! A run: its words, its script, its sources, and which calls fail.
+use esr_depot::Depot;
+use esr_faulty::{Fault, Faulty, Kind, Turn};
+use esr_run::{Ended, run};
+use esr_script::Words;
+use esr_seq::{Bytes, Seq, Text};
+use esr_source::{
+    Address, Call, Failing, FailingAt, MemFile, MemLines, MemOut, MemSource, MemSources, NoGate,
+    Plan, Sources, Targets,
+};
+use std::alloc::{AllocError, Global};
+use std::sync::Wait;
+
+/// Which call of the container, of the source `src`, of the target of `logs` below `out`, which read of the script and which write
+/// of the output fails, each counted from 1, and how many bytes the output takes.
+#[derive(Clone, Copy)]
+pub struct Mishaps {
+    pub fault: Fault,
+    pub source: Failing,
+    pub target: Failing,
+    pub read: u64,
+    pub write: u64,
+    pub room: usize,
+}
+
+/// What a run is of: its words, the script, the lines that tell its sources, which calls fail, and the text of the record whose swap
+/// stops the container, if there is one.
+#[derive(Clone, Copy)]
+pub struct Job<'a> {
+    pub words: &'a str,
+    pub script: &'a str,
+    pub sources: &'a str,
+    pub mishaps: Mishaps,
+    pub last: &'a str,
+}
+
+/// More bytes than a run prints.
+pub const ROOM: usize = 100_000;
+
+/// No call of the container.
+pub const NO_FAULT: Fault = Fault {
+    kind: Kind::Any,
+    nth: 0,
+    turn: Turn::Made,
+    stops: false,
+};
+
+/// No call of a source or a target.
+const NO_FAILING: Failing = Failing {
+    call: Call::List,
+    nth: 0,
+};
+
+/// No call fails.
+pub fn calm() -> Mishaps {
+    Mishaps {
+        fault: NO_FAULT,
+        source: NO_FAILING,
+        target: NO_FAILING,
+        read: 0,
+        write: 0,
+        room: ROOM,
+    }
+}
+
+/// The plan of that call.
+pub fn plan_of(alloc: Global, call: Call, nth: u64) -> Result<Plan, AllocError> {
+    let mut plan = Seq::new(alloc);
+    plan.push(Failing { call, nth })?;
+    Ok(plan)
+}
+
+/// The plan of that call of the first shard of `logs` at a place.
+pub fn failing_at(
+    alloc: Global,
+    place: &str,
+    failing: Failing,
+) -> Result<Seq<FailingAt>, AllocError> {
+    let Failing { call, nth } = failing;
+    let address = Address::new(alloc, place, "logs", 0)?;
+    let mut plan = Seq::new(alloc);
+    plan.push(FailingAt { address, call, nth })?;
+    Ok(plan)
+}
+
+/// The parts of a line that tells a source: its place, index, shard, and the names and texts of its files.
+#[derive(Clone, Copy)]
+pub struct SourceLine<'a> {
+    pub place: &'a str,
+    pub index: &'a str,
+    pub shard: &'a str,
+    pub files: &'a str,
+}
+
+/// The parts of a line `PLACE INDEX/SHARD NAME=TEXT ..`. The shard is 0 where none is told.
+pub fn source_line(line: &str) -> SourceLine<'_> {
+    let (place, rest) = line.split_once(' ').unwrap_or((line, ""));
+    let (which, files) = rest.split_once(' ').unwrap_or((rest, ""));
+    let (index, shard) = which.split_once('/').unwrap_or((which, "0"));
+    SourceLine {
+        place,
+        index,
+        shard,
+        files,
+    }
+}
+
+/// The files of a shard in memory, from names and texts.
+fn files_of(alloc: Global, texts: &str) -> Result<Seq<MemFile>, AllocError> {
+    let mut files = Seq::new(alloc);
+    for text in texts.split_whitespace() {
+        let (name, bytes) = text.split_once('=').unwrap_or((text, ""));
+        files.push(MemFile::new(alloc, name, bytes.as_bytes())?)?;
+    }
+    Ok(files)
+}
+
+/// The shard in memory of a line.
+fn shard_of(alloc: Global, line: &str) -> Result<MemSource, AllocError> {
+    let told = source_line(line);
+    let files = files_of(alloc, told.files)?;
+    let number = told.shard.parse().unwrap_or(0);
+    let address = Address::new(alloc, told.place, told.index, number)?;
+    Ok(MemSource { address, files })
+}
+
+/// The shards in memory of these lines, of which that call of `src` fails.
+pub fn sources_of(alloc: Global, lines: &str, failing: Failing) -> Result<MemSources, AllocError> {
+    let mut shards = Seq::new(alloc);
+    for line in lines.lines() {
+        shards.push(shard_of(alloc, line)?)?;
+    }
+    let plan = failing_at(alloc, "src", failing)?;
+    Ok(MemSources::new(shards, plan))
+}
+
+/// The words of a line.
+fn words_of(alloc: Global, line: &str) -> Result<Words, AllocError> {
+    let mut words = Seq::new(alloc);
+    for word in line.split_whitespace() {
+        words.push(Text::from_str(alloc, word)?)?;
+    }
+    Ok(words)
+}
+
+/// A container whose calls go as the run's job says.
+fn container_of<D: Drop>(alloc: Global, depot: D, job: &Job) -> Result<Faulty<D>, AllocError> {
+    let last = Text::from_str(alloc, job.last)?;
+    Ok(Faulty::new(alloc, depot, job.mishaps.fault, last))
+}
+
+/// Runs over that container.
+pub fn run_on<D: Depot, S: Sources, T: Targets>(
+    waits: &impl Wait,
+    alloc: Global,
+    job: &Job,
+    depot: D,
+    sources: &S,
+    targets: &T,
+    out: &mut MemOut,
+) -> Result<Ended<Faulty<D>, S::Shard, T::Target>, AllocError> {
+    let words = words_of(alloc, job.words)?;
+    let bytes = Bytes::from_slice(alloc, job.script.as_bytes())?;
+    let mut lines = MemLines::new(bytes, plan_of(alloc, Call::Read, job.mishaps.read)?);
+    let depot = container_of(alloc, depot, job)?;
+    Ok(run(
+        waits, alloc, &words, &mut lines, depot, sources, targets, &NoGate, 0, out,
+    ))
+}

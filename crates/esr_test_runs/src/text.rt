@@ -1,0 +1,38 @@
+//! The texts of scenes.
+use std::alloc::{AllocError, Global};
+
+/// What stands for a byte that isn't to be seen in a scene, and that byte.
+static MARKS: [(&str, &str); 5] = [
+    ("\\t", "\t"),
+    ("\\r", "\r"),
+    ("\\s", " "),
+    ("\\1", "\u{1}"),
+    ("\\d", "\u{7f}"),
+];
+
+/// The text with the bytes that its marks stand for.
+pub fn plain(alloc: Global, text: &str) -> Result<String, AllocError> {
+    let mut plain = String::from_str(alloc, text)?;
+    for (mark, meant) in &MARKS {
+        plain = plain.as_str().replace(alloc, *mark, *meant)?;
+    }
+    Ok(plain)
+}
+
+/// The first so many bytes of a text, or all of a shorter one.
+pub fn front_of(text: &str, length: usize) -> &str {
+    match text.split_at_checked(length) {
+        Some((front, _)) => front,
+        None => text,
+    }
+}
+
+/// What stands behind that front in the first line that begins with it.
+pub fn line_behind<'a>(text: &'a str, front: &str) -> Option<&'a str> {
+    for line in text.lines() {
+        if let Some(rest) = line.strip_prefix(front) {
+            return Some(rest);
+        }
+    }
+    None
+}
